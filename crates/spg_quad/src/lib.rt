@@ -1,0 +1,11 @@
+//! The quad tree class: an inner tuple divides the plane at a centroid into four quadrants.
+#![tactic(auto)]
+
+mod class;
+mod division;
+mod quadrant;
+
+pub use class::{Quad, QuadRecon};
+
+#[cfg(test)]
+mod tests;
