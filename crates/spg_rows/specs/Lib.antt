@@ -1,0 +1,6 @@
+pub mod History
+pub mod Rows
+pub mod Legal
+pub mod Right
+pub mod Table
+pub mod Examples
