@@ -1,8 +1,7 @@
-use Rattle.std.proofs.Common.{rules, Option, ◌≡◌, ℕ, ◌+◌, ◌-◌, ◌*◌, ◌<◌, ◌≤◌, length, ◌/◌, ◌%◌, Bool, true, false, nat_eq, nat_lt, List, [], ◌∷◌, ◌++◌, slice_index_or, slice_set, bit_and, bit_or, Fits, w8, w32, w64, Bor, MutBor}
+use Rattle.std.proofs.Common.{◌≡◌, Option}
 use Rattle.spg_base.specs.Row.{RowAt}
-use Rattle.spg_rows.specs.Examples.{InsertThenScan, KillThenVacuum}
+use Rattle.spg_rows.proofs.SmallJournals.{insert_then_scan}
 use Rattle.spg_rows.proofs.examples.one_insert_and_scan.Goals as goal
 
--- src/examples.rt:8:1
 pub returns : goal.returns
-returns g c = ?
+returns g c = insert_then_scan g.O.OpClass.meaning

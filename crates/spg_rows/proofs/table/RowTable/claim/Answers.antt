@@ -1,12 +1,10 @@
-use Rattle.std.proofs.Common.{rules, ◌≡◌, [], None, Some, OnOk, OnErr, option_copied, ℕ, ◌+◌, ◌-◌, ◌*◌, ◌<◌, ◌≤◌, length, ◌/◌, ◌%◌, Bool, true, false, nat_eq, nat_lt, List, ◌∷◌, ◌++◌, slice_index_or, slice_set, bit_and, bit_or, Fits, w8, w32, w64, Bor, MutBor}
-use Rattle.spg_rows.specs.Table.{state_in, key_in, stand_state, SetsState, SetsKey, SameKeys}
-use Rattle.spg_rows.specs.declared.table.RowState.TheVariants as states
+use Rattle.std.proofs.Common.{◌≡◌, Some}
+use Rattle.spg_rows.specs.declared.table.Stand.TheVariants.{Claimed}
+use Rattle.spg_rows.proofs.Tables.{sets_state, sets_key}
 use Rattle.spg_rows.proofs.table.RowTable.claim.Goals as goal
 
--- src/table.rt:88:5
 pub returns-clause-state : goal.returns-clause-state
-returns-clause-state g c = ?
+returns-clause-state g c = rw (← c.self.view_is) (sets_state c.self.inside.rows.entries c.insert.new.self.entries c.args.row (Some (record { stand = Claimed; key = c.args.key })) c.in_ok-insert.ensures.updates.0)
 
--- src/table.rt:88:5
 pub returns-clause-key : goal.returns-clause-key
-returns-clause-key g c = ?
+returns-clause-key g c = rw (← c.self.view_is) (sets_key c.self.inside.rows.entries c.insert.new.self.entries c.args.row (Some (record { stand = Claimed; key = c.args.key })) c.in_ok-insert.ensures.updates.0)
