@@ -18,8 +18,9 @@ use Rattle.spg_rows.specs.Rows.{is_claimed, puts, is_put, is_killed, is_swept, i
 use Rattle.spg_rows.specs.Legal.{IsAllowed}
 use Rattle.spg_rows.specs.Right.{HasMatch, MayBeFound, MustBeFound, ScanRight}
 use Rattle.spg_rows.specs.Table.{Table, state_in}
+use Rattle.spg_rows.specs.States.{StateSays}
 use Rattle.spg_rows.proofs.RowOrder.{row_tells}
-use Rattle.spg_rows.proofs.Histories.{StateSays, Sane, live_says, put_stays, not_killed_before, key_stays, put_claimed}
+use Rattle.spg_rows.proofs.Histories.{Sane, live_says, put_stays, not_killed_before, key_stays, put_claimed}
 use Rattle.spg_core.specs.Page.{IsRestOf, StandsFor, rest_matches, is_live_state, takes, rows_that}
 use Rattle.spg_core.specs.Kept.{present_key}
 

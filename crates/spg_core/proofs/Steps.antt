@@ -15,8 +15,9 @@ use Rattle.spg_rows.specs.Rows.{is_claimed, is_put, is_killed, is_swept, is_pres
 use Rattle.spg_rows.specs.Legal.{IsAllowed, IsLeavable}
 use Rattle.spg_rows.specs.Right.{ClosesRight}
 use Rattle.spg_rows.specs.Table.{Table, state_in, key_in, SetsState, SetsKey, SameKeys}
+use Rattle.spg_rows.specs.States.{StateSays}
 use Rattle.spg_rows.proofs.RowOrder.{row_tells, same_row-refl}
-use Rattle.spg_rows.proofs.Histories.{StateSays, Sane, itself_opens, sane_from_legal, free_says, put_claimed}
+use Rattle.spg_rows.proofs.Histories.{Sane, itself_opens, sane_from_legal, free_says, put_claimed}
 use Rattle.spg_core.specs.declared.slot.Slot.{Slot}
 use Rattle.spg_core.specs.declared.slot.Slot.TheVariants.{Free, Insert, Scan}
 use Rattle.spg_core.specs.declared.state.State.TheInside.{Inside}

@@ -11,15 +11,8 @@ use Rattle.spg_rows.specs.declared.table.RowState.TheVariants.{Free, Claimed, Li
 use Rattle.spg_rows.specs.History.{History, seat_of, Opened, nothing, inserting, scanning, vacuuming, opened_by, open_of}
 use Rattle.spg_rows.specs.Rows.{claims, is_claimed, puts, is_put, kills, is_killed, sweeps, is_swept, is_present, is_live, keys, key_of, states, state_of}
 use Rattle.spg_rows.specs.Legal.{IsLeavable, IsAllowed, IsLegal}
+use Rattle.spg_rows.specs.States.{StateSays, SaysOf, StatesAgree}
 use Rattle.spg_rows.proofs.RowOrder.{row_tells, same_row-refl}
-
--- which answers a state gives: whether the row is claimed, put, killed and swept
-abbrev pub StateSays : RowState → Bool → Bool → Bool → Bool → Type 0
-StateSays Free c p k s = (c ≡ false) × (p ≡ false) × (k ≡ false) × (s ≡ false)
-StateSays Claimed c p k s = (c ≡ true) × (p ≡ false) × (k ≡ false) × (s ≡ false)
-StateSays Live c p k s = (c ≡ true) × (p ≡ true) × (k ≡ false) × (s ≡ false)
-StateSays (Killed at) c p k s = (c ≡ true) × (p ≡ true) × (k ≡ true) × (s ≡ false)
-StateSays Swept c p k s = (c ≡ true) × (p ≡ true) × (k ≡ true) × (s ≡ true)
 
 unclaimed_says : (state : RowState) (c p k s : Bool) → StateSays state c p k s → c ≡ false → (p ≡ false) × (k ≡ false) × (s ≡ false)
 unclaimed_says Free c p k s says is = (says.1, says.2, says.3)
@@ -113,10 +106,6 @@ module _ {O Key Recon Cond : Type 0} where
     pub state : state_of row past ≡ Claimed
     pub keyed : key_of row past ≡ Some key
     pub alone : (other : ℕ) (key2 : Option Key) → open_of other past ≡ inserting row key2 → other ≡ seat
-
-  -- what the state of a row says is so
-  abbrev pub SaysOf : History O Key Recon Cond → RowAt → Type 0
-  SaysOf past r = StateSays (state_of r past) (is_claimed r past) (is_put r past) (is_killed r past) (is_swept r past)
 
   pub record Sane (past : History O Key Recon Cond) : Type 0 where
     pub inserts : (seat : ℕ) (row : RowAt) (key : Option Key) → open_of seat past ≡ inserting row key → OpenInsertIs past seat row key
@@ -361,3 +350,6 @@ module _ {O Key Recon Cond : Type 0} where
 
   pub put_claimed : (past : History O Key Recon Cond) → Sane past → (r : RowAt) → is_put r past ≡ true → is_claimed r past ≡ true
   put_claimed past sane r is = put_says (state_of r past) (is_claimed r past) (is_put r past) (is_killed r past) (is_swept r past) (sane.says r) is
+
+pub states_agree : (O Key Recon Cond : Type 0) → StatesAgree O Key Recon Cond
+states_agree O Key Recon Cond past legal r = (sane_from_legal past legal).says r

@@ -7,6 +7,6 @@ mod journal;
 mod table;
 
 pub use event::{Event, Why};
-pub use examples::{one_insert_and_scan, one_vacuum};
+pub use examples::{one_insert_and_scan, one_vacuum, states_agree};
 pub use journal::Journal;
 pub use table::{RowState, RowTable};
