@@ -1,12 +1,12 @@
 -- What an open scan keeps while the journal grows, and what a read of all entries gives.
-use Rattle.std.proofs.Common.{◌≡◌, ◌⊎◌, inl, inr, ℕ, zero, suc, Bool, true, false, not, ◌&&◌, List, [], ◌∷◌, Option, Some, None, refl, sym, ap, ◌∙◌, subst, arith, cond, IsSomeAnd, Contains}
+use Rattle.std.proofs.Common.{◌≡◌, ◌⊎◌, inl, inr, ℕ, zero, suc, Bool, true, false, ◌&&◌, List, [], ◌∷◌, Option, Some, None, refl, sym, ap, ◌∙◌, subst, arith, cond, IsSomeAnd, Contains}
 use Rattle.std.specs.declared.cmp.Ordering.TheVariants.{Less}
 use Rattle.std.specs.List.{AllByRecursion}
 use Rattle.std.specs.List.Sorted.{IsStrictlySortedBy}
 use Rattle.std.specs.Map.{lookup, keys_of}
 use Rattle.std.proofs.lemmas.Bool.{false≢true}
 use Rattle.spg_base.specs.Row.{RowAt, row_cmp, same_row}
-use Rattle.spg_opclass.specs.Meaning.{Meaning, all_hold}
+use Rattle.spg_opclass.specs.Meaning.{Meaning}
 use Rattle.spg_opclass.specs.Queries.{query_matches}
 use Rattle.spg_opclass.specs.declared.query.Query.{Query}
 use Rattle.spg_opclass.specs.declared.query.Query.TheVariants.{All, Null, Where}
@@ -16,7 +16,7 @@ use Rattle.spg_rows.specs.declared.table.RowState.TheVariants.{Free, Claimed, Li
 use Rattle.spg_rows.specs.History.{History}
 use Rattle.spg_rows.specs.Rows.{is_claimed, puts, is_put, is_killed, is_swept, is_present, key_of, state_of}
 use Rattle.spg_rows.specs.Legal.{IsAllowed}
-use Rattle.spg_rows.specs.Right.{HasMatch, MayBeFound, MustBeFound, ScanRight}
+use Rattle.spg_rows.specs.Right.{MayBeFound, MustBeFound, ScanRight}
 use Rattle.spg_rows.specs.Table.{Table, state_in}
 use Rattle.spg_rows.specs.States.{StateSays}
 use Rattle.spg_rows.proofs.RowOrder.{row_tells}
@@ -170,7 +170,6 @@ module _ {O Key Recon Cond : Type 0} (m : Meaning Key Recon Cond) where
   module _ (before past : History O Key Recon Cond) (query : Query O Key Recon Cond) (es : Entries) (table : Table O Key Recon Cond) (sane : Sane past)
       (states : (r : RowAt) → state_in table r ≡ state_of r past) (stand : (r : RowAt) → StandsFor m (rest_at r es) (present_key r past))
       (put_since : (r : RowAt) → is_put r before ≡ true → is_put r past ≡ true) (killed_since : (r : RowAt) → is_killed r before ≡ true → is_killed r past ≡ true) where
-
     may : (r : RowAt) → Passing (takes m table query) es r → MayBeFound m before past query r
     unfolding takes
     may r p =

@@ -1,5 +1,5 @@
 -- The slots of the seats: what each says, how many are open, and the stages that contracts see.
-use Rattle.std.proofs.Common.{◌≡◌, ◌≢◌, ◌<◌, ◌≤◌, ◌+◌, inl, inr, ℕ, zero, suc, Bool, true, false, cond, List, [], ◌∷◌, ◌++◌, length, get_or, set, replicate, reverse, Option, Some, None, refl, sym, ap, ◌∙◌, subst, arith, get_or-set_same, get_or-set_other, length-set, map}
+use Rattle.std.proofs.Common.{◌≡◌, ◌≢◌, ◌<◌, ◌≤◌, ◌+◌, inl, inr, ℕ, zero, suc, Bool, true, false, cond, List, [], ◌∷◌, ◌++◌, length, get_or, set, replicate, reverse, Option, Some, None, refl, sym, ap, ◌∙◌, subst, arith, get_or-set_same, get_or-set_other, map}
 use Rattle.std.proofs.lemmas.Bool.{false≢true, cases_eq}
 use Rattle.std.proofs.lemmas.List.{map-set}
 use Rattle.spg_base.specs.Row.{RowAt}
@@ -7,15 +7,14 @@ use Rattle.spg_opclass.specs.Meaning.{Meaning}
 use Rattle.spg_opclass.specs.declared.query.Query.{Query}
 use Rattle.spg_rows.specs.declared.event.Event.{Event}
 use Rattle.spg_rows.specs.declared.event.Event.TheVariants.{CloseScan}
-use Rattle.spg_rows.specs.declared.event.Why.{Why}
-use Rattle.spg_rows.specs.History.{History, seat_of, nothing, inserting, scanning, open_of}
+use Rattle.spg_rows.specs.History.{History, seat_of, nothing, scanning, open_of}
 use Rattle.spg_rows.specs.Legal.{IsAllowed}
 use Rattle.spg_rows.specs.Right.{ScanRight, ClosesRight}
 use Rattle.spg_rows.proofs.Histories.{Sane, other_stays, put_since}
 use Rattle.spg_core.specs.declared.slot.Slot.{Slot}
 use Rattle.spg_core.specs.declared.slot.Slot.TheVariants.{Free, Insert, Scan}
 use Rattle.spg_core.specs.declared.state.State.TheInside.{Inside}
-use Rattle.spg_core.specs.Stage.{Stage, free, started, descended, holding, read, IsInserting, IsRead, held_count, given_up, IsStageOf}
+use Rattle.spg_core.specs.Stage.{Stage, free, started, descended, holding, IsInserting, IsRead, IsStageOf}
 use Rattle.spg_core.specs.Seen.{Seen, stage_at, moved, logged, past_of}
 use Rattle.spg_core.specs.Slot.{stage_of, is_open, open_count, HasFound}
 use Rattle.spg_core.specs.Kept.{seen_of, SlotFits}

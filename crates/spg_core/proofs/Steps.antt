@@ -1,5 +1,5 @@
 -- One more event: what the fields of a state keep.
-use Rattle.std.proofs.Common.{◌≡◌, ◌≢◌, ◌<◌, ◌≤◌, ◌+◌, inl, inr, ℕ, zero, suc, Bool, true, false, not, ◌&&◌, cond, List, [], ◌∷◌, ◌++◌, length, get_or, set, reverse, Option, Some, None, Vec, refl, sym, ap, ◌∙◌, subst, arith, get_or-set_same, get_or-set_other, length-set}
+use Rattle.std.proofs.Common.{◌≡◌, ◌≢◌, ◌<◌, ◌≤◌, ◌+◌, inl, inr, ℕ, Bool, true, false, not, ◌&&◌, cond, List, [], ◌∷◌, ◌++◌, length, get_or, set, reverse, Option, Some, None, Vec, refl, sym, ap, ◌∙◌, subst, arith, get_or-set_same, get_or-set_other, length-set}
 use Rattle.std.proofs.lemmas.Bool.{false≢true, cases_eq}
 use Rattle.std.proofs.lemmas.List.{reverse-append}
 use Rattle.std.specs.BTreeMap.{BTreeMap, get}
@@ -11,7 +11,7 @@ use Rattle.spg_rows.specs.declared.event.Event.TheVariants.{OpenInsert, Put, Dro
 use Rattle.spg_rows.specs.declared.event.Why.{Why}
 use Rattle.spg_rows.specs.declared.table.RowState.TheVariants as row_state
 use Rattle.spg_rows.specs.History.{Written, History, seat_of, Opened, nothing, inserting, opened_by, open_of}
-use Rattle.spg_rows.specs.Rows.{is_claimed, is_put, is_killed, is_swept, is_present, key_of, state_of, present_count}
+use Rattle.spg_rows.specs.Rows.{is_claimed, is_put, is_killed, is_swept, key_of, state_of, present_count}
 use Rattle.spg_rows.specs.Legal.{IsAllowed, IsLeavable}
 use Rattle.spg_rows.specs.Right.{ClosesRight}
 use Rattle.spg_rows.specs.Table.{Table, state_in, key_in, SetsState, SetsKey, SameKeys}
@@ -151,7 +151,7 @@ module _ {O Key Recon Cond : Type 0} (m : Meaning Key Recon Cond) where
         let opened = sane.inserts seat row key here in
         let says = subst (λ x. StateSays x (is_claimed row past) (is_put row past) (is_killed row past) (is_swept row past)) opened.state (sane.says row) in
         let there : StandsFor m (get row_cmp entries row) (present_key row (Put seat row ∷ past)) =
-            rw (updates row, same_row-refl row, says.3, opened.keyed) stands in
+        rw (updates row, same_row-refl row, says.3, opened.keyed) stands in
         record {
           states = λ r. states r ∙ ap (cond (same_row row r) row_state.Live) (kept.states r);
           keys = λ r. keys r ∙ kept.keys r;

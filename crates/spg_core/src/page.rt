@@ -95,12 +95,7 @@ fn is_live(state: RowState) -> bool
     }
 }
 
-fn is_asked<O: OpClass>(
-    class: &O,
-    start: &O::Recon,
-    query: &Query<O>,
-    rest: &Option<Bytes>,
-) -> bool
+fn is_asked<O: OpClass>(class: &O, start: &O::Recon, query: &Query<O>, rest: &Option<Bytes>) -> bool
     requires { start.now ≡ O.meaning.start }
     ensures { result ≡ rest_matches O.meaning query.now rest.now }
 {

@@ -1,9 +1,9 @@
-use Rattle.std.proofs.Common.{◌≡◌, ◌++◌, ◌∷◌, [], refl, sym, ap, ◌∙◌, subst, reverse, get_or}
+use Rattle.std.proofs.Common.{◌++◌, ◌∷◌, [], refl, sym, ap, ◌∙◌, subst, reverse, get_or}
 use Rattle.spg_rows.specs.declared.event.Event.TheVariants.{CloseScan}
 use Rattle.spg_rows.specs.Legal.{IsAllowed}
 use Rattle.spg_core.specs.declared.slot.Slot.TheVariants.{Free}
 use Rattle.spg_core.specs.Stage.{IsRead}
-use Rattle.spg_core.specs.Slot.{stage_of, HasFound}
+use Rattle.spg_core.specs.Slot.{HasFound}
 use Rattle.spg_core.proofs.Slots.{stage_set, stage_is, logged_is, read_open, read_scan, closes_right}
 use Rattle.spg_core.proofs.Steps.{kept_ended, same_rows, room_left}
 use Rattle.spg_core.proofs.state.State.close_scan.Goals as goal

@@ -1,5 +1,4 @@
-use Rattle.std.proofs.Common.{◌≡◌, ◌++◌, ◌∷◌, [], true, false, refl, sym, ap, ◌∙◌, subst, reverse, get_or, set}
-use Rattle.spg_base.specs.Row.{RowAt}
+use Rattle.std.proofs.Common.{◌≡◌, true, refl, sym, ap, ◌∙◌, subst, reverse, get_or, set}
 use Rattle.spg_rows.specs.declared.event.Event.TheVariants.{Put}
 use Rattle.spg_rows.specs.History.{open_of, inserting}
 use Rattle.spg_core.specs.declared.slot.Slot.TheVariants.{Free, Insert}

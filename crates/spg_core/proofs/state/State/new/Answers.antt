@@ -1,4 +1,4 @@
-use Rattle.std.proofs.Common.{◌≡◌, ℕ, zero, suc, replicate, get_or, map, refl, arith}
+use Rattle.std.proofs.Common.{refl, arith}
 use Rattle.spg_core.proofs.Slots.{all_free, all_stages_free}
 use Rattle.spg_core.proofs.state.State.new.Goals as goal
 

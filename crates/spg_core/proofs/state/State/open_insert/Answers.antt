@@ -1,4 +1,4 @@
-use Rattle.std.proofs.Common.{◌≡◌, ◌++◌, ◌∷◌, [], Some, true, false, refl, sym, ap, ◌∙◌, subst, reverse, get_or}
+use Rattle.std.proofs.Common.{◌++◌, ◌∷◌, [], Some, false, refl, sym, ap, ◌∙◌, subst, reverse, get_or}
 use Rattle.std.proofs.lemmas.Bool.{false≢true}
 use Rattle.std.proofs.lemmas.Result.{err_from_is_err_and}
 use Rattle.spg_rows.specs.declared.event.Event.TheVariants.{OpenInsert}

@@ -1,4 +1,4 @@
-use Rattle.std.proofs.Common.{◌≡◌, ◌++◌, ◌∷◌, [], None, refl, sym, ap, ◌∙◌, reverse, get_or}
+use Rattle.std.proofs.Common.{◌++◌, ◌∷◌, [], None, refl, sym, ap, ◌∙◌, reverse, get_or}
 use Rattle.spg_rows.specs.declared.event.Event.TheVariants.{OpenScan}
 use Rattle.spg_rows.proofs.Histories.{itself_opens}
 use Rattle.spg_core.specs.declared.slot.Slot.TheVariants.{Free, Scan}

@@ -1,6 +1,5 @@
 use Rattle.std.proofs.Common.{◌≡◌, None, Some, refl, sym, ap, ◌∙◌, subst, reverse, get_or, set}
 use Rattle.std.proofs.lemmas.List.Elements.{recursion_from_All}
-use Rattle.spg_rows.specs.declared.event.Event.TheVariants.{OpenScan}
 use Rattle.spg_rows.proofs.Histories.{sane_from_legal, put_since, killed_since}
 use Rattle.spg_core.specs.declared.slot.Slot.TheVariants.{Free, Scan}
 use Rattle.spg_core.specs.Slot.{stage_of, with_found}
@@ -31,7 +30,7 @@ invariant_of-self g c =
     let items = set_twice _ _ _ seat slot c.set_slot-slot.ensures.items (c.set_slot.ensures.items ∙ ap (set c.set_slot-slot.new.slots.items seat) made) in
     let fits = subst (SlotFits m past seat) (slot_is g before) (kept.slots seat) in
     let right = read_right m fits.0 past query s.entries.entries s.rows (sane_from_legal past kept.right.legal) kept.states kept.entries (put_since past seat fits.0 query fits.1) (killed_since past seat fits.0 query fits.1)
-        c.matching.ensures.ordered (recursion_from_All _ _ c.matching.ensures.found) in
+    c.matching.ensures.ordered (recursion_from_All _ _ c.matching.ensures.found) in
     kept_moved m s kept seat slot c.set_slot.new.slots items c.set_slot.ensures.in_range (rw (slot_is g before) refl) (fits.0, fits.1, rw c.in_ok-rows.ensures.rows right)
 
 pub returns-clause-ok : goal.returns-clause-ok
