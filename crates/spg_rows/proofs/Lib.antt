@@ -1,0 +1,4 @@
+pub mod RowOrder
+pub mod Tables
+pub mod SmallJournals
+pub mod Histories
