@@ -284,7 +284,7 @@ module _ {O Key Recon Cond : Type 0} (m : Meaning Key Recon Cond) (s : Inside O 
   claim_in_table seat why slot fits = claim_as (λ r. state_of r past ≡ row_state.Claimed) (λ r. state_in s.rows r ≡ row_state.Claimed) (λ r h. kept.states r ∙ h) slot (has_claim m past seat why sane slot fits)
 
 -- room for all seats' last events
-pub room_for_all : {O Key Recon Cond : Type 0} (slots old : List (Slot O Key Recon Cond)) (seat : ℕ) (slot : Slot O Key Recon Cond) (before after : ℕ) → slots ≡ set old seat slot → length old ≡ 64 → 66 ≤ before → after + 1 ≡ before → open_count slots ≤ after
+pub room_for_all : {O Key Recon Cond : Type 0} (slots old : List (Slot O Key Recon Cond)) (seat : ℕ) (slot : Slot O Key Recon Cond) (before after : ℕ) → slots ≡ set old seat slot → length old ≡ 64 → 65 ≤ before → after + 1 ≡ before → open_count slots ≤ after
 room_for_all slots old seat slot before after is count some less = omega (arith, open_count-all slots (ap length is ∙ length-set old seat slot ∙ count), some, less)
 
 pub given_up_seat : {O Key Recon Cond : Type 0} (seat : ℕ) (stage : Stage O Key Recon Cond) (why : Why) → seat_of (given_up seat stage why) ≡ seat

@@ -26,7 +26,7 @@ use std::marker::Model;
 const CAPACITY: usize = 291;
 
 /// An open needs room for its own event and for the events that end what all seats have open.
-const ROOM: u64 = SEATS as u64 + 2;
+const ROOM: u64 = SEATS as u64 + 1;
 
 /// An index of one page, what each seat has open, and the journal of all that was done. Each of 64
 /// seats has at most one operation open.
