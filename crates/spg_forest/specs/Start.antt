@@ -1,0 +1,29 @@
+use Rattle.std.specs.Prelude.{◌≡◌, ℕ, zero, suc, List, [], ◌∷◌, Some, None, set}
+use Rattle.spg_forest.specs.View.{Place, Leaf, Class}
+use Rattle.spg_forest.specs.Spot.{Frame, Spot, Branch, Bucket, Nothing, put_at}
+use Rattle.spg_forest.specs.Tuples.{Inner, Live}
+use Rattle.spg_forest.specs.Pages.{Pages, IsShaped, place}
+
+-- the meta page and two roots with one empty downlink each
+abbrev pub start_pages : Frame → Pages
+start_pages w = record { clock = 0; pages = [] ∷ (Inner w (None ∷ []) ∷ []) ∷ (Inner w (None ∷ []) ∷ []) ∷ [] }
+
+abbrev pub start_on : Frame → ℕ → ℕ → Spot
+start_on w (suc zero) zero = Branch w (None ∷ [])
+start_on w (suc (suc zero)) zero = Branch w (None ∷ [])
+start_on w _ _ = Nothing
+
+-- the laws' premise can be met
+abbrev pub StartIsShaped : Type 0
+StartIsShaped = (C : Class Frame (List ℕ) (List ℕ)) (w : Frame) → IsShaped C (start_pages w) (λ x. start_on w x.block x.offset)
+
+-- the main root's downlink leads to a chain of one leaf on block 3
+abbrev pub one_leaf_pages : Frame → Leaf → Pages
+one_leaf_pages w a = record { clock = 0; pages = [] ∷ (Inner w (Some (place 3 1) ∷ []) ∷ []) ∷ (Inner w (None ∷ []) ∷ []) ∷ (Live a 0 ∷ []) ∷ [] }
+
+abbrev pub one_leaf_spots : Frame → Leaf → Place → Spot
+one_leaf_spots w a = put_at (put_at (λ x. start_on w x.block x.offset) (place 3 1) (Bucket (a ∷ []))) (place 1 0) (Branch w (set (None ∷ []) 0 (Some (place 3 1))))
+
+-- and so can the premise that a chain stands there
+abbrev pub OneLeafIsShaped : Type 0
+OneLeafIsShaped = (C : Class Frame (List ℕ) (List ℕ)) (w : Frame) (a : Leaf) → IsShaped C (one_leaf_pages w a) (one_leaf_spots w a) × (one_leaf_spots w a (place 3 1) ≡ Bucket (a ∷ []))
