@@ -5,7 +5,7 @@ use Rattle.spg_forest.specs.View.{Place, Class}
 use Rattle.spg_forest.specs.Spot.{Frame, Spot, IsTree, view_of}
 use Rattle.spg_forest.specs.Tuples.{IsLaidOut}
 use Rattle.spg_forest.specs.Pages.{place, tuples_of}
-use Rattle.spg_forest.specs.Steps.{TreeKeeps, none, SplitTuple, AddNode, PutAtEmpty, Age, Sweep, HasRow, ShapeLaidOut}
+use Rattle.spg_forest.specs.Steps.{TreeKeeps, none, SplitTuple, AddNode, PutAtEmpty, Age, Sweep, HasRow, LinksLaidOut}
 use Rattle.spg_forest.proofs.Trees.{key_once}
 use Rattle.spg_forest.proofs.Carry.{entry_carried, entry_back}
 use Rattle.spg_forest.proofs.Replace.{Replaces, replaced_tree, replaced_stable, replaced_entry, replaced_entry_back}
@@ -14,10 +14,10 @@ use Rattle.spg_forest.proofs.Rework.{reworked_replaces, widened_by_insert}
 use Rattle.spg_forest.proofs.Attach.{attached_replaces}
 use Rattle.spg_forest.proofs.Age.{aged_carries, aged_tree, aged_stable}
 use Rattle.spg_forest.proofs.Sweep.{swept_tree, swept_stable, swept_entry, swept_entry_back}
-use Rattle.spg_forest.proofs.Shapes.{laid, at_page, spots_shown, spots_inner, spots_tree}
-use Rattle.spg_forest.specs.Shape.{ShapeIsTree, TreeIsShape, spots_of}
-use Rattle.spg_forest.proofs.Rows.{rows_once}
-use Rattle.spg_forest.proofs.ToShape.{to_shape}
+use Rattle.spg_forest.proofs.FromLinks.{laid, at_page, spots_shown, spots_tree}
+use Rattle.spg_forest.specs.Links.{LinksAreTree, TreeIsLinked, spots_of}
+use Rattle.spg_forest.proofs.Rows.{rows_once, rows_apart}
+use Rattle.spg_forest.proofs.ToLinks.{to_links}
 
 pub replaced_keeps : {R K : Type 0} (C : Class Frame R K) (V V2 : Place → Spot) (clock : ℕ) (T : IsTree C V clock) (z : Place) (Fresh : Place → Type 0) (removed added : RowAt → Type 0) → Replaces C V V2 z Fresh removed added → TreeKeeps C V V2 clock clock 0 removed added (λ x. x)
 replaced_keeps C V V2 clock T z Fresh removed added E = record {
@@ -55,11 +55,11 @@ sweep_proof C V V2 clock rows T G = record {
   entries_back = λ row key e. inr (swept_entry_back C V V2 clock T (HasRow rows) G row e);
 }
 
-pub shape_laid_out_proof : ShapeLaidOut
-shape_laid_out_proof P H b g = subst (λ (Z : ℕ → Spot). IsLaidOut (tuples_of P b) Z) (fun_ext (λ o. sym (at_page P H (place b o) g))) (laid P H b g)
+pub links_laid_out_proof : LinksLaidOut
+links_laid_out_proof P H b g = subst (λ (Z : ℕ → Spot). IsLaidOut (tuples_of P b) Z) (fun_ext (λ o. sym (at_page P H (place b o) g))) (laid P H b g)
 
-pub shape_is_tree_proof : ShapeIsTree
-shape_is_tree_proof C P H A = (spots_shown P H, spots_tree P H C (rows_once P (spots_of P) (spots_shown P H) (spots_inner P H) A))
+pub links_are_tree_proof : LinksAreTree
+links_are_tree_proof C P H A = (spots_shown P H, spots_tree P H C (rows_once P (spots_of P) (spots_shown P H) A))
 
-pub tree_is_shape_proof : TreeIsShape
-tree_is_shape_proof C P V H I T = to_shape C P V H I T
+pub tree_is_linked_proof : TreeIsLinked
+tree_is_linked_proof C P V H T = (to_links C P V H T, rows_apart P V H (record { rows = T.rows; once = T.once }))

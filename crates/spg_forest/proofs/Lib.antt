@@ -1,3 +1,4 @@
+pub mod Flat
 pub mod Ways
 pub mod Carry
 pub mod Spots
@@ -20,7 +21,7 @@ pub mod Age
 pub mod Sweep
 pub mod Ends
 pub mod Once
-pub mod Shapes
+pub mod FromLinks
 pub mod Fit
 pub mod Part
 pub mod Blocks
@@ -36,7 +37,7 @@ pub mod Scan
 pub mod Cover
 pub mod FitWay
 pub mod Count
-pub mod ToShape
+pub mod ToLinks
 pub mod Rows
 pub mod Read
 pub mod Put

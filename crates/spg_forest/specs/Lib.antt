@@ -2,7 +2,7 @@ pub mod View
 pub mod Spot
 pub mod Tuples
 pub mod Pages
-pub mod Shape
+pub mod Links
 pub mod Steps
 pub mod Start
 pub mod Classes

@@ -4,7 +4,7 @@ use Rattle.spg_forest.specs.View.{Place, Leaf, Class, ReconAt, Entry, IsStable}
 use Rattle.spg_forest.specs.Spot.{Frame, Spot, Branch, Bucket, Forward, Nothing, IsIn, NoRepeat, IsTree, view_of, put_at, leaves_of}
 use Rattle.spg_forest.specs.Tuples.{IsLaidOut}
 use Rattle.spg_forest.specs.Pages.{Pages, place, tuples_of, IsFresh}
-use Rattle.spg_forest.specs.Shape.{Shape, spots_of}
+use Rattle.spg_forest.specs.Links.{IsLinked, spots_of}
 
 abbrev pub Quad : Type 0
 Quad = Class Frame (List ℕ) (List ℕ)
@@ -61,5 +61,5 @@ abbrev pub Sweep : Type 0
 Sweep = (C : Quad) (V V2 : Place → Spot) (clock : ℕ) (rows : List RowAt) → IsTree C V clock → IsSwept V V2 (HasRow rows) → TreeKeeps C V V2 clock clock 0 (HasRow rows) none (λ x. x)
 
 -- pages whose links are right are laid out as computed, and their spots form a tree but for what rows say
-abbrev pub ShapeLaidOut : Type 0
-ShapeLaidOut = (P : Pages) → Shape P → (b : ℕ) → 3 ≤ b → IsLaidOut (tuples_of P b) (λ o. spots_of P (place b o))
+abbrev pub LinksLaidOut : Type 0
+LinksLaidOut = (P : Pages) → IsLinked P → (b : ℕ) → 3 ≤ b → IsLaidOut (tuples_of P b) (λ o. spots_of P (place b o))

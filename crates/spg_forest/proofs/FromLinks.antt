@@ -5,8 +5,9 @@ use Rattle.std.proofs.lemmas.List.{get_or_past}
 use Rattle.spg_forest.specs.View.{Place, Leaf, Class, Reach}
 use Rattle.spg_forest.specs.Spot.{Frame, Spot, Branch, Bucket, Forward, Nothing, IsStanding, child_of, view_of, IsTree}
 use Rattle.spg_forest.specs.Tuples.{Tuple, Inner, Live, Dead, Redirect, Placeholder, IsChained, IsHead, IsLaidOut, Shows, Trail, spot_on, is_led_to, chain_at}
-use Rattle.spg_forest.specs.Pages.{Pages, place, page_of, tuples_of, tuple_on, IsShown, IsInnerRoot}
-use Rattle.spg_forest.specs.Shape.{Shape, tuple_at, links_of, leads, IsTarget, IsLive, IsReachedBy, spots_of, RowsOnce}
+use Rattle.spg_forest.specs.Pages.{Pages, place, page_of, tuples_of, tuple_on, all_live, IsShown, IsInnerRoot, IsLeafRoot}
+use Rattle.spg_forest.specs.Links.{IsLinked, tuple_at, links_of, leads, IsTarget, IsLive, IsReachedBy, spots_of, root_spot, RowsOnce}
+use Rattle.spg_forest.proofs.Flat.{root_spot-all_live, none_on, alone_on, flat_on}
 use Rattle.spg_forest.proofs.Ends.{chained_laid_out}
 use Rattle.spg_forest.proofs.Front.{branch_at}
 
@@ -67,7 +68,7 @@ standing_target T o (Forward y u) h t d = absurd (subst IsTarget h t)
 standing_target T o Nothing (inl h) t d = absurd (subst IsTarget h t)
 standing_target T o Nothing (inr (l, n, k, m, a, b)) t d = absurd (d k m b)
 
-module _ (P : Pages) (H : Shape P) where
+module _ (P : Pages) (H : IsLinked P) where
   downlink_leads : (x : Place) (w : Frame) (ns : List (Option Place)) (i : ℕ) (y : Place) → tuple_at P x ≡ Inner w ns → get_or ns i None ≡ Some y → leads P x i y
   downlink_leads x w ns i y e a = ap (λ t. get_or (links_of x.block t) i None) e ∙ a
 
@@ -107,16 +108,32 @@ module _ (P : Pages) (H : Shape P) where
   pub at_page : (x : Place) → 3 ≤ x.block → spots_of P x ≡ spot_on (tuples_of P x.block) (suc (length (page_of P x.block))) x.offset
   at_page x g = cond-true (nat_le 3 x.block) _ _ (le-leb 3 x.block g)
 
-  at_root : (b : ℕ) → b < 3 → spots_of P (place b 0) ≡ spot_on (tuples_of P b) 2 1
-  at_root b g = let n : Spot = spot_on (tuples_of P b) (suc (length (page_of P b))) 0 in let m : Spot = cond (nat_eq 0 0) (spot_on (tuples_of P b) 2 1) Nothing in
-      cond-false (nat_le 3 b) n m (lt-leb 3 b g) ∙ cond-true (nat_eq 0 0) (spot_on (tuples_of P b) 2 1) Nothing (eq-eqb 0 0 refl)
+  at_root : (b : ℕ) → 0 < b → b < 3 → spots_of P (place b 0) ≡ root_spot (page_of P b)
+  at_root b h g =
+      let n : Spot = spot_on (tuples_of P b) (suc (length (page_of P b))) 0 in
+      let r : Spot = root_spot (page_of P b) in
+      let m : Spot = cond (nat_eq b 0) Nothing r in
+      cond-false (nat_le 3 b) n (cond (nat_eq 0 0) m Nothing) (lt-leb 3 b g) ∙ cond-true (nat_eq 0 0) m Nothing (eq-eqb 0 0 refl) ∙ cond-false (nat_eq b 0) Nothing r (ne_eqb b 0 (λ e. absurd (omega arith)))
 
   shown : (x : Place) → 3 ≤ x.block → Shows (tuples_of P x.block) x.offset (spots_of P x)
   shown x g = subst (λ (s : Spot). Shows (tuples_of P x.block) x.offset s) (sym (at_page x g)) ((laid x.block g).shows x.offset)
 
   at_none : (x : Place) → x.block < 3 → (x.offset ≡ 0 → ⊥) → spots_of P x ≡ Nothing
   at_none x g z = let n : Spot = spot_on (tuples_of P x.block) (suc (length (page_of P x.block))) x.offset in
-      cond-false (nat_le 3 x.block) n (cond (nat_eq x.offset 0) (spot_on (tuples_of P x.block) 2 1) Nothing) (lt-leb 3 x.block g) ∙ cond-false (nat_eq x.offset 0) (spot_on (tuples_of P x.block) 2 1) Nothing (ne_eqb x.offset 0 z)
+      let m : Spot = cond (nat_eq x.block 0) Nothing (root_spot (page_of P x.block)) in
+      cond-false (nat_le 3 x.block) n (cond (nat_eq x.offset 0) m Nothing) (lt-leb 3 x.block g) ∙ cond-false (nat_eq x.offset 0) m Nothing (ne_eqb x.offset 0 z)
+
+  at_meta : (x : Place) → x.block ≡ 0 → spots_of P x ≡ Nothing
+  at_meta x e = let n : Spot = spot_on (tuples_of P x.block) (suc (length (page_of P x.block))) x.offset in
+      let r : Spot = root_spot (page_of P x.block) in
+      let m : Spot = cond (nat_eq x.block 0) Nothing r in
+      let q : m ≡ Nothing = cond-true (nat_eq x.block 0) Nothing r (eq-eqb x.block 0 e) in
+      ⊎_elim (λ z. cond-false (nat_le 3 x.block) n (cond (nat_eq x.offset 0) m Nothing) (lt-leb 3 x.block (omega arith)) ∙ cond-true (nat_eq x.offset 0) m Nothing (eq-eqb x.offset 0 z) ∙ q)
+      (λ z. at_none x (omega arith) z) (cases_eq x.offset 0)
+
+  -- a root shows what stands on its page
+  pub spots_root : (b : ℕ) → 0 < b → b < 3 → IsInnerRoot P (spots_of P) b ⊎ IsLeafRoot P (spots_of P) b
+  spots_root b h g = ⊎_elim (λ (w, ns, e). inl (w, ns, e, at_root b h g ∙ ap root_spot e)) (λ (ls, e). inr (ls, e, at_root b h g ∙ ap root_spot e ∙ root_spot-all_live ls)) (H.root b h g)
 
   -- the tuple that a spot shows: a root's is the first of its page
   abbrev Source : Place → Place → Type 0
@@ -128,34 +145,15 @@ module _ (P : Pages) (H : Shape P) where
   source_once x y z u (inr (g, o, a)) (inl (h, b)) e = let q : x.block ≡ y.block = ap (λ (v : Place). v.block) (sym a ∙ e ∙ b) in absurd (omega arith)
   source_once x y z u (inr (g, o, a)) (inr (h, k, b)) e = let q : x.block ≡ y.block = ap (λ (v : Place). v.block) (sym a ∙ e ∙ b) in let r : x.offset ≡ y.offset = o ∙ sym k in λ i. record { block = q i; offset = r i }
 
-  root_page : (b : ℕ) → b < 3 → ((w : Frame) × (ns : List (Option Place)) × (tuples_of P b 1 ≡ Inner w ns) × ((o : ℕ) → (o ≡ 1 → ⊥) → tuples_of P b o ≡ Placeholder)) ⊎ (page_of P b ≡ [])
-  root_page b g = ⊎_elim (λ z. inr (ap (page_of P) z ∙ H.meta))
-      (λ z. let (w, ns, e) = H.root b (omega arith) g in inl (w, ns, ap (λ ts. tuple_on ts 1) e, λ o n. ap (λ ts. tuple_on ts o) e ∙ other w ns o n)) (cases_eq b 0)
-    where
-      other : (w : Frame) (ns : List (Option Place)) (o : ℕ) → (o ≡ 1 → ⊥) → tuple_on (Inner w ns ∷ []) o ≡ Placeholder
-      other w ns zero n = refl
-      other w ns (suc zero) n = absurd (n refl)
-      other w ns (suc (suc o)) n = refl
-
   -- a downlink of a spot is one of the inner tuple that it shows
   child_was : (x : Place) (i : ℕ) (y : Place) → child_of (spots_of P x) i ≡ Some y → (z : Place) × (w : Frame) × (ns : List (Option Place)) × Source x z × (tuple_at P z ≡ Inner w ns) × (get_or ns i None ≡ Some y)
   child_was x i y c = ⊎_elim
-      (λ g. ⊎_elim (λ z. root_child g z (root_page x.block g)) (λ z. let a = sym (ap (λ s. child_of s i) (at_none x g z)) ∙ c in cc) (cases_eq x.offset 0))
+      (λ g. ⊎_elim (λ z. ⊎_elim (λ q. let a = sym (ap (λ s. child_of s i) (at_meta x q)) ∙ c in cc) (λ q. root_child g z (spots_root x.block (omega arith) g)) (cases_eq x.block 0)) (λ z. let a = sym (ap (λ s. child_of s i) (at_none x g z)) ∙ c in cc) (cases_eq x.offset 0))
       (λ g. let (w, ns, a, b) = branch_of (tuples_of P x.block) x.offset (spots_of P x) i y (shown x g) c in (x, w, ns, inl (g, refl), a, b)) (cases_lt x.block 3)
     where
-      root_child : x.block < 3 → x.offset ≡ 0 → ((w : Frame) × (ns : List (Option Place)) × (tuples_of P x.block 1 ≡ Inner w ns) × ((o : ℕ) → (o ≡ 1 → ⊥) → tuples_of P x.block o ≡ Placeholder)) ⊎ (page_of P x.block ≡ []) →
-          (z : Place) × (w : Frame) × (ns : List (Option Place)) × Source x z × (tuple_at P z ≡ Inner w ns) × (get_or ns i None ≡ Some y)
-      root_child g z r =
-          let at : spots_of P x ≡ spot_on (tuples_of P x.block) 2 1 = ap (λ o. spots_of P (place x.block o)) z ∙ at_root x.block g in
-          let d : child_of (spot_on (tuples_of P x.block) 2 1) i ≡ Some y = sym (ap (λ s. child_of s i) at) ∙ c in
-          let (w, ns, a, b) = by_tuple (tuples_of P x.block 1) d in (place x.block 1, w, ns, inr (g, z, refl), a, b)
-        where
-          by_tuple : (t : Tuple) → child_of (elim t [ Inner w ns ↦ Branch w ns | Live l m ↦ cond (is_led_to (tuples_of P x.block) 2 1) Nothing (Bucket (l ∷ chain_at (tuples_of P x.block) 2 m)) | Dead ↦ Bucket [] | Redirect y u ↦ Forward y u | Placeholder ↦ Nothing ]) i ≡ Some y → (w : Frame) × (ns : List (Option Place)) × (t ≡ Inner w ns) × (get_or ns i None ≡ Some y)
-          by_tuple (Inner w ns) d = (w, ns, refl, d)
-          by_tuple (Live l m) d = absurd (cond_both (is_led_to (tuples_of P x.block) 2 1) Nothing (Bucket (l ∷ chain_at (tuples_of P x.block) 2 m)) (λ s. child_of s i ≡ Some y → ⊥) (λ q a. cc) (λ q a. cc) d)
-          by_tuple Dead d = cc
-          by_tuple (Redirect y u) d = cc
-          by_tuple Placeholder d = cc
+      root_child : x.block < 3 → x.offset ≡ 0 → IsInnerRoot P (spots_of P) x.block ⊎ IsLeafRoot P (spots_of P) x.block → (z : Place) × (w : Frame) × (ns : List (Option Place)) × Source x z × (tuple_at P z ≡ Inner w ns) × (get_or ns i None ≡ Some y)
+      root_child g z (inl (w, ns, e, f)) = (place x.block 1, w, ns, inr (g, z, refl), ap (λ ts. tuple_on ts 1) e, sym (ap (λ s. child_of s i) (ap (λ o. spots_of P (place x.block o)) z ∙ f)) ∙ c)
+      root_child g z (inr (ls, e, f)) = let a = sym (ap (λ s. child_of s i) (ap (λ o. spots_of P (place x.block o)) z ∙ f)) ∙ c in cc
 
   pub targets : (x : Place) (i : ℕ) (y : Place) → child_of (spots_of P x) i ≡ Some y → IsStanding (spots_of P y) × (y.offset ≡ 0 → ⊥)
   targets x i y c =
@@ -184,19 +182,17 @@ module _ (P : Pages) (H : Shape P) where
           let s : spots_of P z ≡ Branch w ns = branch_at (tuples_of P z.block) z.offset (spots_of P z) w ns (shown z k) e in
           let (o, c, (ks, v)) = f k (subst IsStanding (sym s) tt) in
           (o, c, (i ∷ ks, (z, v, ap (λ t. child_of t i) s ∙ b)))
-      by_downlink f w ns e b (inl k) = ⊎_elim (λ (w2, ns2, c, d). at_one (cases_eq z.offset 1) d) (λ q. let c = sym e ∙ empty z.offset q in cc) (root_page z.block k)
+      by_downlink f w ns e b (inl k) = ⊎_elim
+          (λ q. let c = sym (none_on (page_of P z.block) z.offset (ap (page_of P) q ∙ H.meta)) ∙ e in cc)
+          (λ q. at_root_page (spots_root z.block (omega arith) k)) (cases_eq z.block 0)
         where
-          empty : (o : ℕ) → page_of P z.block ≡ [] → tuples_of P z.block o ≡ Placeholder
-          empty zero q = refl
-          empty (suc o) q = ap (λ ts. get_or ts o Placeholder) q
-
-          at_one : (z.offset ≡ 1) ⊎ (z.offset ≡ 1 → ⊥) → ((o : ℕ) → (o ≡ 1 → ⊥) → tuples_of P z.block o ≡ Placeholder) → FromRoot C x
-          at_one (inr n) d = let c = sym e ∙ d z.offset n in cc
-          at_one (inl q) d =
-              let F : Tuple → Spot = λ t. elim t [ Inner w ns ↦ Branch w ns | Live l m ↦ cond (is_led_to (tuples_of P z.block) 2 1) Nothing (Bucket (l ∷ chain_at (tuples_of P z.block) 2 m)) | Dead ↦ Bucket [] | Redirect y u ↦ Forward y u | Placeholder ↦ Nothing ] in
-              let t : tuples_of P z.block 1 ≡ Inner w ns = ap (tuples_of P z.block) (sym q) ∙ e in
-              let s : spots_of P (place z.block 0) ≡ Branch w ns = at_root z.block k ∙ ap F t in
-              (place z.block 0, (refl, subst IsStanding (sym s) tt), (i ∷ [], (place z.block 0, refl, ap (λ u. child_of u i) s ∙ b)))
+          at_root_page : IsInnerRoot P (spots_of P) z.block ⊎ IsLeafRoot P (spots_of P) z.block → FromRoot C x
+          at_root_page (inr (ls, c, s)) = absurd (⊎_elim (λ q. let d = sym q ∙ ap (λ ts. tuple_on ts z.offset) (sym c) ∙ e in cc) (λ (l, m, q). let d = sym q ∙ ap (λ ts. tuple_on ts z.offset) (sym c) ∙ e in cc) (flat_on ls z.offset))
+          at_root_page (inl (v, ms, c, s)) = ⊎_elim
+              (λ q. let d : Inner v ms ≡ Inner w ns = sym (ap (λ ts. tuple_on ts 1) c) ∙ ap (tuples_of P z.block) (sym q) ∙ e in
+              let same : ms ≡ ns = cc in
+              (place z.block 0, (refl, subst IsStanding (sym s) tt), (i ∷ [], (place z.block 0, refl, ap (λ u. child_of u i) s ∙ ap (λ us. get_or us i None) same ∙ b))))
+              (λ q. let d = sym (alone_on v ms z.offset q) ∙ ap (λ ts. tuple_on ts z.offset) (sym c) ∙ e in cc) (cases_eq z.offset 1)
 
       no_next : (l : Leaf) (n : ℕ) → tuple_at P z ≡ Live l n → (n ≡ 0 → ⊥) → x ≡ place z.block n → ⊥
       no_next l n e o q =
@@ -210,39 +206,22 @@ module _ (P : Pages) (H : Shape P) where
       (λ g. ⊎_elim (λ z. (x, (z, h), ([], refl))) (λ z. absurd (subst IsStanding (at_none x g z) h)) (cases_eq x.offset 0))
       (λ g. let (ks, r) = H.reached x g (standing_is (tuples_of P x.block) x.offset (spots_of P x) (shown x g) h) in up C ks x g h r) (cases_lt x.block 3)
 
-  root_spot : (b : ℕ) → b < 3 → ((w : Frame) × (ns : List (Option Place)) × (0 < b) × (spots_of P (place b 0) ≡ Branch w ns)) ⊎ (spots_of P (place b 0) ≡ Nothing)
-  root_spot b g = ⊎_elim
-      (λ z. inr (at_root b g ∙ ap F (ap (λ c. tuples_of P c 1) z ∙ ap (λ ts. tuple_on ts 1) H.meta)))
-      (λ z. let (w, ns, e) = H.root b (omega arith) g in inl (w, ns, omega arith, at_root b g ∙ ap F (ap (λ ts. tuple_on ts 1) e))) (cases_eq b 0)
-    where
-      F : Tuple → Spot
-      F t = elim t [ Inner w ns ↦ Branch w ns | Live l m ↦ cond (is_led_to (tuples_of P b) 2 1) Nothing (Bucket (l ∷ chain_at (tuples_of P b) 2 m)) | Dead ↦ Bucket [] | Redirect y u ↦ Forward y u | Placeholder ↦ Nothing ]
-
-  low_spot : (x : Place) → x.block < 3 → ((w : Frame) × (ns : List (Option Place)) × (0 < x.block) × (x.offset ≡ 0) × (spots_of P x ≡ Branch w ns)) ⊎ (spots_of P x ≡ Nothing)
+  low_spot : (x : Place) → x.block < 3 → ((0 < x.block) × (x.offset ≡ 0) × ((y : Place) (u : ℕ) → spots_of P x ≡ Forward y u → ⊥)) ⊎ (spots_of P x ≡ Nothing)
   low_spot x g = ⊎_elim
       (λ z. let at : spots_of P x ≡ spots_of P (place x.block 0) = ap (λ o. spots_of P (place x.block o)) z in
-      ⊎_elim (λ (w, ns, h, e). inl (w, ns, h, z, at ∙ e)) (λ e. inr (at ∙ e)) (root_spot x.block g))
+      ⊎_elim (λ q. inr (at_meta x q)) (λ q. inl (omega arith, z, ⊎_elim (λ (w, ns, e, f) y u c. let d = sym (at ∙ f) ∙ c in cc) (λ (ls, e, f) y u c. let d = sym (at ∙ f) ∙ c in cc) (spots_root x.block (omega arith) g))) (cases_eq x.block 0))
       (λ z. inr (at_none x g z)) (cases_eq x.offset 0)
 
   pub spots_stamps : (x y : Place) (u : ℕ) → spots_of P x ≡ Forward y u → u < P.clock
   spots_stamps x y u e = ⊎_elim
-      (λ g. ⊎_elim (λ (w, ns, h, z, a). let b = sym a ∙ e in cc) (λ a. let b = sym a ∙ e in cc) (low_spot x g))
+      (λ g. ⊎_elim (λ (h, z, n). absurd (n y u e)) (λ a. let b = sym a ∙ e in cc) (low_spot x g))
       (λ g. H.stamps x y u (subst (λ (s : Spot). Shows (tuples_of P x.block) x.offset s) e (shown x g))) (cases_lt x.block 3)
-
-  pub spots_inner : (b : ℕ) → 0 < b → b < 3 → IsInnerRoot P (spots_of P) b
-  spots_inner b h g = let (w, ns, e) = H.root b h g in (w, ns, e, branch b g w ns (ap (λ ts. tuple_on ts 1) e))
-    where
-      branch : (b : ℕ) → b < 3 → (w : Frame) (ns : List (Option Place)) → tuples_of P b 1 ≡ Inner w ns → spots_of P (place b 0) ≡ Branch w ns
-      branch b g w ns e = at_root b g ∙ ap F e
-        where
-          F : Tuple → Spot
-          F t = elim t [ Inner w ns ↦ Branch w ns | Live l m ↦ cond (is_led_to (tuples_of P b) 2 1) Nothing (Bucket (l ∷ chain_at (tuples_of P b) 2 m)) | Dead ↦ Bucket [] | Redirect y u ↦ Forward y u | Placeholder ↦ Nothing ]
 
   pub spots_shown : IsShown P (spots_of P)
   spots_shown = record {
     meta = H.meta;
-    root = λ b h g. inl (spots_inner b h g);
-    low = λ x g s. ⊎_elim (λ (w, ns, h, z, a). (h, z)) (λ a. absurd (subst IsStanding a s)) (low_spot x g);
+    root = spots_root;
+    low = λ x g s. ⊎_elim (λ (h, z, n). (h, z)) (λ a. absurd (subst IsStanding a s)) (low_spot x g);
     pages = λ b g. subst (λ (Z : ℕ → Spot). IsLaidOut (tuples_of P b) Z) (fun_ext (λ o. sym (at_page (place b o) g))) (laid b g);
   }
 

@@ -3,11 +3,12 @@ use Rattle.std.proofs.lemmas.Bool.{cases_eq, cases_lt}
 use Rattle.spg_forest.specs.View.{Place, Leaf, Class, Steps}
 use Rattle.spg_forest.specs.Spot.{Frame, Spot, Branch, Bucket, Forward, Nothing, IsStanding, IsTree, child_of, view_of}
 use Rattle.spg_forest.specs.Tuples.{Tuple, Inner, Live, Dead, Redirect, Placeholder, IsHead, Shows, Trail}
-use Rattle.spg_forest.specs.Pages.{Pages, place, page_of, tuples_of, tuple_on, IsShown, IsInnerRoot}
-use Rattle.spg_forest.specs.Shape.{Shape, tuple_at, links_of, leads, IsTarget, IsLive, IsReachedBy}
+use Rattle.spg_forest.specs.Pages.{Pages, place, page_of, tuples_of, tuple_on, IsShown, IsInnerRoot, IsLeafRoot}
+use Rattle.spg_forest.specs.Links.{IsLinked, tuple_at, links_of, leads, IsTarget, IsLive, IsReachedBy}
+use Rattle.spg_forest.proofs.Flat.{none_on, alone_on, flat_on}
 use Rattle.spg_forest.proofs.Front.{branch_at, nothing_at}
 use Rattle.spg_forest.proofs.Trees.{stands_as_parent}
-use Rattle.spg_forest.proofs.Shapes.{link_cases, next_leads, not_behind, standing_is, standing_target, branch_of}
+use Rattle.spg_forest.proofs.FromLinks.{link_cases, next_leads, not_behind, standing_is, standing_target, branch_of}
 
 forward_at : (T : ℕ → Tuple) (o : ℕ) (s : Spot) (y : Place) (u : ℕ) → Shows T o s → T o ≡ Redirect y u → s ≡ Forward y u
 forward_at T o (Branch w ns) y u h e = cc
@@ -17,28 +18,23 @@ forward_at T o (Bucket (l ∷ ls)) y u h e = let a = h.0.1 in cc
 forward_at T o Nothing y u (inl h) e = cc
 forward_at T o Nothing y u (inr (l, n, k, m, a, b)) e = cc
 
-module _ {R K : Type 0} (C : Class Frame R K) (P : Pages) (V : Place → Spot) (H : IsShown P V) (I : (b : ℕ) → 0 < b → b < 3 → IsInnerRoot P V b) (T : IsTree C V P.clock) where
+module _ {R K : Type 0} (C : Class Frame R K) (P : Pages) (V : Place → Spot) (H : IsShown P V) (T : IsTree C V P.clock) where
   -- an inner tuple is shown by its place, or by its root
   shown_by : (x : Place) (w : Frame) (ns : List (Option Place)) → tuple_at P x ≡ Inner w ns → (z : Place) × (V z ≡ Branch w ns) × (((3 ≤ x.block) × (z ≡ x)) ⊎ ((x ≡ place x.block 1) × (z ≡ place x.block 0)))
   shown_by x w ns e = ⊎_elim
-      (λ g. ⊎_elim (λ q. let a = sym (empty x.offset (ap (page_of P) q ∙ H.meta)) ∙ e in cc) (λ q. let (v, ms, a, b) = I x.block (omega arith) g in at_root v ms a b (cases_eq x.offset 1)) (cases_eq x.block 0))
+      (λ g. ⊎_elim (λ q. let a = sym (none_on (page_of P x.block) x.offset (ap (page_of P) q ∙ H.meta)) ∙ e in cc) (λ q. low g (H.root x.block (omega arith) g)) (cases_eq x.block 0))
       (λ g. (x, branch_at (tuples_of P x.block) x.offset (V x) w ns ((H.pages x.block g).shows x.offset) e, inl (g, refl))) (cases_lt x.block 3)
     where
-      empty : (o : ℕ) → page_of P x.block ≡ [] → tuples_of P x.block o ≡ Placeholder
-      empty zero q = refl
-      empty (suc o) q = ap (λ ts. get_or ts o Placeholder) q
-
       at_root : (v : Frame) (ms : List (Option Place)) → page_of P x.block ≡ Inner v ms ∷ [] → V (place x.block 0) ≡ Branch v ms → (x.offset ≡ 1) ⊎ (x.offset ≡ 1 → ⊥) → (z : Place) × (V z ≡ Branch w ns) × (((3 ≤ x.block) × (z ≡ x)) ⊎ ((x ≡ place x.block 1) × (z ≡ place x.block 0)))
       at_root v ms a b (inl q) =
           let c : Inner v ms ≡ Inner w ns = sym (ap (λ ts. tuple_on ts 1) a) ∙ ap (tuples_of P x.block) (sym q) ∙ e in
           let d : Branch v ms ≡ Branch w ns = ap₂ (λ f g. Branch f g) (let p : v ≡ w = cc in p) (let p : ms ≡ ns = cc in p) in
           (place x.block 0, b ∙ d, inr (ap (λ o. place x.block o) q, refl))
-      at_root v ms a b (inr n) = let c = sym (other v ms x.offset n) ∙ ap (λ ts. tuple_on ts x.offset) (sym a) ∙ e in cc
-        where
-          other : (v : Frame) (ms : List (Option Place)) (o : ℕ) → (o ≡ 1 → ⊥) → tuple_on (Inner v ms ∷ []) o ≡ Placeholder
-          other v ms zero n = refl
-          other v ms (suc zero) n = absurd (n refl)
-          other v ms (suc (suc o)) n = refl
+      at_root v ms a b (inr n) = let c = sym (alone_on v ms x.offset n) ∙ ap (λ ts. tuple_on ts x.offset) (sym a) ∙ e in cc
+
+      low : x.block < 3 → IsInnerRoot P V x.block ⊎ IsLeafRoot P V x.block → (z : Place) × (V z ≡ Branch w ns) × (((3 ≤ x.block) × (z ≡ x)) ⊎ ((x ≡ place x.block 1) × (z ≡ place x.block 0)))
+      low g (inl (v, ms, a, b)) = at_root v ms a b (cases_eq x.offset 1)
+      low g (inr (ls, a, b)) = absurd (⊎_elim (λ q. let d = sym q ∙ ap (λ ts. tuple_on ts x.offset) (sym a) ∙ e in cc) (λ (l, m, q). let d = sym q ∙ ap (λ ts. tuple_on ts x.offset) (sym a) ∙ e in cc) (flat_on ls x.offset))
 
   high : (y : Place) → IsStanding (V y) → (y.offset ≡ 0 → ⊥) → 3 ≤ y.block
   high y h z = ⊎_elim (λ g. absurd (z (H.low y g h).1)) (λ g. g) (cases_lt y.block 3)
@@ -48,32 +44,21 @@ module _ {R K : Type 0} (C : Class Frame R K) (P : Pages) (V : Place → Spot) (
       let (z, b, s) = shown_by x w ns e in
       let (t, o) = T.targets z i y (ap (λ v. child_of v i) b ∙ a) in (high y t o, t)
 
-  low_live : (x : Place) (l : Leaf) (n : ℕ) → tuple_at P x ≡ Live l n → 3 ≤ x.block
-  low_live x l n e = ⊎_elim (λ g. absurd (⊎_elim (λ q. let a = sym (empty x.offset (ap (page_of P) q ∙ H.meta)) ∙ e in cc) (λ q. let (v, ms, a, b) = I x.block (omega arith) g in no x.offset v ms (ap (λ ts. tuple_on ts x.offset) (sym a) ∙ e)) (cases_eq x.block 0))) (λ g. g) (cases_lt x.block 3)
-    where
-      empty : (o : ℕ) → page_of P x.block ≡ [] → tuples_of P x.block o ≡ Placeholder
-      empty zero q = refl
-      empty (suc o) q = ap (λ ts. get_or ts o Placeholder) q
+  -- on a page below 3 stands an inner tuple, or a leaf without next offset, or nothing
+  low_cases : (x : Place) → x.block < 3 → ((w : Frame) × (ns : List (Option Place)) × (tuple_at P x ≡ Inner w ns)) ⊎ (((l : Leaf) × (tuple_at P x ≡ Live l 0)) ⊎ (tuple_at P x ≡ Placeholder))
+  low_cases x g = ⊎_elim
+      (λ q. inr (inr (none_on (page_of P x.block) x.offset (ap (page_of P) q ∙ H.meta))))
+      (λ q. ⊎_elim (λ (w, ns, a, b). ⊎_elim (λ c. inl (w, ns, ap (tuples_of P x.block) c ∙ ap (λ ts. tuple_on ts 1) a)) (λ c. inr (inr (ap (λ ts. tuple_on ts x.offset) a ∙ alone_on w ns x.offset c))) (cases_eq x.offset 1))
+      (λ (ls, a, b). ⊎_elim (λ c. inr (inr (ap (λ ts. tuple_on ts x.offset) a ∙ c))) (λ (l, m, c). inr (inl (l, ap (λ ts. tuple_on ts x.offset) a ∙ c))) (flat_on ls x.offset)) (H.root x.block (omega arith) g)) (cases_eq x.block 0)
 
-      no : (o : ℕ) (v : Frame) (ms : List (Option Place)) → tuple_on (Inner v ms ∷ []) o ≡ Live l n → ⊥
-      no zero v ms a = cc
-      no (suc zero) v ms a = cc
-      no (suc (suc o)) v ms a = cc
+  low_live : (x : Place) (l : Leaf) (n : ℕ) → tuple_at P x ≡ Live l n → (n ≡ 0 → ⊥) → 3 ≤ x.block
+  low_live x l n e z = ⊎_elim (λ g. absurd (⊎_elim (λ (w, ns, a). let c = sym a ∙ e in cc) (λ a. ⊎_elim (λ (m, b). let c : Live m 0 ≡ Live l n = sym b ∙ e in let d : 0 ≡ n = cc in z (sym d)) (λ b. let c = sym b ∙ e in cc) a) (low_cases x g))) (λ g. g) (cases_lt x.block 3)
 
   low_redirect : (x y : Place) (u : ℕ) → tuple_at P x ≡ Redirect y u → 3 ≤ x.block
-  low_redirect x y u e = ⊎_elim (λ g. absurd (⊎_elim (λ q. let a = sym (empty x.offset (ap (page_of P) q ∙ H.meta)) ∙ e in cc) (λ q. let (v, ms, a, b) = I x.block (omega arith) g in no x.offset v ms (ap (λ ts. tuple_on ts x.offset) (sym a) ∙ e)) (cases_eq x.block 0))) (λ g. g) (cases_lt x.block 3)
-    where
-      empty : (o : ℕ) → page_of P x.block ≡ [] → tuples_of P x.block o ≡ Placeholder
-      empty zero q = refl
-      empty (suc o) q = ap (λ ts. get_or ts o Placeholder) q
-
-      no : (o : ℕ) (v : Frame) (ms : List (Option Place)) → tuple_on (Inner v ms ∷ []) o ≡ Redirect y u → ⊥
-      no zero v ms a = cc
-      no (suc zero) v ms a = cc
-      no (suc (suc o)) v ms a = cc
+  low_redirect x y u e = ⊎_elim (λ g. absurd (⊎_elim (λ (w, ns, a). let c = sym a ∙ e in cc) (λ a. ⊎_elim (λ (m, b). let c = sym b ∙ e in cc) (λ b. let c = sym b ∙ e in cc) a) (low_cases x g))) (λ g. g) (cases_lt x.block 3)
 
   live_at : (b o n : ℕ) (l : Leaf) → tuples_of P b o ≡ Live l n → (n ≡ 0 → ⊥) → IsLive (tuples_of P b n)
-  live_at b o n l e z = ⊎_elim (λ q. absurd (z q)) (λ (m, k, a). subst IsLive (sym a) tt) ((H.pages b (low_live (place b o) l n e)).next o n l e)
+  live_at b o n l e z = ⊎_elim (λ q. absurd (z q)) (λ (m, k, a). subst IsLive (sym a) tt) ((H.pages b (low_live (place b o) l n e z)).next o n l e)
 
   -- a downlink and a next offset do not lead to one tuple
   not_both : (x y z : Place) (w : Frame) (ns : List (Option Place)) (i n : ℕ) (l : Leaf) → tuple_at P y ≡ Inner w ns → get_or ns i None ≡ Some x → tuple_at P z ≡ Live l n → (n ≡ 0 → ⊥) → x ≡ place z.block n → ⊥
@@ -110,17 +95,18 @@ module _ {R K : Type 0} (C : Class Frame R K) (P : Pages) (V : Place → Spot) (
       let blocks : y.block ≡ z.block = ap (λ (u : Place). u.block) (sym q ∙ r) in
       let same : n ≡ m = ap (λ (u : Place). u.offset) (sym q ∙ r) in
       let g : tuples_of P y.block z.offset ≡ Live k n = ap (λ c. tuples_of P c z.offset) blocks ∙ f ∙ ap (λ v. Live k v) (sym same) in
-      let at : y.offset ≡ z.offset = ⊎_elim (λ t. absurd (o t)) (λ t. t) ((H.pages y.block (low_live y l n e)).before y.offset z.offset n l k e g) in
+      let at : y.offset ≡ z.offset = ⊎_elim (λ t. absurd (o t)) (λ t. t) ((H.pages y.block (low_live y l n e o)).before y.offset z.offset n l k e g) in
       ((λ t. record { block = blocks t; offset = at t }), i0 ∙ sym j0)) (link_cases z.block (tuple_at P z) j x b)) (link_cases y.block (tuple_at P y) i x a)
 
   -- links lead to what downlinks of spots lead to
   links : (ks : List ℕ) (o x : Place) → IsStanding (V o) → o.offset ≡ 0 → 3 ≤ x.block → Steps (view_of C V) o ks x → IsStanding (V x) → (js : List ℕ) × IsReachedBy P js x
   links [] o x h z g e s = absurd (page_0 x.block g (subst (λ (t : Place). IsStanding (V t)) (e ∙ (λ t. record { block = x.block; offset = (ap (λ (u : Place). u.offset) (sym e) ∙ z) t })) h))
   links (i ∷ is) o x h z g (y, a, c) s = ⊎_elim
-      (λ k. let (n, q) = H.low y k (stands_as_parent (V y) i x c) in let (w, ns, e, f) = I y.block n k in
+      (λ k. let (n, q) = H.low y k (stands_as_parent (V y) i x c) in
       let same : y ≡ place y.block 0 = λ t. record { block = y.block; offset = q t } in
-      let d : get_or ns i None ≡ Some x = sym (ap (λ u. child_of u i) (ap V same ∙ f)) ∙ c in
+      ⊎_elim (λ (w, ns, e, f). let d : get_or ns i None ≡ Some x = sym (ap (λ u. child_of u i) (ap V same ∙ f)) ∙ c in
       (i ∷ [], (place y.block 1, k, ap (λ ts. get_or (links_of y.block (tuple_on ts 1)) i None) e ∙ d)))
+      (λ (ls, e, f). let d = sym (ap (λ u. child_of u i) (ap V same ∙ f)) ∙ c in cc) (H.root y.block n k))
       (λ k. let (w, ns, e, d) = branch_of (tuples_of P y.block) y.offset (V y) i x ((H.pages y.block k).shows y.offset) c in
       let (js, r) = links is o y h z k a (stands_as_parent (V y) i x c) in
       (i ∷ js, (y, r, ap (λ t. get_or (links_of y.block t) i None) e ∙ d))) (cases_lt y.block 3)
@@ -156,10 +142,10 @@ module _ {R K : Type 0} (C : Class Frame R K) (P : Pages) (V : Place → Spot) (
   reached b o (Redirect y u) g e a = absurd a
   reached b o Placeholder g e a = absurd a
 
-  pub to_shape : Shape P
-  to_shape = record {
+  pub to_links : IsLinked P
+  to_links = record {
     meta = H.meta;
-    root = λ b g k. let (w, ns, e, f) = I b g k in (w, ns, e);
+    root = λ b g k. ⊎_elim (λ (w, ns, e, f). inl (w, ns, e)) (λ (ls, e, f). inr (ls, e)) (H.root b g k);
     downlink = λ x w ns i y e a. let (g, h) = downlink x w ns i y e a in (g, standing_is (tuples_of P y.block) y.offset (V y) ((H.pages y.block g).shows y.offset) h);
     next = λ b o n l e z. live_at b o n l e z;
     one = one;
