@@ -221,7 +221,7 @@ module _ (P : Pages) (H : IsLinked P) where
   spots_shown = record {
     meta = H.meta;
     root = spots_root;
-    low = λ x g s. ⊎_elim (λ (h, z, n). (h, z)) (λ a. absurd (subst IsStanding a s)) (low_spot x g);
+    low = λ x g. ⊎_elim (λ (h, z, n). inl (h, z)) (λ a. inr a) (low_spot x g);
     pages = λ b g. subst (λ (Z : ℕ → Spot). IsLaidOut (tuples_of P b) Z) (fun_ext (λ o. sym (at_page (place b o) g))) (laid b g);
   }
 

@@ -6,6 +6,7 @@ use Rattle.spg_forest.specs.Tuples.{Tuple, Inner, Live, Placeholder, IsChain, Is
 use Rattle.spg_forest.specs.Pages.{Pages, place, page_of, tuples_of, tuple_on, all_live, IsShown}
 use Rattle.spg_forest.specs.Links.{RowsOnce, RowsApart, tuple_at}
 use Rattle.spg_forest.proofs.Flat.{leaf_on, flat_in, flat_once, flat_apart, none_on, alone_on}
+use Rattle.spg_forest.proofs.Lists.{low_standing}
 use Rattle.spg_forest.proofs.Trees.{stands_with_leaf}
 
 in_chain : (T : ℕ → Tuple) (ls : List Leaf) (h : ℕ) (l : Leaf) → IsChain T h ls → IsIn l ls → (j o n : ℕ) × Trail T j h o × (T o ≡ Live l n)
@@ -54,7 +55,7 @@ module _ (P : Pages) (V : Place → Spot) (H : IsShown P V) where
   pub found : (x : Place) (l : Leaf) → IsIn l (leaves_of (V x)) → LowLeaf x l ⊎ HighLeaf x l
   unfolding LowLeaf HighLeaf
   found x l a = ⊎_elim
-      (λ g. let (b, z) = H.low x g (stands_with_leaf (V x) l a) in
+      (λ g. let (b, z) = low_standing P V H x g (stands_with_leaf (V x) l a) in
       let at : V x ≡ V (place x.block 0) = ap (λ o. V (place x.block o)) z in
       ⊎_elim (λ (w, ns, e, f). absurd (subst (λ (s : Spot). IsIn l (leaves_of s)) (at ∙ f) a))
       (λ (ls, e, f). let (o, q) = leaf_on ls l (subst (λ (s : Spot). IsIn l (leaves_of s)) (at ∙ f) a) in inl (g, z, (suc o, ap (λ ts. tuple_on ts (suc o)) e ∙ q))) (H.root x.block b g))
@@ -103,7 +104,7 @@ module _ (P : Pages) (V : Place → Spot) (H : IsShown P V) (A : RowsApart P) wh
   once_at x (Bucket []) e = tt
   once_at x (Bucket (l ∷ ls)) e = ⊎_elim
       (λ g. let here : IsIn l (leaves_of (V x)) = subst (λ (s : Spot). IsIn l (leaves_of s)) (sym e) (inl refl) in
-      let (b, z) = H.low x g (stands_with_leaf (V x) l here) in
+      let (b, z) = low_standing P V H x g (stands_with_leaf (V x) l here) in
       let at : V x ≡ V (place x.block 0) = ap (λ o. V (place x.block o)) z in
       ⊎_elim (λ (w, ns, q, f). let c = sym e ∙ at ∙ f in cc)
       (λ (ms, q, f). let c : Bucket ms ≡ Bucket (l ∷ ls) = sym f ∙ sym at ∙ e in let same : ms ≡ l ∷ ls = cc in

@@ -1,7 +1,7 @@
 use Rattle.std.specs.Prelude.{◌≡◌, ℕ, zero, suc, ◌<◌, ◌≤◌, List, [], ◌∷◌, ◌++◌, ◌⊎◌, ◌↔◌, Option, Some, None, get_or, set, length, nat_le, cond, if◌then◌else◌}
 use Rattle.spg_base.specs.Row.{RowAt}
 use Rattle.spg_forest.specs.View.{Place, Leaf, Class, ReconAt, Entry, IsStable}
-use Rattle.spg_forest.specs.Spot.{Frame, Spot, Branch, Bucket, IsStanding, IsIn, IsTree, view_of, put_at, leaves_of, same_place}
+use Rattle.spg_forest.specs.Spot.{Frame, Spot, Branch, Bucket, Nothing, IsIn, IsTree, view_of, put_at, leaves_of, same_place}
 use Rattle.spg_forest.specs.Tuples.{Tuple, Inner, Live, Redirect, Placeholder, IsLaidOut, IsChainOf, AreFree, put_on, without, with_chain, first_of}
 
 pub record Pages : Type 0 where
@@ -45,7 +45,8 @@ IsLeafRoot P V b = (ls : List Leaf) × (page_of P b ≡ all_live ls) × (V (plac
 pub record IsShown (P : Pages) (V : Place → Spot) : Type 0 where
   pub meta : page_of P 0 ≡ []
   pub root : (b : ℕ) → 0 < b → b < 3 → IsInnerRoot P V b ⊎ IsLeafRoot P V b
-  pub low : (x : Place) → x.block < 3 → IsStanding (V x) → (0 < x.block) × (x.offset ≡ 0)
+  -- on these blocks nothing else stands
+  pub low : (x : Place) → x.block < 3 → ((0 < x.block) × (x.offset ≡ 0)) ⊎ (V x ≡ Nothing)
   pub pages : (b : ℕ) → 3 ≤ b → IsLaidOut (tuples_of P b) (λ o. V (place b o))
 
 -- V is what P shows, and a tree
