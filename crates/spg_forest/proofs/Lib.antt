@@ -42,3 +42,4 @@ pub mod Rows
 pub mod Read
 pub mod Put
 pub mod Move
+pub mod NewIndex

@@ -45,15 +45,14 @@ chain_of_bucket T o Nothing l h a = absurd a
 
 module _ (P : Pages) (V : Place → Spot) (H : IsShown P V) where
   -- what a leaf of a root leaf page tells
-  pub LowLeaf : Place → Leaf → Type 0
+  abbrev pub LowLeaf : Place → Leaf → Type 0
   LowLeaf x l = (x.block < 3) × (x.offset ≡ 0) × ((o : ℕ) × (tuples_of P x.block o ≡ Live l 0))
 
-  pub HighLeaf : Place → Leaf → Type 0
+  abbrev pub HighLeaf : Place → Leaf → Type 0
   HighLeaf x l = (3 ≤ x.block) × ((j o n : ℕ) × IsHead (tuples_of P x.block) x.offset × Trail (tuples_of P x.block) j x.offset o × (tuples_of P x.block o ≡ Live l n))
 
   -- a leaf of a bucket is a tuple of its page
   pub found : (x : Place) (l : Leaf) → IsIn l (leaves_of (V x)) → LowLeaf x l ⊎ HighLeaf x l
-  unfolding LowLeaf HighLeaf
   found x l a = ⊎_elim
       (λ g. let (b, z) = low_standing P V H x g (stands_with_leaf (V x) l a) in
       let at : V x ≡ V (place x.block 0) = ap (λ o. V (place x.block o)) z in
@@ -64,7 +63,6 @@ module _ (P : Pages) (V : Place → Spot) (H : IsShown P V) where
 
 module _ (P : Pages) (V : Place → Spot) (H : IsShown P V) (A : RowsApart P) where
   rows : (x y : Place) (l m : Leaf) → IsIn l (leaves_of (V x)) → IsIn m (leaves_of (V y)) → l.row ≡ m.row → x ≡ y
-  unfolding LowLeaf HighLeaf
   rows x y l m a b e = go (found P V H x l a) (found P V H y m b)
     where
       go : LowLeaf P V H x l ⊎ HighLeaf P V H x l → LowLeaf P V H y m ⊎ HighLeaf P V H y m → x ≡ y
