@@ -107,8 +107,8 @@ module _ (P : Pages) (V : Place → Spot) (H : IsShown P V) (A : RowsApart P) wh
       ⊎_elim (λ (w, ns, q, f). let c = sym e ∙ at ∙ f in cc)
       (λ (ms, q, f). let c : Bucket ms ≡ Bucket (l ∷ ls) = sym f ∙ sym at ∙ e in let same : ms ≡ l ∷ ls = cc in
       subst NoRepeat same (flat_once ms (λ o p k m u v r.
-          let d : place x.block (suc o) ≡ place x.block (suc p) = A (place x.block (suc o)) (place x.block (suc p)) k m 0 0 (ap (λ ts. tuple_on ts (suc o)) q ∙ u) (ap (λ ts. tuple_on ts (suc p)) q ∙ v) r in
-          let h : suc o ≡ suc p = ap (λ (i : Place). i.offset) d in omega arith))) (H.root x.block b g))
+      let d : place x.block (suc o) ≡ place x.block (suc p) = A (place x.block (suc o)) (place x.block (suc p)) k m 0 0 (ap (λ ts. tuple_on ts (suc o)) q ∙ u) (ap (λ ts. tuple_on ts (suc p)) q ∙ v) r in
+      let h : suc o ≡ suc p = ap (λ (i : Place). i.offset) d in omega arith))) (H.root x.block b g))
       (λ g. let h = subst (λ (s : Spot). Shows (tuples_of P x.block) x.offset s) e ((H.pages x.block g).shows x.offset) in
       no_repeat x.block g (l ∷ ls) x.offset 0 x.offset h.1 refl h.0) (cases_lt x.block 3)
 

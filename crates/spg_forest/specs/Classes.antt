@@ -1,5 +1,5 @@
 -- What the pages' laws use of an operator class.
-use Rattle.std.specs.Prelude.{◌≡◌, ℕ, Bool, true, List, Option, Some, None, option_map, cond, nat_eq, map}
+use Rattle.std.specs.Prelude.{◌≡◌, ℕ, Bool, true, false, List, Option, Some, None, option_map, cond, nat_eq, map}
 use Rattle.spg_base.specs.Row.{RowAt}
 use Rattle.spg_opclass.specs.Meaning.{Meaning}
 use Rattle.spg_forest.specs.View.{Place, Class, ReconAt, Entry}
@@ -19,9 +19,15 @@ abbrev pub key_of : {Key Recon Cond : Type 0} → Meaning Key Recon Cond → Opt
 key_of m None rest = Some None
 key_of m (Some recon) rest = option_map Some (m.rebuild recon rest)
 
+-- a node of the nulls tree admits a null, and one of the main tree what the class says
+abbrev pub admits_of : {Key Recon Cond : Type 0} → Meaning Key Recon Cond → Option Recon → Frame → ℕ → Option (Option Key) → Bool
+admits_of m None tuple node (Some None) = true
+admits_of m (Some recon) tuple node (Some (Some key)) = m.admits recon tuple node key
+admits_of m recon tuple node key = false
+
 -- the class as the laws take it
 abbrev pub class_of : {Key Recon Cond : Type 0} → Meaning Key Recon Cond → Class Frame (Option Recon) (Option (Option Key))
-class_of m = record { start = start_of m; down = down_of m; rebuild = key_of m }
+class_of m = record { start = start_of m; down = down_of m; rebuild = key_of m; admits = admits_of m }
 
 -- what stands at a place has this rebuilt value
 abbrev pub HasRecon : {Key Recon Cond : Type 0} → Meaning Key Recon Cond → (Place → Spot) → Place → Option Recon → Type 0
