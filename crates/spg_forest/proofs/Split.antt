@@ -3,7 +3,6 @@ use Rattle.spg_forest.specs.View.{Place, Leaf, Class, ReconAt}
 use Rattle.spg_forest.specs.Spot.{Frame, Spot, Branch, Nothing, IsIn, NoRepeat, IsTree, IsStanding, view_of, put_at, leaves_of, child_of, step_of}
 use Rattle.spg_forest.proofs.Spots.{cases_place, put_at_same, put_at_other}
 use Rattle.spg_forest.proofs.Replace.{Replaces}
-use Rattle.spg_forest.proofs.FitWay.{FitWay, Admits}
 
 -- An inner tuple is split: an upper one at z, whose node c leads to a lower one at y with the old downlinks
 module _ {R K : Type 0} (C : Class Frame R K) (V : Place → Spot) (clock : ℕ) (T : IsTree C V clock) (z y : Place) (w u lo : Frame) (ns us : List (Option Place)) (c : ℕ)
@@ -78,19 +77,3 @@ module _ {R K : Type 0} (C : Class Frame R K) (V : Place → Spot) (clock : ℕ)
     once = λ x a. ⊎_elim (λ e. subst (λ (s : Spot). NoRepeat (leaves_of s)) (sym (ap split e ∙ at_z)) tt) (λ e. subst (λ (s : Spot). NoRepeat (leaves_of s)) (sym (ap split e ∙ at_y)) tt) a;
     elsewhere = λ x l n a. ((λ v. v), (λ v. v));
   }
-
-  -- a key that the old node admits is admitted by the two
-  pub split_fits : (admits : R → Frame → ℕ → K → Type 0) (key : K) → ((r : R) (i : ℕ) → ReconAt (view_of C V) C.start z r → admits r w i key → admits r u c key × admits (C.down r u c) lo i key) →
-      (i : ℕ) (v : Place) (r : R) → child_of (V z) i ≡ Some v → ReconAt (view_of C V) C.start z r → Admits admits V key z i r → (js : List ℕ) × FitWay (view_of C split) (Admits admits split key) z r js v (step_of C.down (V z) i r)
-  split_fits admits key fits i v r a h m =
-      let (p, q) = fits r i h (m w ns ez) in (
-        i ∷ c ∷ [],
-        (
-          y,
-          C.down r u c,
-          (z, r, (refl, refl), child_z c ∙ ec, (λ f gs e. let b : Branch u us ≡ Branch f gs = sym at_z ∙ e in let g : u ≡ f = cc in subst (λ k. admits r k c key) g p), ap (λ s. step_of C.down s c r) at_z),
-          child_y i ∙ a,
-          (λ f gs e. let b : Branch lo ns ≡ Branch f gs = sym at_y ∙ e in let g : lo ≡ f = cc in subst (λ k. admits (C.down r u c) k i key) g q),
-          ap (λ s. step_of C.down s i (C.down r u c)) at_y ∙ law r i h ∙ sym (ap (λ s. step_of C.down s i r) ez),
-        ),
-      )
