@@ -1,7 +1,7 @@
 use Rattle.std.proofs.Common.{◌≡◌, ℕ, sym, subst, insert, None, inr}
 use Rattle.spg_base.specs.Row.{RowAt}
 use mathlib.Core.Path.{fun_ext}
-use Rattle.spg_forest.specs.View.{Place, Class}
+use Rattle.spg_forest.specs.View.{Place, Class, ReconAt}
 use Rattle.spg_forest.specs.Spot.{Frame, Spot, IsTree, view_of}
 use Rattle.spg_forest.specs.Tuples.{IsLaidOut}
 use Rattle.spg_forest.specs.Pages.{place, tuples_of}
@@ -32,8 +32,8 @@ split_tuple_proof C V clock z y w u lo ns us c T ez ey oy ec alone law =
     replaced_keeps C V _ clock T z (λ x. x ≡ y) none none (split_replaces C V clock T z y w u lo ns us c ez ey oy ec alone law)
 
 pub add_node_proof : AddNode
-add_node_proof C V clock z w w2 ns at T ez k below above =
-    replaced_keeps C V _ clock T z (λ x. ⊥) none none (reworked_replaces C V clock T z w w2 ns (insert ns at None) ez (widened_by_insert C w w2 ns at k below above))
+add_node_proof C V clock z w w2 ns at T ez k law =
+    replaced_keeps C V _ clock T z (λ x. ⊥) none none (reworked_replaces C V clock T z w w2 ns (insert ns at None) ez (widened_by_insert C (λ r. ReconAt (view_of C V) C.start z r) w w2 ns at k law))
 
 pub put_at_empty_proof : PutAtEmpty
 put_at_empty_proof C V clock z y w ns i new T ez ei hi ey oy fresh =

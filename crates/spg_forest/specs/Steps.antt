@@ -1,5 +1,6 @@
 use Rattle.std.specs.Prelude.{◌≡◌, ℕ, ◌+◌, ◌<◌, ◌≤◌, List, [], ◌∷◌, ◌⊎◌, Option, Some, None, get_or, set, insert, length}
 use Rattle.spg_base.specs.Row.{RowAt}
+use Rattle.spg_opclass.specs.Laws.{moved as node_after}
 use Rattle.spg_forest.specs.View.{Place, Leaf, Class, ReconAt, Entry, IsStable}
 use Rattle.spg_forest.specs.Spot.{Frame, Spot, Branch, Bucket, Forward, Nothing, IsIn, NoRepeat, IsTree, view_of, put_at, leaves_of}
 use Rattle.spg_forest.specs.Tuples.{IsLaidOut}
@@ -19,17 +20,22 @@ pub record TreeKeeps {R K : Type 0} (C : Class Frame R K) (V V2 : Place → Spot
 abbrev pub none : RowAt → Type 0
 none = λ row. ⊥
 
+-- node j of the tuple w2 means what node i of w meant
+pub record SameNode {R K : Type 0} (C : Class Frame R K) (r : R) (w : Frame) (i : ℕ) (w2 : Frame) (j : ℕ) : Type 0 where
+  pub down : C.down r w2 j ≡ C.down r w i
+  pub admits : (key : K) → C.admits r w2 j key ≡ C.admits r w i key
+
 -- an inner tuple parted into an upper one and a lower one
 abbrev pub SplitTuple : Type 0
 SplitTuple = (C : Quad) (V : Place → Spot) (clock : ℕ) (z y : Place) (w u lo : Frame) (ns us : List (Option Place)) (c : ℕ) → IsTree C V clock →
     V z ≡ Branch w ns → V y ≡ Nothing → (y.offset ≡ 0 → ⊥) → get_or us c None ≡ Some y → ((j : ℕ) (x : Place) → get_or us j None ≡ Some x → j ≡ c) →
-    ((r : List ℕ) (i : ℕ) → ReconAt (view_of C V) C.start z r → C.down (C.down r u c) lo i ≡ C.down r w i) →
+    ((r : List ℕ) (i : ℕ) → ReconAt (view_of C V) C.start z r → i < length ns → C.down (C.down r u c) lo i ≡ C.down r w i) →
     TreeKeeps C V (put_at (put_at V z (Branch u us)) y (Branch lo ns)) clock clock 0 none none (λ x. x)
 
 -- a node added in place
 abbrev pub AddNode : Type 0
 AddNode = (C : Quad) (V : Place → Spot) (clock : ℕ) (z : Place) (w w2 : Frame) (ns : List (Option Place)) (at : ℕ) → IsTree C V clock → V z ≡ Branch w ns → at ≤ length ns →
-    ((r : List ℕ) (i : ℕ) → i < at → C.down r w2 i ≡ C.down r w i) → ((r : List ℕ) (i : ℕ) → at ≤ i → C.down r w2 (i + 1) ≡ C.down r w i) →
+    ((r : List ℕ) (i : ℕ) → ReconAt (view_of C V) C.start z r → i < length ns → SameNode C r w i w2 (node_after at i)) →
     TreeKeeps C V (put_at V z (Branch w2 (insert ns at None))) clock clock 0 none none (λ x. x)
 
 -- a leaf put at an empty downlink
