@@ -42,3 +42,6 @@ pub mod Read
 pub mod Put
 pub mod Move
 pub mod NewIndex
+pub mod Keeps
+pub mod FitSteps
+pub mod TreeSteps

@@ -1,7 +1,8 @@
-use Rattle.std.proofs.Common.{◌≡◌, ℕ, List, [], ◌∷◌, ◌⊎◌, ⊎_elim, Option, Some, None, get_or, refl, sym, ap, ◌∙◌, subst, inl, inr}
+use Rattle.std.proofs.Common.{◌≡◌, ℕ, List, [], ◌∷◌, ◌⊎◌, ⊎_elim, Option, Some, None, get_or, true, refl, sym, ap, ◌∙◌, subst, inl, inr}
 use Rattle.spg_base.specs.Row.{RowAt}
 use Rattle.spg_forest.specs.View.{Place, Leaf, Class, ReconAt}
 use Rattle.spg_forest.specs.Spot.{Frame, Spot, Branch, Bucket, Nothing, IsIn, NoRepeat, IsTree, IsStanding, view_of, leaves_of, child_of, step_of}
+use Rattle.spg_forest.specs.Fit.{Admits, WayFits, admit_of}
 use Rattle.spg_forest.proofs.Trees.{recon_once}
 use Rattle.spg_forest.proofs.Replace.{Replaces}
 
@@ -62,3 +63,21 @@ module _ {R K : Type 0} (C : Class Frame R K) (V V2 : Place → Spot) (clock : �
     once = λ x a. ⊎_elim (λ e. subst (λ (s : Spot). NoRepeat (leaves_of s)) (sym (ap V2 e ∙ E.at)) tt) (λ (j, e). subst (λ (s : Spot). NoRepeat (leaves_of s)) (sym (E.lists j x e).0) (D.once j)) a;
     elsewhere = λ x l n a. (fresh x l n a, (λ v. v));
   }
+
+  -- each leaf goes below a node that admits its key, where the lists are so made
+  pub parted_lands : (key : K) → ((j : ℕ) (m : Leaf) → IsIn m (L j) → C.rebuild (C.down r w j) m.rest ≡ key → C.admits r w j key ≡ true) → (l : Leaf) (q : R) → IsIn l (leaves_of (V z)) → ReconAt (view_of C V) C.start z q → C.rebuild q l.rest ≡ key →
+      (y : Place) × (m : Leaf) × (ks : List ℕ) × (s : R) × WayFits C V2 key z q ks y s × IsIn m (leaves_of (V2 y)) × (m.row ≡ l.row) × (C.rebuild s m.rest ≡ C.rebuild q l.rest)
+  parted_lands key placed l q a h e =
+      let same : q ≡ r = recon_once C V clock T z q r h rc in
+      let (j, y, m, b, c, d, k) = D.from l (subst (λ (s : Spot). IsIn l (leaves_of s)) ev a) in
+      let fits : C.admits r w j key ≡ true = placed j m c (k ∙ ap (λ t. C.rebuild t l.rest) (sym same) ∙ e) in
+      (
+        y,
+        m,
+        j ∷ [],
+        C.down q w j,
+        (z, q, (refl, refl), ap (λ s. child_of s j) E.at ∙ b, ap (λ s. admit_of C s j q key) E.at ∙ ap (λ t. C.admits t w j key) same ∙ fits, ap (λ s. step_of C.down s j q) E.at),
+        subst (λ (s : Spot). IsIn m (leaves_of s)) (sym (E.lists j y b).0) c,
+        d,
+        ap (λ t. C.rebuild (C.down t w j) m.rest) same ∙ k ∙ ap (λ t. C.rebuild t l.rest) (sym same),
+      )

@@ -1,21 +1,25 @@
-use Rattle.std.specs.Prelude.{◌≡◌, ℕ, ◌+◌, ◌<◌, ◌≤◌, List, [], ◌∷◌, ◌⊎◌, Option, Some, None, get_or, set, insert, length}
+use Rattle.std.specs.Prelude.{◌≡◌, ℕ, true, ◌+◌, ◌<◌, ◌≤◌, List, [], ◌∷◌, ◌⊎◌, Option, Some, None, get_or, set, insert, length}
 use Rattle.spg_base.specs.Row.{RowAt}
 use Rattle.spg_opclass.specs.Laws.{moved as node_after}
 use Rattle.spg_forest.specs.View.{Place, Leaf, Class, ReconAt, Entry, IsStable}
 use Rattle.spg_forest.specs.Spot.{Frame, Spot, Branch, Bucket, Forward, Nothing, IsIn, NoRepeat, IsTree, view_of, put_at, leaves_of}
 use Rattle.spg_forest.specs.Tuples.{IsLaidOut}
+use Rattle.spg_forest.specs.Fit.{FitAt, LeafFits, KeysFit}
 use Rattle.spg_forest.specs.Pages.{Pages, place, tuples_of, IsFresh}
 use Rattle.spg_forest.specs.Links.{IsLinked, spots_of}
 
 abbrev pub Quad : Type 0
-Quad = Class Frame (List ℕ) (List ℕ)
+Quad = Class Frame (List ℕ) (Option (List ℕ))
 
 -- V2 is a tree, and what began at a stamp from `since` to the clock finds it stable
-pub record TreeKeeps {R K : Type 0} (C : Class Frame R K) (V V2 : Place → Spot) (clock clock2 since : ℕ) (removed added : RowAt → Type 0) (moved : Place → Place) : Type 0 where
+pub record TreeKeeps {R K : Type 0} (C : Class Frame R (Option K)) (V V2 : Place → Spot) (clock clock2 since : ℕ) (removed added : RowAt → Type 0) (moved : Place → Place) : Type 0 where
   pub tree : IsTree C V2 clock2
   pub stable : (s : ℕ) → since ≤ s → s ≤ clock → IsStable (view_of C V) (view_of C V2) C.start s removed added moved
-  pub entries : (row : RowAt) (key : K) → Entry C (view_of C V) row key → removed row ⊎ Entry C (view_of C V2) row key
-  pub entries_back : (row : RowAt) (key : K) → Entry C (view_of C V2) row key → added row ⊎ (Entry C (view_of C V) row key × (removed row → ⊥))
+  pub entries : (row : RowAt) (key : Option K) → Entry C (view_of C V) row key → removed row ⊎ Entry C (view_of C V2) row key
+  pub entries_back : (row : RowAt) (key : Option K) → Entry C (view_of C V2) row key → added row ⊎ (Entry C (view_of C V) row key × (removed row → ⊥))
+  -- a way whose nodes admit a key stays one, and so each leaf keeps a key that fits
+  pub fits : (x : Place) (r : R) (key : Option K) → FitAt C V key x r → FitAt C V2 key (moved x) r
+  pub keys : KeysFit C V → ((x : Place) (l : Leaf) → IsIn l (leaves_of (V2 x)) → added l.row → LeafFits C V2 x l) → KeysFit C V2
 
 abbrev pub none : RowAt → Type 0
 none = λ row. ⊥
@@ -30,6 +34,7 @@ abbrev pub SplitTuple : Type 0
 SplitTuple = (C : Quad) (V : Place → Spot) (clock : ℕ) (z y : Place) (w u lo : Frame) (ns us : List (Option Place)) (c : ℕ) → IsTree C V clock →
     V z ≡ Branch w ns → V y ≡ Nothing → (y.offset ≡ 0 → ⊥) → get_or us c None ≡ Some y → ((j : ℕ) (x : Place) → get_or us j None ≡ Some x → j ≡ c) →
     ((r : List ℕ) (i : ℕ) → ReconAt (view_of C V) C.start z r → i < length ns → C.down (C.down r u c) lo i ≡ C.down r w i) →
+    ((r : List ℕ) (i : ℕ) (key : Option (List ℕ)) → ReconAt (view_of C V) C.start z r → i < length ns → C.admits r w i key ≡ true → (C.admits r u c key ≡ true) × (C.admits (C.down r u c) lo i key ≡ true)) →
     TreeKeeps C V (put_at (put_at V z (Branch u us)) y (Branch lo ns)) clock clock 0 none none (λ x. x)
 
 -- a node added in place
