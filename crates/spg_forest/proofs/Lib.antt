@@ -45,3 +45,4 @@ pub mod NewIndex
 pub mod Keeps
 pub mod FitSteps
 pub mod TreeSteps
+pub mod Sections

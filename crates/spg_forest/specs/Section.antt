@@ -3,7 +3,6 @@ use Rattle.std.specs.Prelude.{◌≡◌, ℕ, suc, ◌+◌, ◌≤◌, ◌↔◌
 use Rattle.spg_base.specs.Row.{RowAt}
 use Rattle.spg_opclass.specs.Meaning.{Meaning}
 use Rattle.spg_forest.specs.View.{Place, IsStable}
-use Rattle.spg_forest.specs.Spot.{IsStanding}
 use Rattle.spg_forest.specs.Tuples.{IsAmong}
 use Rattle.spg_forest.specs.Classes.{class_of, start_of, HasEntry}
 use Rattle.spg_forest.specs.Fit.{FitAt}
@@ -25,18 +24,21 @@ pub record Cost : Type 0 where
   pub ticks : ℕ
   pub spread : ℕ
 
--- A section takes the pages S to S2. It changes no block but those touched, takes away the rows `removed` and brings the rows `added`. What began at a stamp from `since` to the clock finds it stable,
--- where `moved` tells where each spot has gone
-pub record Section {Key Recon Cond : Type 0} (m : Meaning Key Recon Cond) (S S2 : Sheets) (touched : List ℕ) (cost : Cost) (since : ℕ) (removed added : RowAt → Type 0) (moved : Place → Place) : Type 0 where
-  pub shape : Shape m S2
-  pub stable : (s : ℕ) → since ≤ s → s ≤ S.clock → IsStable (tree_of m S) (tree_of m S2) (start_of m) s removed added moved
-  -- a way to a standing spot whose nodes admit a key stays such a way
-  pub fits : (x : Place) (recon : Option Recon) (key : Option (Option Key)) → IsStanding (spots S x) → FitAt (class_of m) (spots S) key x recon → FitAt (class_of m) (spots S2) key (moved x) recon
+-- S2 is S but for the blocks touched, at most 8, and the costs
+pub record IsWithin (S S2 : Sheets) (touched : List ℕ) (cost : Cost) : Type 0 where
   pub others : (b : ℕ) → (IsAmong b touched → ⊥) → sheet_at S2 b ≡ sheet_at S b
   pub few : length touched ≤ 8
   pub pages : (length S.sheets ≤ length S2.sheets) × (length S2.sheets ≤ length S.sheets + cost.pages)
   pub clock : (S.clock ≤ S2.clock) × (S2.clock ≤ S.clock + cost.ticks)
   pub spread : spread S2 ≤ spread S + cost.spread
+
+-- A section takes the pages S to S2. It takes away the rows `removed` and brings the rows `added`. What began at a stamp from `since` to the clock finds it stable, where `moved` tells where each spot has gone
+pub record Section {Key Recon Cond : Type 0} (m : Meaning Key Recon Cond) (S S2 : Sheets) (touched : List ℕ) (cost : Cost) (since : ℕ) (removed added : RowAt → Type 0) (moved : Place → Place) : Type 0 where
+  pub shape : Shape m S2
+  pub stable : (s : ℕ) → since ≤ s → s ≤ S.clock → IsStable (tree_of m S) (tree_of m S2) (start_of m) s removed added moved
+  -- a way whose nodes admit a key stays such a way
+  pub fits : (x : Place) (recon : Option Recon) (key : Option (Option Key)) → FitAt (class_of m) (spots S) key x recon → FitAt (class_of m) (spots S2) key (moved x) recon
+  pub within : IsWithin S S2 touched cost
 
 -- the entries stay as they are
 abbrev pub SameEntries : {Key Recon Cond : Type 0} → Meaning Key Recon Cond → Sheets → Sheets → Type 0
