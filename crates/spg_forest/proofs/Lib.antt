@@ -46,3 +46,4 @@ pub mod Keeps
 pub mod FitSteps
 pub mod TreeSteps
 pub mod Sections
+pub mod Edits
