@@ -47,3 +47,4 @@ pub mod FitSteps
 pub mod TreeSteps
 pub mod Sections
 pub mod Edits
+pub mod Writes
