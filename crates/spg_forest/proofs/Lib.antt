@@ -48,3 +48,4 @@ pub mod TreeSteps
 pub mod Sections
 pub mod Edits
 pub mod Writes
+pub mod Stock
