@@ -1,5 +1,5 @@
 -- Changes of single pages and tuples.
-use Rattle.std.specs.Prelude.{◌≡◌, ℕ, zero, suc, ◌<◌, ◌≤◌, List, [], ◌∷◌, ◌⊎◌, length, set, cond, nat_le, Option, Some, None, get_or}
+use Rattle.std.specs.Prelude.{◌≡◌, ℕ, zero, suc, ◌<◌, ◌≤◌, List, [], ◌∷◌, ◌⊎◌, length, set, cond, nat_le, Option, Some, None, get_or, false}
 use Rattle.spg_opclass.specs.Meaning.{Meaning}
 use Rattle.spg_forest.specs.View.{Place, Leaf}
 use Rattle.spg_forest.specs.Tuples.{Tuple, Inner, Live, Redirect, Placeholder, next_of}
@@ -45,9 +45,16 @@ added ts zero o new = with_tuple ts o (Live new 0)
 added ts (suc j) o new =
     let us : List Tuple = with_tuple ts o (Live new (next_of (tuple_on ts (suc j)))) in with_tuple us (suc j) (relinked (tuple_on us (suc j)) o)
 
--- How the pages S2 came from S beside their links: each tuple is as it was, on a page of the same kind, or may stand where it is; a page changes its tree only where it was empty
+-- How the pages S2 came from S beside their links: each page has its tree, and each tuple is as it was, on a page of the same kind, or may stand where it is
 pub record AreChanged {Key Recon Cond : Type 0} (m : Meaning Key Recon Cond) (S S2 : Sheets) : Type 0 where
   pub count : length S.sheets ≤ length S2.sheets
-  pub nulls : (b : ℕ) → ((sheet_at S2 b).nulls ≡ (sheet_at S b).nulls) ⊎ ((3 ≤ b) × ((o : ℕ) → tuple_of S (place b o) ≡ Placeholder))
+  pub nulls : (b : ℕ) → (sheet_at S2 b).nulls ≡ (sheet_at S b).nulls
   pub fits : (b : ℕ) → weight (sheet_at S2 b).tuples ≤ 8160
   pub tuples : (x : Place) → ((tuple_of S2 x ≡ tuple_of S x) × ((sheet_at S2 x.block).inner ≡ (sheet_at S x.block).inner)) ⊎ MayStand m S2 x (tuple_of S2 x)
+  pub empty_root : (b : ℕ) → 0 < b → b < 3 → (sheet_at S2 b).tuples ≡ [] → (sheet_at S2 b).inner ≡ false
+
+-- Pages are picked: pages from 3 on that have no tuple may become others that have none, of any kind and tree, and such pages may be added
+pub record IsPicked (S S2 : Sheets) : Type 0 where
+  pub clock : S2.clock ≡ S.clock
+  pub count : length S.sheets ≤ length S2.sheets
+  pub same : (b : ℕ) → (sheet_at S2 b ≡ sheet_at S b) ⊎ ((3 ≤ b) × ((sheet_at S b).tuples ≡ []) × ((sheet_at S2 b).tuples ≡ []))

@@ -53,6 +53,8 @@ pub record ArePages {Key Recon Cond : Type 0} (m : Meaning Key Recon Cond) (S : 
   pub each : (b : ℕ) → IsPage m (sheet_at S b)
   pub main : (sheet_at S 1).nulls ≡ false
   pub nulls : (sheet_at S 2).nulls ≡ true
+  -- a root page without tuples is a leaf page
+  pub empty_root : (b : ℕ) → 0 < b → b < 3 → (sheet_at S b).tuples ≡ [] → (sheet_at S b).inner ≡ false
   -- a downlink stays in its tree
   pub trees : (x y : Place) (w : Frame) (ns : List (Option Place)) (i : ℕ) → tuple_at (pages_of S) x ≡ Inner w ns → get_or ns i None ≡ Some y → (sheet_at S y.block).nulls ≡ (sheet_at S x.block).nulls
   -- a redirect leads to another place, on a page from 3 on
