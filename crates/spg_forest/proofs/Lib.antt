@@ -49,3 +49,4 @@ pub mod Sections
 pub mod Edits
 pub mod Writes
 pub mod Stock
+pub mod Picks
