@@ -50,3 +50,4 @@ pub mod Edits
 pub mod Writes
 pub mod Stock
 pub mod Picks
+pub mod Puts
