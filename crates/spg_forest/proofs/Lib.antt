@@ -51,3 +51,4 @@ pub mod Writes
 pub mod Stock
 pub mod Picks
 pub mod Puts
+pub mod Joins

@@ -1,5 +1,7 @@
 -- Sections that put a leaf.
-use Rattle.std.proofs.Common.{◌≡◌, ℕ, zero, suc, ◌+◌, ◌≤◌, ◌<◌, ◌↔◌, List, [], ◌∷◌, ◌++◌, ◌⊎◌, ⊎_elim, Option, Some, None, get_or, set, insert, length, length-set, length-append, true, false, refl, sym, ap, ap₂, ◌∙◌, subst, inl, inr, arith}
+use Rattle.std.proofs.Common.{◌≡◌, ℕ, zero, suc, ◌+◌, ◌*◌, ◌≤◌, ◌<◌, ◌↔◌, List, [], ◌∷◌, ◌++◌, ◌⊎◌, ⊎_elim, Option, Some, None, get_or, set, insert, length, length-set, length-append, true, false, refl, sym, ap, ap₂, ◌∙◌, subst, inl, inr, arith, get_or-set_same, get_or-set_other}
+use Rattle.spg_forest.specs.Links.{leaves_on}
+use Rattle.spg_forest.proofs.Joins.{can_put_after, put_other, put_nulls, weight_replaced, stands_within, within_join}
 use Rattle.spg_forest.proofs.Put.{within_from_live}
 use Rattle.std.proofs.lemmas.Bool.{cases_lt, cases_eq}
 use Rattle.spg_base.specs.Row.{RowAt}
@@ -8,19 +10,20 @@ use Rattle.spg_forest.specs.Spot.{Frame, Spot, Branch, Bucket, Forward, Nothing,
 use Rattle.std.specs.Prelude.{nat_le, Bool, cond, ◌-◌, nat_eq}
 use Rattle.std.proofs.Common.{append-nil}
 use Rattle.std.proofs.lemmas.Bool.{cond-true, cond-false, cond_both, le-leb, lt-leb, eq-eqb, ne_eqb}
+use Rattle.spg_opclass.specs.Laws.{padded_length}
 use Rattle.spg_opclass.specs.Meaning.{Meaning}
 use Rattle.spg_forest.specs.Tuples.{Tuple, Inner, Live, Dead, Redirect, Placeholder, Shows, IsLaidOut, IsAmong, put_on, next_of}
 use Rattle.spg_forest.specs.Pages.{Pages, place, tuple_on, with_tuple, page_of, tuples_of, all_live, IsShown, IsFresh}
-use Rattle.spg_forest.specs.Classes.{class_of, start_of, key_of, HasEntry}
+use Rattle.spg_forest.specs.Classes.{class_of, start_of, key_of, HasEntry, down_of}
 use Rattle.spg_forest.specs.Fit.{FitAt, LeafFits, Admits, admit_of}
-use Rattle.spg_forest.specs.Sheets.{Sheet, Sheets, sheet_at, with_tuples, pages_of, blank, weight, relinked}
-use Rattle.spg_forest.specs.Shape.{Shape, ArePages, IsPage, IsKindOf, IsRestOf, spots, tree_of}
+use Rattle.spg_forest.specs.Sheets.{Sheet, Sheets, sheet_at, with_tuples, pages_of, blank, weight, relinked, size_of}
+use Rattle.spg_forest.specs.Shape.{Shape, ArePages, IsPage, IsKindOf, IsRestOf, spots, tree_of, AreNodes}
 use Rattle.spg_forest.specs.Section.{Section, Adds, Leaves, IsWithin, Cost, none, only}
 use Rattle.spg_forest.specs.Steps.{TreeKeeps}
 use Rattle.spg_forest.specs.Walk.{spread, spread_from, page_spread, spread_on, spread_at, lives_on, is_live}
 use Rattle.spg_forest.specs.Edits.{with_sheet, tuple_of, put, CanPut, MayStand, AreChanged, spot_of, added}
 use Rattle.spg_forest.specs.Puts.{IsNew, spreads, PutsBehind, PutsAtDead, PutsAtRoot, PutsAtEmpty}
-use Rattle.spg_forest.proofs.Flat.{none_on, root_spot-all_live}
+use Rattle.spg_forest.proofs.Flat.{none_on, root_spot-all_live, leaves_on-all_live}
 use Rattle.spg_forest.proofs.Spots.{put_at_same, put_at_other}
 use Rattle.spg_forest.proofs.Trees.{one_leaf}
 use Rattle.spg_forest.proofs.Chain.{put_on_same, put_on_other}
@@ -28,9 +31,9 @@ use Rattle.spg_forest.proofs.Front.{nothing_at}
 use Rattle.spg_forest.proofs.FitWay.{recon_of_fit, fit_step}
 use Rattle.spg_forest.proofs.TreeSteps.{insert_keeps, attach_keeps}
 use Rattle.spg_forest.proofs.Sections.{adds_from, shape_shown, shape_tree, spots_are}
-use Rattle.spg_forest.proofs.Edits.{sheet_same, sheet_other, tuple_on-with, sheet_laid, tuple_put, leaf_root_shown}
+use Rattle.spg_forest.proofs.Edits.{sheet_same, sheet_other, tuple_on-with, sheet_laid, tuple_put, leaf_root_shown, page_is}
 use Rattle.spg_forest.proofs.Writes.{IsInnerAt, inner_at, added_behind, behind_shown, alone_shown, revived_shown, with_tuple_longer}
-use Rattle.spg_forest.proofs.Stock.{pages_kept, changed_none, changed_page, changed_put, spread_set, spread_put, spread_with, lives_with}
+use Rattle.spg_forest.proofs.Stock.{pages_kept, changed_none, changed_page, changed_put, spread_set, spread_put, spread_with, lives_with, tuple_is}
 
 -- a leaf that a step has brought, with its key, on a way that fits
 module _ {Key Recon Cond : Type 0} (m : Meaning Key Recon Cond) (S S2 : Sheets) (V2 : Place → Spot) (touched : List ℕ) (cost : Cost) (new : Leaf) (key : Option Key) (f : Place → Place) (y : Place) (r : Option Recon)
@@ -175,3 +178,175 @@ puts_at_dead {Key} {Recon} {Cond} m S x new r key H G g e fits rest N =
 
     leaf_page : (sheet_at S x.block).inner ≡ false
     leaf_page = subst (λ (t : Tuple). IsKindOf m (sheet_at S x.block).inner (sheet_at S x.block).nulls t) e ((H.pages.each x.block).kinds x.offset)
+
+-- a leaf more on a root leaf page
+flat_spread : (ls : List Leaf) → spread_on (all_live ls) ≡ 0
+flat_spread [] = refl
+flat_spread (l ∷ ls) = let h = flat_spread ls in omega arith
+
+flat_lives : (ls : List Leaf) → lives_on (all_live ls) ≡ length ls
+flat_lives [] = refl
+flat_lives (l ∷ ls) = let h = flat_lives ls in omega arith
+
+push_cases : (ls : List Leaf) (new : Leaf) (o : ℕ) → (get_or (all_live (ls ++ new ∷ [])) o Placeholder ≡ get_or (all_live ls) o Placeholder) ⊎ (get_or (all_live (ls ++ new ∷ [])) o Placeholder ≡ Live new 0)
+push_cases [] new zero = inr refl
+push_cases [] new (suc o) = inl refl
+push_cases (l ∷ ls) new zero = inl refl
+push_cases (l ∷ ls) new (suc o) = push_cases ls new o
+
+push_on : (ls : List Leaf) (new : Leaf) (o : ℕ) → (tuple_on (all_live (ls ++ new ∷ [])) o ≡ tuple_on (all_live ls) o) ⊎ (tuple_on (all_live (ls ++ new ∷ [])) o ≡ Live new 0)
+push_on ls new zero = inl refl
+push_on ls new (suc o) = push_cases ls new o
+
+-- what a root leaf page shows
+pub leaf_root_spot : {Key Recon Cond : Type 0} (m : Meaning Key Recon Cond) (S : Sheets) (b : ℕ) (ls : List Leaf) → Shape m S → 0 < b → b < 3 → (sheet_at S b).tuples ≡ all_live ls → spots S (place b 0) ≡ Bucket ls
+leaf_root_spot m S b ls H pos low e = ⊎_elim
+    (λ (w, ns, a, c). absurd (apart w ns ls (sym a ∙ page_is S b ∙ e)))
+    (λ (ms, a, c). c ∙ ap Bucket (sym (leaves_on-all_live ms) ∙ ap leaves_on (sym a ∙ page_is S b ∙ e) ∙ leaves_on-all_live ls)) ((shape_shown m S H).root b pos low)
+  where
+    apart : (w : Frame) (ns : List (Option Place)) (ls : List Leaf) → Inner w ns ∷ [] ≡ all_live ls → ⊥
+    apart w ns [] q = cc
+    apart w ns (l ∷ ls) q = cc
+
+pub leaf_root_kind : {Key Recon Cond : Type 0} (m : Meaning Key Recon Cond) (S : Sheets) (b : ℕ) (ls : List Leaf) → ArePages m S → 0 < b → b < 3 → (sheet_at S b).tuples ≡ all_live ls → (sheet_at S b).inner ≡ false
+leaf_root_kind m S b [] A pos low e = A.empty_root b pos low e
+leaf_root_kind m S b (l ∷ ls) A pos low e = (subst (λ (ts : List Tuple). IsKindOf m (sheet_at S b).inner (sheet_at S b).nulls (tuple_on ts 1)) e ((A.each b).kinds 1)).0
+
+pub puts_at_root : {Key Recon Cond : Type 0} (m : Meaning Key Recon Cond) → PutsAtRoot m
+puts_at_root {Key} {Recon} {Cond} m S b ls new key H pos low e fits rest fresh kc =
+    insert_adds m S S2 (b ∷ []) (spreads 1) (place b 0) ls [] new (start_of m b) key H (at ∙ ap Bucket (sym (append-nil ls)))
+    (record { fresh = fresh; fits = (place b 0, [], (refl, subst IsStanding (sym at) tt), (refl, refl)); rebuilt = kc })
+    (leaf_root_shown S (spots S) b s (ls ++ new ∷ []) (shape_shown m S H) pos low within refl) refl
+    (pages_kept m S S2 H.pages (changed_page m S S b s (changed_none m S H.pages) within refl fits may (λ k z. kind)))
+    (within_page S b s 1 within spread_le)
+  where
+    us : List Tuple
+    us = all_live (ls ++ new ∷ [])
+
+    s : Sheet
+    s = with_tuples (sheet_at S b) us
+
+    S2 : Sheets
+    S2 = with_sheet S b s
+
+    within : b < length S.sheets
+    within = let c = H.pages.count in omega arith
+
+    at : spots S (place b 0) ≡ Bucket ls
+    at = leaf_root_spot m S b ls H pos low e
+
+    kind : (sheet_at S b).inner ≡ false
+    kind = leaf_root_kind m S b ls H.pages pos low e
+
+    same : sheet_at S2 b ≡ s
+    same = sheet_same S b s within
+
+    may : (o : ℕ) → ((tuple_on us o ≡ tuple_of S (place b o)) × (s.inner ≡ (sheet_at S b).inner)) ⊎ MayStand m S2 (place b o) (tuple_on us o)
+    may o = ⊎_elim (λ q. inl (q ∙ ap (λ ts. tuple_on ts o) (sym e), refl))
+        (λ q. inr (subst (λ (t : Tuple). MayStand m S2 (place b o) t) (sym q) (may_leaf m S2 (place b o) new 0 (ap (λ (z : Sheet). z.inner) same ∙ kind) (subst (λ (u : Bool). IsRestOf m u new.rest) (sym (ap (λ (z : Sheet). z.nulls) same)) rest)))) (push_on ls new o)
+
+    spread_le : page_spread b us ≤ page_spread b (sheet_at S b).tuples + 1
+    spread_le =
+        let p = cond-false (nat_le 3 b) 0 (lives_on us - 1) (lt-leb 3 b low) in
+        let q = cond-false (nat_le 3 b) 0 (lives_on (sheet_at S b).tuples - 1) (lt-leb 3 b low) in
+        let f = flat_spread (ls ++ new ∷ []) in let g = flat_lives (ls ++ new ∷ []) in let h = length-append ls (new ∷ []) in
+        let i = ap spread_on e in let j = ap lives_on e in let k = flat_spread ls in let n = flat_lives ls in omega arith
+
+-- a leaf at an empty downlink
+pub puts_at_empty : {Key Recon Cond : Type 0} (m : Meaning Key Recon Cond) → PutsAtEmpty m
+puts_at_empty {Key} {Recon} {Cond} m S x y i w ns new r key H G e ei hi E g free leaf_page tree fits rest fresh fit admit kc =
+    adds_leaf m S S2 V2 (y.block ∷ x.block ∷ []) (spreads 0) new key (λ x. x) y (down_of m r w i) H shown2 A
+    (subst (λ (s : Spot). IsIn new (leaves_of s)) (sym at_y) (inl refl)) fit_y kc
+    (pages_kept m S S2 H.pages (changed_put m S S1 x (Inner w us) changed1 G1 may_x fits_x (inr (λ q. cc)))) within
+  where
+    us : List (Option Place)
+    us = set ns i (Some y)
+
+    S1 : Sheets
+    S1 = put S y (Live new 0)
+
+    S2 : Sheets
+    S2 = put S1 x (Inner w us)
+
+    z : Place
+    z = spot_of x
+
+    V1 : Place → Spot
+    V1 = put_at (spots S) y (Bucket (new ∷ []))
+
+    V2 : Place → Spot
+    V2 = put_at V1 z (Branch w us)
+
+    y≠x : y ≡ x → ⊥
+    y≠x q = let a = sym free ∙ ap (tuple_of S) q ∙ e in cc
+
+    G1 : CanPut S1 x
+    G1 = can_put_after S y (Live new 0) x E G
+
+    e1 : tuple_of S1 x ≡ Inner w ns
+    e1 = ap (λ (T : Place → Tuple). T x) (tuple_put S y (Live new 0) E) ∙ put_at_other (tuple_of S) y (Live new 0) x (λ q. y≠x (sym q)) ∙ e
+
+    shown2 : IsShown (pages_of S2) V2
+    shown2 = let I = inner_at S1 V1 x w ns (alone_shown S (spots S) y new (shape_shown m S H) g E free) G1 e1 in I.changed w us
+
+    ez : spots S z ≡ Branch w ns
+    ez = let I = inner_at S (spots S) x w ns (shape_shown m S H) G e in I.shown
+
+    ey : spots S y ≡ Nothing
+    ey = nothing_at (tuple_on (sheet_at S y.block).tuples) y.offset (spots S y) ((sheet_laid S (spots S) y.block g (shape_shown m S H)).shows y.offset) free
+
+    A : TreeKeeps (class_of m) (spots S) V2 S.clock S.clock 0 none (only new.row) (λ x. x)
+    A = attach_keeps (class_of m) (spots S) S.clock z y w ns i new (shape_tree m S H) ez ei hi ey (λ q. let p = E.positive in absurd (omega arith)) fresh
+
+    at_z : V2 z ≡ Branch w us
+    at_z = put_at_same V1 z (Branch w us) z refl
+
+    at_y : V2 y ≡ Bucket (new ∷ [])
+    at_y = put_at_other V1 z (Branch w us) y (λ q. let a = sym ey ∙ ap (spots S) q ∙ ez in cc) ∙ put_at_same (spots S) y (Bucket (new ∷ [])) y refl
+
+    fit_y : FitAt (class_of m) V2 (Some key) y (down_of m r w i)
+    fit_y = subst (λ (s : Option Recon). FitAt (class_of m) V2 (Some key) y s) (ap (λ s. step_of (down_of m) s i r) at_z)
+        (fit_step (class_of m) V2 (Some key) z y i r (A.fits z r (Some key) fit) (ap (λ s. child_of s i) at_z ∙ get_or-set_same ns i (Some y) None hi) (ap (λ s. admit_of (class_of m) s i r (Some key)) at_z ∙ admit))
+
+    kind_x : IsKindOf m (sheet_at S x.block).inner (sheet_at S x.block).nulls (Inner w ns)
+    kind_x = subst (λ (t : Tuple). IsKindOf m (sheet_at S x.block).inner (sheet_at S x.block).nulls t) e ((H.pages.each x.block).kinds x.offset)
+
+    apart : x.block ≡ y.block → ⊥
+    apart q = let a : true ≡ false = sym kind_x.0 ∙ ap (λ b. (sheet_at S b).inner) q ∙ leaf_page in cc
+
+    page_x : sheet_at S1 x.block ≡ sheet_at S x.block
+    page_x = put_other S y (Live new 0) x.block apart
+
+    changed1 : AreChanged m S S1
+    changed1 = changed_put m S S y (Live new 0) (changed_none m S H.pages) E (may_leaf m S y new 0 leaf_page rest) fits (inl g)
+
+    nodes : AreNodes w us
+    nodes = let N = kind_x.1 in let l = length-set ns i (Some y) in record { each = l ∙ N.each; some = let k = N.some in omega arith; same = N.same }
+
+    may_x : MayStand m S1 x (Inner w us)
+    may_x = record {
+      kind = subst (λ (s : Sheet). IsKindOf m s.inner s.nulls (Inner w us)) (sym page_x) (kind_x.0, nodes, kind_x.2);
+      tree = λ v f gs j q a.
+          let same : us ≡ gs = cc in
+          let b : get_or us j None ≡ Some v = ap (λ hs. get_or hs j None) same ∙ a in
+          put_nulls S y (Live new 0) v.block E.block ∙ to v j b ∙ sym (put_nulls S y (Live new 0) x.block E.block);
+      redirect = λ v u q. cc;
+    }
+      where
+        to : (v : Place) (j : ℕ) → get_or us j None ≡ Some v → (sheet_at S v.block).nulls ≡ (sheet_at S x.block).nulls
+        to v j b = ⊎_elim
+            (λ q. let c : Some y ≡ Some v = sym (ap (λ k. get_or us k None) q ∙ get_or-set_same ns i (Some y) None hi) ∙ b in let d : y ≡ v = cc in ap (λ (u : Place). (sheet_at S u.block).nulls) (sym d) ∙ tree)
+            (λ n. H.pages.trees x v w ns j (tuple_is S x ∙ e) (sym (get_or-set_other ns i j (Some y) None n) ∙ b)) (cases_eq j i)
+
+    fits_x : weight (with_tuple (sheet_at S1 x.block).tuples x.offset (Inner w us)) ≤ 8160
+    fits_x =
+        let ts : List Tuple = (sheet_at S x.block).tuples in
+        let q = ap (λ (s : Sheet). weight (with_tuple s.tuples x.offset (Inner w us))) page_x in
+        let a = weight_replaced ts x.offset (Inner w us) G.positive (stands_within ts x.offset (λ p. let c = sym e ∙ p in cc)) in
+        let b = ap size_of e in let l = length-set ns i (Some y) in
+        let c : size_of (Inner w us) ≡ size_of (Inner w ns) = ap (λ k. 8 + padded_length (length w.prefix) + 8 * k) l in
+        let d = (H.pages.each x.block).fits in omega arith
+
+    within : IsWithin S S2 (y.block ∷ x.block ∷ []) (spreads 0)
+    within = within_join S S1 S2 (y.block ∷ []) (x.block ∷ []) (spreads 0) (spreads 0) (within_put S y (Live new 0) 0 E (inl g) (let a = ap spread_at free in omega arith))
+        (within_put S1 x (Inner w us) 0 G1 (inr (sym (ap is_live e1))) (let a = ap spread_at e1 in omega arith)) (omega arith)
