@@ -9,7 +9,7 @@ use Rattle.spg_forest.specs.Steps.{TreeKeeps, none}
 use Rattle.spg_forest.proofs.Trees.{key_once}
 use Rattle.spg_forest.proofs.Carry.{Carries, stable_from_carries, entry_carried, entry_back}
 use Rattle.spg_forest.proofs.FitWay.{Fits, fit_kept, keys_kept}
-use Rattle.spg_forest.proofs.Join.{stable_join}
+use Rattle.spg_forest.proofs.Join.{stable_join, stable_then}
 
 pub keeps_from : {R K : Type 0} (C : Class Frame R (Option K)) (V V2 : Place → Spot) (clock clock2 since : ℕ) (removed added : RowAt → Type 0) (f g : Place → Place) →
     Carries C (view_of C V) (view_of C V2) clock since removed added f g → Fits C V V2 removed f → IsTree C V2 clock2 → TreeKeeps C V V2 clock clock2 since removed added f
@@ -58,3 +58,15 @@ fewer_entries C V V2 clock clock2 since removed f A row key = (
   (λ e. ⊎_elim (λ x. absurd x) (λ x. x) (A.entries_back row key e)),
   (λ e. ⊎_elim (λ x. absurd (e.1 x)) (λ x. x) (A.entries row key e.0)),
 )
+
+-- any step, and then one that changes no row, for what began at stamps at which both keep it
+pub keeps_then : {R K : Type 0} (C : Class Frame R (Option K)) (V V1 V2 : Place → Spot) (clock clock1 clock2 since since1 : ℕ) (removed : RowAt → Type 0) (f g : Place → Place) → clock ≤ clock1 → since ≤ since1 →
+    TreeKeeps C V V1 clock clock1 since removed none f → TreeKeeps C V1 V2 clock1 clock2 since1 none none g → TreeKeeps C V V2 clock clock2 since1 removed none (λ x. g (f x))
+keeps_then C V V1 V2 clock clock1 clock2 since since1 removed f g le later A B = record {
+  tree = B.tree;
+  stable = λ s h k. stable_then (view_of C V) (view_of C V1) (view_of C V2) C.start s removed none f g (A.stable s (omega arith) k) (B.stable s h (omega arith));
+  entries = λ row key e. ⊎_elim (λ x. inl x) (λ x. ⊎_elim (λ y. absurd y) (λ y. inr y) (B.entries row key x)) (A.entries row key e);
+  entries_back = λ row key e. ⊎_elim (λ x. absurd x) (λ x. A.entries_back row key x.0) (B.entries_back row key e);
+  fits = λ x r key h. B.fits (f x) r key (A.fits x r key h);
+  keys = λ h new. B.keys (A.keys h (λ x l a b. absurd b)) (λ x l a b. absurd b);
+}

@@ -52,3 +52,4 @@ pub mod Stock
 pub mod Picks
 pub mod Puts
 pub mod Joins
+pub mod Changes

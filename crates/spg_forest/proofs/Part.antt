@@ -70,8 +70,7 @@ module _ {R K : Type 0} (C : Class Frame R K) (V V2 : Place → Spot) (clock : �
   parted_lands key placed l q a h e =
       let same : q ≡ r = recon_once C V clock T z q r h rc in
       let (j, y, m, b, c, d, k) = D.from l (subst (λ (s : Spot). IsIn l (leaves_of s)) ev a) in
-      let fits : C.admits r w j key ≡ true = placed j m c (k ∙ ap (λ t. C.rebuild t l.rest) (sym same) ∙ e) in
-      (
+      let fits : C.admits r w j key ≡ true = placed j m c (k ∙ ap (λ t. C.rebuild t l.rest) (sym same) ∙ e) in (
         y,
         m,
         j ∷ [],

@@ -13,3 +13,4 @@ pub mod Walk
 pub mod Section
 pub mod Edits
 pub mod Puts
+pub mod Changes

@@ -4,6 +4,7 @@
 ghost use Rattle.spg_forest.specs.Pages.{PutBehind, MoveChain};
 ghost use Rattle.spg_forest.specs.Start.{NewIsShaped, StartIsShaped, OneLeafIsShaped};
 ghost use Rattle.spg_forest.specs.Steps.{SplitTuple, AddNode, PutAtEmpty, Age, Sweep, LinksLaidOut};
+ghost use Rattle.spg_forest.specs.Changes.{SplitsTuple, AddsNode, MovesNode, MovesChain, DividesHere, DividesHereWithout, Divides, DividesWithout, SweepsLeaves, AgesRedirects, SweepsPage};
 ghost use Rattle.spg_forest.specs.Puts.{PutsBehind, PutsAtDead, PutsAtRoot, PutsAtEmpty};
 ghost use Rattle.spg_forest.specs.Links.{LinksAreTree, TreeIsLinked};
 
@@ -15,6 +16,30 @@ pub fn put_leaf<O: OpClass>()
     ensures at_dead { PutsAtDead O.meaning }
     ensures at_root { PutsAtRoot O.meaning }
     ensures at_empty { PutsAtEmpty O.meaning }
+{}
+
+/// What each section that changes inner tuples or moves a chain keeps, over what stands at each
+/// place.
+pub fn change_tree<O: OpClass>()
+    ensures splits_tuple { SplitsTuple O.meaning }
+    ensures adds_node { AddsNode O.meaning }
+    ensures moves_node { MovesNode O.meaning }
+    ensures moves_chain { MovesChain O.meaning }
+{}
+
+/// What the division of a chain or of a root leaf page keeps, with the new leaf or without it.
+pub fn divide<O: OpClass>()
+    ensures here { DividesHere O.meaning }
+    ensures here_without { DividesHereWithout O.meaning }
+    ensures below { Divides O.meaning }
+    ensures below_without { DividesWithout O.meaning }
+{}
+
+/// What a section of a vacuum keeps.
+pub fn sweep_page<O: OpClass>()
+    ensures leaves { SweepsLeaves O.meaning }
+    ensures redirects { AgesRedirects O.meaning }
+    ensures both { SweepsPage O.meaning }
 {}
 
 /// A leaf put behind a chain's head.
