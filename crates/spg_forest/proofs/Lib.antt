@@ -53,3 +53,4 @@ pub mod Picks
 pub mod Puts
 pub mod Joins
 pub mod Changes
+pub mod Examples

@@ -10,7 +10,7 @@ use Rattle.spg_forest.specs.Start.{new_pages}
 use Rattle.spg_forest.proofs.FromLinks.{spots_shown, spots_tree}
 use Rattle.spg_forest.proofs.Rows.{rows_once, found, LowLeaf, HighLeaf}
 
-bare : (b o : ℕ) → tuples_of new_pages b o ≡ Placeholder
+pub bare : (b o : ℕ) → tuples_of new_pages b o ≡ Placeholder
 bare b zero = refl
 bare zero (suc o) = refl
 bare (suc zero) (suc o) = refl

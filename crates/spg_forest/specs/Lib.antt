@@ -14,3 +14,4 @@ pub mod Section
 pub mod Edits
 pub mod Puts
 pub mod Changes
+pub mod Examples

@@ -5,10 +5,17 @@ ghost use Rattle.spg_forest.specs.Pages.{PutBehind, MoveChain};
 ghost use Rattle.spg_forest.specs.Start.{NewIsShaped, StartIsShaped, OneLeafIsShaped};
 ghost use Rattle.spg_forest.specs.Steps.{SplitTuple, AddNode, PutAtEmpty, Age, Sweep, LinksLaidOut};
 ghost use Rattle.spg_forest.specs.Changes.{SplitsTuple, AddsNode, MovesNode, MovesChain, DividesHere, DividesHereWithout, Divides, DividesWithout, SweepsLeaves, AgesRedirects, SweepsPage};
+ghost use Rattle.spg_forest.specs.Examples.{NewIndex, OneEntry};
 ghost use Rattle.spg_forest.specs.Puts.{PutsBehind, PutsAtDead, PutsAtRoot, PutsAtEmpty};
 ghost use Rattle.spg_forest.specs.Links.{LinksAreTree, TreeIsLinked};
 
 use spg_opclass::OpClass;
+
+/// Small indexes that meet the definitions.
+pub fn small<O: OpClass>()
+    ensures new_index { NewIndex O.meaning }
+    ensures one_entry { OneEntry O.meaning }
+{}
 
 /// A leaf put where there is room adds just its entry.
 pub fn put_leaf<O: OpClass>()
