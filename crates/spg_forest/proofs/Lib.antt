@@ -54,3 +54,4 @@ pub mod Puts
 pub mod Joins
 pub mod Changes
 pub mod Examples
+pub mod ChainWrites
