@@ -14,8 +14,9 @@ use Rattle.spg_forest.specs.Fit.{FitAt, LeafFits, KeysFit, Admits, admit_of}
 use Rattle.spg_forest.specs.Sheets.{Sheets, pages_of}
 use Rattle.spg_forest.specs.Shape.{Shape, ArePages, spots, tree_of}
 use Rattle.spg_forest.specs.Section.{Section, Adds, Leaves, Takes, IsWithin, Cost, none, only}
+use Rattle.spg_forest.specs.Puts.{IsComing}
 use Rattle.spg_forest.specs.Steps.{TreeKeeps, SameNode, IsAged, IsSwept, HasRow}
-use Rattle.spg_forest.specs.Changes.{Becomes, IsSplitAt, SplitsTuple, IsLonger, AddsNode, moved_to, IsMovable, MovesNode, IsComing, MovesChain, AreDivided, HasLists, IsPlaced, DividesHere, DividesHereWithout, Divides, DividesWithout, SweepsLeaves, AgesRedirects, SweepsPage}
+use Rattle.spg_forest.specs.Changes.{Becomes, IsSplitAt, SplitsTuple, IsLonger, AddsNode, moved_to, IsMovable, MovesNode, MovesChain, AreDivided, HasLists, IsPlaced, DividesHere, DividesHereWithout, Divides, DividesWithout, SweepsLeaves, AgesRedirects, SweepsPage}
 use Rattle.spg_forest.proofs.Spots.{put_at_same, put_at_other, put_elim}
 use Rattle.spg_forest.proofs.Trees.{one_leaf, stands_with_leaf, known, recon_once}
 use Rattle.spg_forest.proofs.FitWay.{recon_of_fit, fit_step}

@@ -55,3 +55,4 @@ pub mod Joins
 pub mod Changes
 pub mod Examples
 pub mod ChainWrites
+pub mod Follows

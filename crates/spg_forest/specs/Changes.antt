@@ -11,6 +11,7 @@ use Rattle.spg_forest.specs.Fit.{FitAt}
 use Rattle.spg_forest.specs.Sheets.{Sheets, pages_of}
 use Rattle.spg_forest.specs.Shape.{Shape, ArePages, spots}
 use Rattle.spg_forest.specs.Section.{Adds, Leaves, Takes, IsWithin, Cost}
+use Rattle.spg_forest.specs.Puts.{IsComing}
 use Rattle.spg_forest.specs.Steps.{SameNode, IsAged, IsSwept, HasRow}
 
 -- The pages S2 show V2, have the given clock, and are S but for the blocks touched
@@ -56,12 +57,6 @@ pub record IsMovable (V : Place → Spot) (x y p : Place) (w : Frame) (ns : List
 abbrev pub MovesNode : {Key Recon Cond : Type 0} → Meaning Key Recon Cond → Type 0
 MovesNode m = (S S2 : Sheets) (touched : List ℕ) (cost : Cost) (x y p : Place) (w w2 wp : Frame) (ns nsp : List (Option Place)) (at i : ℕ) → Shape m S → IsMovable (spots S) x y p wp nsp i → IsLonger m (spots S) x w w2 ns at →
     Becomes m S S2 (moved_to (spots S) S.clock x y (Branch w2 (insert ns at None)) p wp nsp i) (suc S.clock) touched cost → Leaves m S S2 touched cost 0 (moved x y)
-
--- A leaf that is not yet in the index, with its key, at a place of rebuilt value r whose way admits the key
-pub record IsComing {Key Recon Cond : Type 0} (m : Meaning Key Recon Cond) (V : Place → Spot) (x : Place) (r : Option Recon) (new : Leaf) (key : Option Key) : Type 0 where
-  pub fresh : IsFresh V new.row
-  pub fits : FitAt (class_of m) V (Some key) x r
-  pub rebuilt : key_of m r new.rest ≡ Some key
 
 -- the leaves of a chain, or none of a dead tuple, go to y, with a new one among them
 abbrev pub MovesChain : {Key Recon Cond : Type 0} → Meaning Key Recon Cond → Type 0

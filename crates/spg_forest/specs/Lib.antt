@@ -15,3 +15,4 @@ pub mod Edits
 pub mod Puts
 pub mod Changes
 pub mod Examples
+pub mod Follows

@@ -2,7 +2,7 @@
 use Rattle.std.specs.Prelude.{◌≡◌, ℕ, suc, ◌+◌, ◌<◌, ◌≤◌, List, [], ◌∷◌, ◌++◌, Option, Some, None, get_or, set, length, true, false}
 use Rattle.spg_opclass.specs.Meaning.{Meaning}
 use Rattle.spg_forest.specs.View.{Place, Leaf}
-use Rattle.spg_forest.specs.Spot.{Frame, Branch, Bucket}
+use Rattle.spg_forest.specs.Spot.{Frame, Spot, Branch, Bucket}
 use Rattle.spg_forest.specs.Tuples.{Tuple, Inner, Live, Dead, Placeholder}
 use Rattle.spg_forest.specs.Pages.{place, tuple_on, with_tuple, all_live, IsFresh}
 use Rattle.spg_forest.specs.Classes.{class_of, key_of, down_of, admits_of, start_of}
@@ -12,11 +12,15 @@ use Rattle.spg_forest.specs.Shape.{Shape, spots, IsRestOf}
 use Rattle.spg_forest.specs.Section.{Adds, Cost}
 use Rattle.spg_forest.specs.Edits.{with_sheet, tuple_of, put, CanPut, spot_of, added}
 
--- A new leaf, not yet in the index, that has this key at the spot x
-pub record IsNew {Key Recon Cond : Type 0} (m : Meaning Key Recon Cond) (S : Sheets) (x : Place) (r : Option Recon) (new : Leaf) (key : Option Key) : Type 0 where
-  pub fresh : IsFresh (spots S) new.row
-  pub fits : FitAt (class_of m) (spots S) (Some key) x r
+-- A leaf that is not yet in the index, with its key, at a place of rebuilt value r whose way admits the key
+pub record IsComing {Key Recon Cond : Type 0} (m : Meaning Key Recon Cond) (V : Place → Spot) (x : Place) (r : Option Recon) (new : Leaf) (key : Option Key) : Type 0 where
+  pub fresh : IsFresh V new.row
+  pub fits : FitAt (class_of m) V (Some key) x r
   pub rebuilt : key_of m r new.rest ≡ Some key
+
+-- the same of what stands in an index
+abbrev pub IsNew : {Key Recon Cond : Type 0} → Meaning Key Recon Cond → Sheets → Place → Option Recon → Leaf → Option Key → Type 0
+IsNew m S x r new key = IsComing m (spots S) x r new key
 
 -- no page, no tick, and at most this much more spread
 abbrev pub spreads : ℕ → Cost

@@ -6,6 +6,7 @@ ghost use Rattle.spg_forest.specs.Start.{NewIsShaped, StartIsShaped, OneLeafIsSh
 ghost use Rattle.spg_forest.specs.Steps.{SplitTuple, AddNode, PutAtEmpty, Age, Sweep, LinksLaidOut};
 ghost use Rattle.spg_forest.specs.Changes.{SplitsTuple, AddsNode, MovesNode, MovesChain, DividesHere, DividesHereWithout, Divides, DividesWithout, SweepsLeaves, AgesRedirects, SweepsPage};
 ghost use Rattle.spg_forest.specs.Examples.{NewIndex, OneEntry};
+ghost use Rattle.spg_forest.specs.Follows.{MatchGoes, NullGoes, AddWidens, SplitParts};
 ghost use Rattle.spg_forest.specs.Puts.{PutsBehind, PutsAtDead, PutsAtRoot, PutsAtEmpty};
 ghost use Rattle.spg_forest.specs.Links.{LinksAreTree, TreeIsLinked};
 
@@ -23,6 +24,14 @@ pub fn put_leaf<O: OpClass>()
     ensures at_dead { PutsAtDead O.meaning }
     ensures at_root { PutsAtRoot O.meaning }
     ensures at_empty { PutsAtEmpty O.meaning }
+{}
+
+/// What a class's answers give at an inner tuple.
+pub fn follow<O: OpClass>()
+    ensures match_goes { MatchGoes O.meaning }
+    ensures null_goes { NullGoes O.meaning }
+    ensures add_widens { AddWidens O.meaning }
+    ensures split_parts { SplitParts O.meaning }
 {}
 
 /// What each section that changes inner tuples or moves a chain keeps, over what stands at each

@@ -2,4 +2,4 @@ use Rattle.spg_forest.proofs.Examples.{new_index, one_entry}
 use Rattle.spg_forest.proofs.small.Goals as goal
 
 pub returns : goal.returns
-returns c κ = record { new_index = new_index _; one_entry = one_entry _ }
+returns g c = record { new_index = new_index _; one_entry = one_entry _ }
