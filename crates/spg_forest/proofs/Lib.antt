@@ -56,3 +56,4 @@ pub mod Changes
 pub mod Examples
 pub mod ChainWrites
 pub mod Follows
+pub mod ListWrites

@@ -79,6 +79,23 @@ pub record HasLists (V V2 : Place → Spot) (z : Place) (w : Frame) (ns : List (
   pub apart : (j k : ℕ) (y : Place) → get_or ns j None ≡ Some y → get_or ns k None ≡ Some y → j ≡ k
   pub cases : (x : Place) → ((x ≡ z) ⊎ ((j : ℕ) × (get_or ns j None ≡ Some x))) ⊎ (((x ≡ z) ⊎ ((j : ℕ) × (get_or ns j None ≡ Some x)) → ⊥) × (V2 x ≡ V x))
 
+-- V with these lists of leaves at these places, the first one written last
+abbrev pub put_lists : (Place → Spot) → List (Place × List Leaf) → Place → Spot
+put_lists V [] = V
+put_lists V ((y, ls) ∷ ps) = put_at (put_lists V ps) y (Bucket ls)
+
+abbrev pub IsListed : Place → List Leaf → List (Place × List Leaf) → Type 0
+IsListed y ls [] = ⊥
+IsListed y ls ((x, ms) ∷ ps) = ((x ≡ y) × (ms ≡ ls)) ⊎ IsListed y ls ps
+
+-- the lists stand at free places, no two at one, and are those of the nodes
+pub record AreLists (V : Place → Spot) (z : Place) (ns : List (Option Place)) (L : ℕ → List Leaf) (ps : List (Place × List Leaf)) : Type 0 where
+  pub free : (y : Place) (ls : List Leaf) → IsListed y ls ps → (V y ≡ Nothing) × (y.offset ≡ 0 → ⊥) × (y ≡ z → ⊥)
+  pub one : (y : Place) (ls ms : List Leaf) → IsListed y ls ps → IsListed y ms ps → ls ≡ ms
+  pub node : (j : ℕ) (y : Place) → get_or ns j None ≡ Some y → IsListed y (L j) ps
+  pub each : (y : Place) (ls : List Leaf) → IsListed y ls ps → (j : ℕ) × (get_or ns j None ≡ Some y)
+  pub apart : (j k : ℕ) (y : Place) → get_or ns j None ≡ Some y → get_or ns k None ≡ Some y → j ≡ k
+
 -- the new leaf is in the list of node j, which leads to y
 abbrev pub IsPlaced : {R K : Type 0} → Class Frame R (Option K) → R → Frame → List (Option Place) → (ℕ → List Leaf) → Leaf → K → ℕ → Place → Type 0
 IsPlaced C r w ns L new key j y = (get_or ns j None ≡ Some y) × IsIn new (L j) × (C.rebuild (C.down r w j) new.rest ≡ Some key)
