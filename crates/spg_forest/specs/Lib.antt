@@ -16,3 +16,4 @@ pub mod Puts
 pub mod Changes
 pub mod Examples
 pub mod Follows
+pub mod Divisions
