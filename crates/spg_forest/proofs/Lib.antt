@@ -57,3 +57,4 @@ pub mod Examples
 pub mod ChainWrites
 pub mod Follows
 pub mod ListWrites
+pub mod Divisions
