@@ -7,7 +7,15 @@ use Rattle.spg_forest.specs.Spot.{Frame, Spot, Branch, Bucket, Forward, Nothing,
 use Rattle.std.specs.Prelude.{Bool, cond, nat_eq}
 use Rattle.std.proofs.lemmas.Bool.{cond-true, cond-false, eq-eqb, ne_eqb}
 use Rattle.spg_forest.specs.Changes.{AreDivided}
-use Rattle.spg_forest.specs.Divisions.{list_of, GoesTo, EachGoes}
+use Rattle.std.specs.Prelude.{slice_get, All, IsSome, map}
+use Rattle.std.proofs.Common.{option_map}
+use Rattle.std.proofs.lemmas.List.{length-map}
+use Rattle.std.proofs.lemmas.List.Elements.{All-cons, All-get_or, All-from_get_or}
+use Rattle.std.proofs.lemmas.Option.{slice_get-map, slice_get_within, slice_get-get_or}
+use Rattle.spg_opclass.specs.Meaning.{Meaning, divided, eightfold}
+use Rattle.spg_opclass.specs.Laws.{Takes, PickLaw, InOneNode, IsPart}
+use Rattle.spg_forest.specs.Classes.{class_of, admits_of}
+use Rattle.spg_forest.specs.Divisions.{list_of, GoesTo, EachGoes, rests_of, HaveKeys, PickGoes, OneNodeGoes, NullsGo}
 
 module _ {R K : Type 0} (C : Class Frame R (Option K)) (r : R) (w : Frame) where
   -- the first leaf is in the list of its node, or it is not
@@ -104,3 +112,53 @@ divided_with C r w ns ls new nodes rests g h linked =
     less [] z (inr a) = absurd a
     less (x ∷ xs) z (inl a) = inr (inl a)
     less (x ∷ xs) z (inr a) = ⊎_elim (λ b. inl b) (λ b. inr (inr b)) (less xs z a)
+
+-- from a fact for each index
+each_goes : {R K : Type 0} (C : Class Frame R (Option K)) (r : R) (w : Frame) (vs : List Leaf) (nodes : List ℕ) (rests : List (List ℕ)) → length nodes ≡ length vs → length rests ≡ length vs →
+    ((i : ℕ) (l : Leaf) (n : ℕ) (q : List ℕ) → slice_get vs i ≡ Some l → slice_get nodes i ≡ Some n → slice_get rests i ≡ Some q → GoesTo C r w l n q) → EachGoes C r w vs nodes rests
+each_goes C r w [] nodes rests a b h = tt
+each_goes C r w (v ∷ vs) [] rests a b h = absurd (omega arith)
+each_goes C r w (v ∷ vs) (n ∷ nodes) [] a b h = absurd (omega arith)
+each_goes C r w (v ∷ vs) (n ∷ nodes) (q ∷ rests) a b h = (h 0 v n q refl refl refl, each_goes C r w vs nodes rests (omega arith) (omega arith) (λ i. h (suc i)))
+
+slice_in : (vs : List Leaf) (i : ℕ) (l : Leaf) → slice_get vs i ≡ Some l → IsIn l vs
+slice_in [] i l e = cc
+slice_in (v ∷ vs) zero l e = inl (cc)
+slice_in (v ∷ vs) (suc i) l e = inr (slice_in vs i l e)
+
+-- what a node takes goes there
+takes_goes : {Key Recon Cond : Type 0} (m : Meaning Key Recon Cond) (recon : Recon) (w : Frame) (l : Leaf) (n : ℕ) (q : List ℕ) (key : Key) → m.rebuild recon l.rest ≡ Some key → Takes m recon w n q key → GoesTo (class_of m) (Some recon) w l n q
+takes_goes {Key} m recon w l n q key e A = record {
+  given_back = ap (option_map Some) A.given_back ∙ sym (ap (option_map Some) e);
+  admitted = λ k a. let b : Some (Some key) ≡ Some k = sym (ap (option_map Some) e) ∙ a in let c : Some key ≡ k = cc in subst (λ (u : Option Key). admits_of m (Some recon) w n (Some u) ≡ true) c A.admitted;
+}
+
+have_all : {Key Recon Cond : Type 0} (m : Meaning Key Recon Cond) (recon : Recon) (ls : List Leaf) → HaveKeys m recon ls → All (λ r. IsSome (m.rebuild recon r)) (rests_of ls)
+have_all m recon [] h = All-from_get_or (λ r. IsSome (m.rebuild recon r)) [] [] (λ i h. absurd (omega arith))
+have_all m recon (l ∷ ls) h = All-cons (λ r. IsSome (m.rebuild recon r)) l.rest (rests_of ls) (let (k, e) = h l (inl refl) in subst (λ o. IsSome o) (sym e) refl) (have_all m recon ls (λ u a. h u (inr a)))
+
+pub pick_goes : {Key Recon Cond : Type 0} (m : Meaning Key Recon Cond) → PickLaw m → PickGoes m
+pick_goes {Key} m law recon ls pos keys =
+    let n : length (rests_of ls) ≡ length ls = length-map ls (λ (l : Leaf). l.rest) in
+    let D = law recon (rests_of ls) (omega arith) (have_all m recon ls keys) in
+    each_goes (class_of m) (Some recon) (divided (m.parts recon (rests_of ls))) ls (m.parts recon (rests_of ls)).node_of (m.parts recon (rests_of ls)).rests (D.node_each ∙ n) (D.rest_each ∙ n)
+    (λ i l k q a b c. let (key, e) = keys l (slice_in ls i l a) in
+    takes_goes m recon (divided (m.parts recon (rests_of ls))) l k q key e (D.taken i l.rest k q key (record { whole_at = slice_get-map (λ (l : Leaf). l.rest) ls i ∙ ap (option_map (λ (l : Leaf). l.rest)) a; node_at = b; rest_at = c }) e))
+
+pub one_node_goes : {Key Recon Cond : Type 0} (m : Meaning Key Recon Cond) → PickLaw m → OneNodeGoes m
+one_node_goes {Key} m law recon ls node label nodes two keys one at len small =
+    let n : length (rests_of ls) ≡ length ls = length-map ls (λ (l : Leaf). l.rest) in
+    let D = law recon (rests_of ls) (omega arith) (have_all m recon ls keys) in
+    each_goes (class_of m) (Some recon) (eightfold (m.parts recon (rests_of ls)).prefix label) ls nodes (m.parts recon (rests_of ls)).rests len (D.rest_each ∙ n)
+    (λ i l k q a b c. let (key, e) = keys l (slice_in ls i l a) in
+    let within : i < length ls = slice_get_within ls i l a in
+    let p : slice_get (m.parts recon (rests_of ls)).node_of i ≡ Some (get_or (m.parts recon (rests_of ls)).node_of i 0) = slice_get-get_or (m.parts recon (rests_of ls)).node_of i 0 (let z = D.node_each in omega arith) in
+    let f : get_or (m.parts recon (rests_of ls)).node_of i 0 ≡ node = All-get_or (λ n. n ≡ node) (m.parts recon (rests_of ls)).node_of i 0 (let z = D.node_each in omega arith) one in
+    takes_goes m recon (eightfold (m.parts recon (rests_of ls)).prefix label) l k q key e
+    (D.one_taken node label (omega arith) one at k i l.rest q key (small i k b) (record { whole_at = slice_get-map (λ (l : Leaf). l.rest) ls i ∙ ap (option_map (λ (l : Leaf). l.rest)) a; node_at = p ∙ ap Some f; rest_at = c }) e))
+
+pub nulls_go : {Key Recon Cond : Type 0} (m : Meaning Key Recon Cond) → NullsGo m
+nulls_go {Key} m w ls nodes rests a b = each_goes (class_of m) None w ls nodes rests a b (λ i l n q c d e. record {
+  given_back = refl;
+  admitted = λ k h. let b : Some None ≡ Some k = h in let c : None ≡ k = cc in subst (λ (u : Option Key). admits_of m None w n (Some u) ≡ true) c refl;
+})

@@ -6,6 +6,7 @@ ghost use Rattle.spg_forest.specs.Start.{NewIsShaped, StartIsShaped, OneLeafIsSh
 ghost use Rattle.spg_forest.specs.Steps.{SplitTuple, AddNode, PutAtEmpty, Age, Sweep, LinksLaidOut};
 ghost use Rattle.spg_forest.specs.Changes.{SplitsTuple, AddsNode, MovesNode, MovesChain, DividesHere, DividesHereWithout, Divides, DividesWithout, SweepsLeaves, AgesRedirects, SweepsPage};
 ghost use Rattle.spg_forest.specs.Examples.{NewIndex, OneEntry};
+ghost use Rattle.spg_forest.specs.Divisions.{PickGoes, OneNodeGoes, NullsGo};
 ghost use Rattle.spg_forest.specs.Follows.{MatchGoes, NullGoes, AddWidens, SplitParts};
 ghost use Rattle.spg_forest.specs.Puts.{PutsBehind, PutsAtDead, PutsAtRoot, PutsAtEmpty};
 ghost use Rattle.spg_forest.specs.Links.{LinksAreTree, TreeIsLinked};
@@ -49,6 +50,13 @@ pub fn divide<O: OpClass>()
     ensures here_without { DividesHereWithout O.meaning }
     ensures below { Divides O.meaning }
     ensures below_without { DividesWithout O.meaning }
+{}
+
+/// Where the class puts the leaves that it divides.
+pub fn pick<O: OpClass>()
+    ensures pick_goes { PickGoes O.meaning }
+    ensures one_node_goes { OneNodeGoes O.meaning }
+    ensures nulls_go { NullsGo O.meaning }
 {}
 
 /// What a section of a vacuum keeps.
