@@ -73,7 +73,7 @@ module _ (P : Pages) (H : IsLinked P) where
   downlink_leads x w ns i y e a = ap (λ t. get_or (links_of x.block t) i None) e ∙ a
 
   -- what a downlink leads to is led to by no next offset
-  head_at : (x : Place) (w : Frame) (ns : List (Option Place)) (i : ℕ) (y : Place) → tuple_at P x ≡ Inner w ns → get_or ns i None ≡ Some y → (y.offset ≡ 0 → ⊥) → IsHead (tuples_of P y.block) y.offset
+  pub head_at : (x : Place) (w : Frame) (ns : List (Option Place)) (i : ℕ) (y : Place) → tuple_at P x ≡ Inner w ns → get_or ns i None ≡ Some y → (y.offset ≡ 0 → ⊥) → IsHead (tuples_of P y.block) y.offset
   head_at x w ns i y e a z k l b =
       let q = H.one y x (place y.block k) i 0 (downlink_leads x w ns i y e a) (next_leads P y.block k y.offset l b z) in
       let c = sym e ∙ ap (tuple_at P) q.0 ∙ b in cc

@@ -58,3 +58,4 @@ pub mod ChainWrites
 pub mod Follows
 pub mod ListWrites
 pub mod Divisions
+pub mod Keeping

@@ -17,3 +17,4 @@ pub mod Changes
 pub mod Examples
 pub mod Follows
 pub mod Divisions
+pub mod Keeping

@@ -7,6 +7,7 @@ ghost use Rattle.spg_forest.specs.Steps.{SplitTuple, AddNode, PutAtEmpty, Age, S
 ghost use Rattle.spg_forest.specs.Changes.{SplitsTuple, AddsNode, MovesNode, MovesChain, DividesHere, DividesHereWithout, Divides, DividesWithout, SweepsLeaves, AgesRedirects, SweepsPage};
 ghost use Rattle.spg_forest.specs.Examples.{NewIndex, OneEntry};
 ghost use Rattle.spg_forest.specs.Divisions.{PickGoes, OneNodeGoes, NullsGo};
+ghost use Rattle.spg_forest.specs.Keeping.{KeepsComing, LeavesComing, HasChild};
 ghost use Rattle.spg_forest.specs.Follows.{MatchGoes, NullGoes, AddWidens, SplitParts};
 ghost use Rattle.spg_forest.specs.Puts.{PutsBehind, PutsAtDead, PutsAtRoot, PutsAtEmpty};
 ghost use Rattle.spg_forest.specs.Links.{LinksAreTree, TreeIsLinked};
@@ -50,6 +51,14 @@ pub fn divide<O: OpClass>()
     ensures here_without { DividesHereWithout O.meaning }
     ensures below { Divides O.meaning }
     ensures below_without { DividesWithout O.meaning }
+{}
+
+/// A leaf that another seat is about to put keeps its spot and its way, and what stands where a
+/// downlink leads.
+pub fn stay_open<O: OpClass>()
+    ensures keeps_coming { KeepsComing O.meaning }
+    ensures leaves_coming { LeavesComing O.meaning }
+    ensures has_child { HasChild O.meaning }
 {}
 
 /// Where the class puts the leaves that it divides.
