@@ -31,7 +31,7 @@ no_tuples (suc zero) = refl
 no_tuples (suc (suc zero)) = refl
 no_tuples (suc (suc (suc b))) = refl
 
-no_leaf : (x : Place) (l : Leaf) → IsIn l (leaves_of (spots new_sheets x)) → ⊥
+pub no_leaf : (x : Place) (l : Leaf) → IsIn l (leaves_of (spots new_sheets x)) → ⊥
 no_leaf x l a = ⊎_elim (λ (g, z, (o, q)). let c = sym (bare x.block o) ∙ q in cc) (λ (g, (j, o, n, d, t, q)). let c = sym (bare x.block o) ∙ q in cc)
     (found (pages_of new_sheets) (spots new_sheets) (spots_shown (pages_of new_sheets) new_linked) x l a)
 

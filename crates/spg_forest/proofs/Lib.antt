@@ -59,3 +59,4 @@ pub mod Follows
 pub mod ListWrites
 pub mod Divisions
 pub mod Keeping
+pub mod RootDivision

@@ -5,7 +5,7 @@ ghost use Rattle.spg_forest.specs.Pages.{PutBehind, MoveChain};
 ghost use Rattle.spg_forest.specs.Start.{NewIsShaped, StartIsShaped, OneLeafIsShaped};
 ghost use Rattle.spg_forest.specs.Steps.{SplitTuple, AddNode, PutAtEmpty, Age, Sweep, LinksLaidOut};
 ghost use Rattle.spg_forest.specs.Changes.{SplitsTuple, AddsNode, MovesNode, MovesChain, DividesHere, DividesHereWithout, Divides, DividesWithout, SweepsLeaves, AgesRedirects, SweepsPage};
-ghost use Rattle.spg_forest.specs.Examples.{NewIndex, OneEntry};
+ghost use Rattle.spg_forest.specs.Examples.{NewIndex, OneEntry, RootDivided};
 ghost use Rattle.spg_forest.specs.Divisions.{PickGoes, OneNodeGoes, NullsGo};
 ghost use Rattle.spg_forest.specs.Keeping.{KeepsComing, LeavesComing, HasChild};
 ghost use Rattle.spg_forest.specs.Follows.{MatchGoes, NullGoes, AddWidens, SplitParts};
@@ -18,6 +18,7 @@ use spg_opclass::OpClass;
 pub fn small<O: OpClass>()
     ensures new_index { NewIndex O.meaning }
     ensures one_entry { OneEntry O.meaning }
+    ensures root_divided { RootDivided O.meaning }
 {}
 
 /// A leaf put where there is room adds just its entry.
