@@ -60,3 +60,4 @@ pub mod ListWrites
 pub mod Divisions
 pub mod Keeping
 pub mod RootDivision
+pub mod Counts

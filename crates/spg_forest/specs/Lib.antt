@@ -18,3 +18,4 @@ pub mod Examples
 pub mod Follows
 pub mod Divisions
 pub mod Keeping
+pub mod Counts

@@ -6,6 +6,7 @@ ghost use Rattle.spg_forest.specs.Start.{NewIsShaped, StartIsShaped, OneLeafIsSh
 ghost use Rattle.spg_forest.specs.Steps.{SplitTuple, AddNode, PutAtEmpty, Age, Sweep, LinksLaidOut};
 ghost use Rattle.spg_forest.specs.Changes.{SplitsTuple, AddsNode, MovesNode, MovesChain, DividesHere, DividesHereWithout, Divides, DividesWithout, SweepsLeaves, AgesRedirects, SweepsPage};
 ghost use Rattle.spg_forest.specs.Examples.{NewIndex, OneEntry, RootDivided};
+ghost use Rattle.spg_forest.specs.Counts.{RowsAreEntries};
 ghost use Rattle.spg_forest.specs.Divisions.{PickGoes, OneNodeGoes, NullsGo};
 ghost use Rattle.spg_forest.specs.Keeping.{KeepsComing, LeavesComing, HasChild};
 ghost use Rattle.spg_forest.specs.Follows.{MatchGoes, NullGoes, AddWidens, SplitParts};
@@ -19,6 +20,11 @@ pub fn small<O: OpClass>()
     ensures new_index { NewIndex O.meaning }
     ensures one_entry { OneEntry O.meaning }
     ensures root_divided { RootDivided O.meaning }
+{}
+
+/// The rows of the leaf tuples are those of the entries, each once.
+pub fn entries<O: OpClass>()
+    ensures { RowsAreEntries O.meaning }
 {}
 
 /// A leaf put where there is room adds just its entry.
