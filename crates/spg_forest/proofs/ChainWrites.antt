@@ -6,14 +6,15 @@ use Rattle.spg_forest.specs.View.{Place, Leaf, Class, View, Way, ReconAt, Entry,
 use Rattle.spg_forest.specs.Spot.{Frame, Spot, Branch, Bucket, Forward, Nothing, IsTree, IsStanding, IsIn, NoRepeat, view_of, child_of, step_of, leaves_of, put_at}
 use mathlib.Core.Path.{fun_ext}
 use Rattle.spg_forest.specs.Tuples.{Tuple, Inner, Live, Dead, Redirect, Placeholder, Shows, IsLaidOut, IsChain, IsChainOf, IsHead, AreFree, IsAmong, put_on, bucket, first_of, with_chain, without}
-use Rattle.spg_forest.specs.Pages.{Pages, place, tuple_on, IsShown}
+use Rattle.spg_forest.specs.Pages.{Pages, place, tuple_on, page_of, tuples_of, IsShown}
 use Rattle.spg_forest.specs.Sheets.{Sheet, Sheets, sheet_at, with_tuples, pages_of}
 use Rattle.spg_forest.specs.Edits.{with_sheet, tuple_of}
 use Rattle.spg_forest.proofs.Chain.{put_on_same, put_on_other}
 use Rattle.spg_forest.proofs.Chains.{with_chain_laid_out, without_laid_out, without_first, with_chain_other, put_put}
-use Rattle.spg_forest.proofs.Blocks.{swept_laid_out}
+use Rattle.spg_forest.proofs.Blocks.{swept_laid_out, with_block, off_block, laid_block}
 use Rattle.spg_forest.proofs.Plain.{written_laid_out, IsPlain}
-use Rattle.spg_forest.proofs.Edits.{sheet_shown, sheet_laid}
+use Rattle.spg_forest.proofs.Edits.{sheet_shown, sheet_laid, page_is, sheet_same, sheet_other}
+use Rattle.spg_forest.proofs.Lists.{shown_high}
 use Rattle.spg_forest.proofs.Writes.{put_on_swap}
 
 -- the offsets of a chain
@@ -80,3 +81,19 @@ with_chain_push T (q ∷ qs) (m ∷ ms) p o k l h n a b =
     firsts : (qs : List ℕ) → first_of (qs ++ p ∷ o ∷ []) ≡ first_of (qs ++ p ∷ [])
     firsts [] = refl
     firsts (q ∷ qs) = refl
+
+-- a page from 3 on gets other tuples and other spots at once
+pub block_shown : (S : Sheets) (V : Place → Spot) (b : ℕ) (s : Sheet) (Z : ℕ → Spot) → IsShown (pages_of S) V → 3 ≤ b → b < length S.sheets → IsLaidOut (tuple_on s.tuples) Z → IsShown (pages_of (with_sheet S b s)) (with_block V b Z)
+block_shown S V b s Z H g h L = shown_high (pages_of S) (pages_of S2) V (with_block V b Z) H (λ d k. other d (λ e. absurd (omega arith))) (λ x k. off_block V b Z x (λ e. absurd (omega arith)))
+    (λ d k. subst (λ (T : ℕ → Tuple). IsLaidOut T (λ o. with_block V b Z (place d o))) (sym (at d)) (laid_block (tuples_of (pages_of S)) V b (tuple_on s.tuples) Z H.pages L d k))
+  where
+    S2 : Sheets
+    S2 = with_sheet S b s
+
+    other : (d : ℕ) → (d ≡ b → ⊥) → page_of (pages_of S2) d ≡ page_of (pages_of S) d
+    other d n = page_is S2 d ∙ ap (λ (s : Sheet). s.tuples) (sheet_other S b s d n) ∙ sym (page_is S d)
+
+    at : (d : ℕ) → tuples_of (pages_of S2) d ≡ put_on (tuples_of (pages_of S)) b (tuple_on s.tuples) d
+    at d = ⊎_elim
+        (λ e. ap (λ i. tuples_of (pages_of S2) i) e ∙ ap tuple_on (page_is S2 b ∙ ap (λ (s : Sheet). s.tuples) (sheet_same S b s h)) ∙ sym (put_on_same (tuples_of (pages_of S)) b (tuple_on s.tuples) d e))
+        (λ n. ap tuple_on (other d n) ∙ sym (put_on_other (tuples_of (pages_of S)) b (tuple_on s.tuples) d n)) (cases_eq d b)

@@ -24,11 +24,7 @@ pub mod Once
 pub mod FromLinks
 pub mod Part
 pub mod Blocks
-pub mod Runs
 pub mod Join
-pub mod SplitLeaf
-pub mod PickSplit
-pub mod PickSplitKeeps
 pub mod Laws
 pub mod Beginning
 pub mod Forest

@@ -58,45 +58,6 @@ pub record IsShaped {R K : Type 0} (C : Class Frame R K) (P : Pages) (V : Place 
 abbrev pub IsFresh : (Place → Spot) → RowAt → Type 0
 IsFresh V row = (x : Place) (l : Leaf) → IsIn l (leaves_of (V x)) → l.row ≡ row → ⊥
 
--- What a section that adds one entry, or none, keeps
-pub record Keeps {R K : Type 0} (C : Class Frame R K) (P : Pages) (V : Place → Spot) (P2 : Pages) (V2 : Place → Spot) (removed added : RowAt → Type 0) (moved : Place → Place) : Type 0 where
-  pub shaped : IsShaped C P2 V2
-  pub stable : (s : ℕ) → s ≤ P.clock → IsStable (view_of C V) (view_of C V2) C.start s removed added moved
-
--- the new leaf behind the head h of a chain of block b, at offset o
-abbrev pub put_behind : Pages → ℕ → ℕ → ℕ → Leaf → ℕ → Leaf → Pages
-put_behind P b h o l n new = with_page P b (with_tuple (with_tuple (page_of P b) h (Live l o)) o (Live new n))
-
--- a leaf put behind a chain's head adds its entry alone, keeps the shape, and moves no spot
-abbrev pub PutBehind : Type 0
-PutBehind = (C : Class Frame (List ℕ) (List ℕ)) (P : Pages) (V : Place → Spot) (b j k n : ℕ) (l new : Leaf) (r key : List ℕ) (ms : List Leaf) →
-    IsShaped C P V → 3 ≤ b → b < length P.pages → k ≤ length (page_of P b) →
-    tuple_on (page_of P b) (suc j) ≡ Live l n → tuple_on (page_of P b) (suc k) ≡ Placeholder → V (place b (suc j)) ≡ Bucket (l ∷ ms) →
-    IsFresh V new.row → ReconAt (view_of C V) C.start (place b (suc j)) r → C.rebuild r new.rest ≡ key →
-    let P2 : Pages = put_behind P b (suc j) (suc k) l n new in
-    let V2 : Place → Spot = put_at V (place b (suc j)) (Bucket (l ∷ new ∷ ms)) in
-    Keeps C P V P2 V2 (λ row. ⊥) (λ row. row ≡ new.row) (λ x. x) ×
-    ((row : RowAt) (q : List ℕ) → Entry C (view_of C V2) row q ↔ (Entry C (view_of C V) row q ⊎ ((row ≡ new.row) × (q ≡ key))))
-
--- a chain of block b and a new leaf behind its head go to page d. A redirect stays at the old head, placeholders at the old others, and the parent's downlink leads to the new head
-abbrev pub moved_chain : Pages → ℕ → List ℕ → ℕ → List ℕ → List Leaf → ℕ → ℕ → Frame → List (Option Place) → ℕ → ℕ → ℕ → Tuple
-moved_chain P b os d ps ls e q w ns i =
-    let there : Place = place d (first_of ps) in
-    let left : ℕ → ℕ → Tuple = put_on (tuples_of P) b (put_on (without (tuples_of P b) os) (first_of os) (Redirect there P.clock)) in
-    let come : ℕ → ℕ → Tuple = put_on left d (with_chain (tuples_of P d) ps ls) in
-    put_on come e (put_on (tuples_of P e) q (Inner w (set ns i (Some there))))
-
 -- x goes to y, each other place stays
 abbrev pub moved : Place → Place → Place → Place
 moved x y z = cond (same_place z x) y z
-
-abbrev pub MoveChain : Type 0
-MoveChain = (C : Class Frame (List ℕ) (List ℕ)) (P P2 : Pages) (V : Place → Spot) (b d e q i : ℕ) (os ps : List ℕ) (l new : Leaf) (ms : List Leaf) (w : Frame) (ns : List (Option Place)) (r key : List ℕ) →
-    let x : Place = place b (first_of os) in
-    let y : Place = place d (first_of ps) in
-    IsShaped C P V → 3 ≤ b → 3 ≤ d → 3 ≤ e → IsChainOf (tuples_of P b) os (l ∷ ms) → V x ≡ Bucket (l ∷ ms) → AreFree (tuples_of P d) ps (l ∷ new ∷ ms) →
-    tuples_of P e q ≡ Inner w ns → get_or ns i None ≡ Some x → (d ≡ b → ⊥) → (e ≡ b → ⊥) → (e ≡ d → ⊥) →
-    IsFresh V new.row → ReconAt (view_of C V) C.start x r → C.rebuild r new.rest ≡ key →
-    ((c : ℕ) → tuples_of P2 c ≡ moved_chain P b os d ps (l ∷ new ∷ ms) e q w ns i c) → ((c : ℕ) → c < 3 → page_of P2 c ≡ page_of P c) → P2.clock ≡ suc P.clock →
-    (V2 : Place → Spot) × Keeps C P V P2 V2 (λ row. ⊥) (λ row. row ≡ new.row) (moved x y) ×
-    ((row : RowAt) (k : List ℕ) → Entry C (view_of C V2) row k ↔ (Entry C (view_of C V) row k ⊎ ((row ≡ new.row) × (k ≡ key))))

@@ -1,7 +1,6 @@
 // Laws of the pages of an index: what each section keeps.
 #![tactic(auto)]
 
-ghost use Rattle.spg_forest.specs.Pages.{PutBehind, MoveChain};
 ghost use Rattle.spg_forest.specs.Start.{NewIsShaped, StartIsShaped, OneLeafIsShaped};
 ghost use Rattle.spg_forest.specs.Steps.{SplitTuple, AddNode, PutAtEmpty, Age, Sweep, LinksLaidOut};
 ghost use Rattle.spg_forest.specs.Changes.{SplitsTuple, AddsNode, MovesNode, MovesChain, DividesHere, DividesHereWithout, Divides, DividesWithout, SweepsLeaves, AgesRedirects, SweepsPage};
@@ -80,16 +79,6 @@ pub fn sweep_page<O: OpClass>()
     ensures leaves { SweepsLeaves O.meaning }
     ensures redirects { AgesRedirects O.meaning }
     ensures both { SweepsPage O.meaning }
-{}
-
-/// A leaf put behind a chain's head.
-pub fn put_behind()
-    ensures { PutBehind }
-{}
-
-/// A chain moved to another page, with a new leaf.
-pub fn move_chain()
-    ensures { MoveChain }
 {}
 
 /// The changes of inner tuples, a leaf at an empty downlink, and what a vacuum does to a page.
