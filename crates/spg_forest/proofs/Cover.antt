@@ -2,31 +2,8 @@ use Rattle.std.proofs.Common.{◌≡◌, ℕ, suc, ◌≤◌, ◌⊎◌, ⊎_eli
 use Rattle.spg_base.specs.Row.{RowAt}
 use Rattle.spg_forest.specs.View.{Place, Leaf, Class, View, IsBelow, Under, Target, IsStable}
 use Rattle.spg_forest.specs.Spot.{Frame, Spot, view_of}
+use Rattle.spg_forest.specs.Opens.{BelowAt, Leads, IsNearer, IsAhead, CoverHolds}
 use Rattle.spg_forest.proofs.Scan.{target_once}
-
--- the row is below the target of x
-abbrev pub BelowAt : {R : Type 0} → View R → ℕ → Place → RowAt → Type 0
-BelowAt V c x row = (t : Place) × Target V t x c × Under V t row
-
--- redirects of rising stamps lead from x to y, at least one
-pub data Leads {R : Type 0} (V : View R) (y : Place) : Place → ℕ → Type 0 where
-  last : {x : Place} {s u : ℕ} → V.forward x y u → s ≤ u → Leads V y x s
-  more : {x z : Place} {s u : ℕ} → V.forward x z u → s ≤ u → Leads V y z (suc u) → Leads V y x s
-
--- q is nearer than p: its target is below p's, or both have one target and q comes later on the redirects from p
-abbrev pub IsNearer : {R : Type 0} → View R → ℕ → Place → Place → Type 0
-IsNearer V c p q = (t u : Place) × Target V t p c × Target V u q c × (IsBelow V t u ⊎ ((t ≡ u) × Leads V q p c))
-
--- a redirect on a leaf page from block b on
-abbrev pub IsAhead : {R : Type 0} → View R → (Place → Type 0) → ℕ → ℕ → Place → Type 0
-IsAhead V OnLeaf c b x = (y : Place) × (u : ℕ) × V.forward x y u × (c ≤ u) × OnLeaf x × (b ≤ x.block)
-
--- what holds of an open vacuum that opened at stamp c and is at block b
-pub record CoverHolds {J R : Type 0} (V : View R) (OnLeaf : Place → Type 0) (c b : ℕ) (P : J → Place → Type 0) (done undone : J → Type 0) (target : RowAt → Type 0) : Type 0 where
-  pub redirects : (x y : Place) (u : ℕ) → V.forward x y u → c ≤ u → (t : Place) × Target V t x c
-  pub pending : (j : J) (p : Place) → P j p → (t : Place) × Target V t p c
-  pub cover : (row : RowAt) → target row → ((u : Place) × (l : Leaf) × V.leaf u l × (l.row ≡ row) × (b ≤ u.block)) ⊎ (((j : J) × (p : Place) × P j p × undone j × BelowAt V c p row) ⊎ ((x : Place) × IsAhead V OnLeaf c b x × BelowAt V c x row))
-  pub nearer : (j : J) (p : Place) (row : RowAt) → P j p → done j → target row → BelowAt V c p row → (k : J) × (q : Place) × P k q × undone k × BelowAt V c q row × IsNearer V c p q
 
 module _ {J R K : Type 0} (C : Class Frame R K) (V V2 : Place → Spot) (OnLeaf OnLeaf2 : Place → Type 0) (c b : ℕ) (P : J → Place → Type 0) (done undone : J → Type 0) (target added : RowAt → Type 0) (f : Place → Place)
     (S : IsStable (view_of C V) (view_of C V2) C.start c (λ row. ⊥) added f) (D : CoverHolds (view_of C V) OnLeaf c b P done undone target)

@@ -1,18 +1,8 @@
 use Rattle.std.proofs.Common.{◌≡◌, ℕ, suc, ◌⊎◌, ⊎_elim, refl, sym, ◌∙◌, subst, inl, inr}
 use Rattle.spg_base.specs.Row.{RowAt}
 use Rattle.spg_forest.specs.View.{Place, Class, View, AreApart, Under, ReconAt, Target, IsStable}
+use Rattle.spg_forest.specs.Opens.{Items, ScanHolds}
 use Rattle.spg_forest.specs.Spot.{Frame, Spot, Forward, IsStanding, view_of}
-
--- item i is the spot x with the rebuilt value q
-abbrev pub Items : Type 0 → Type 0 → Type 1
-Items I R = I → Place → R → Type 0
-
--- what holds of the held items of a scan that opened at stamp c
-pub record ScanHolds {I R : Type 0} (V : View R) (start : ℕ → R) (c : ℕ) (H : Items I R) (read needed : RowAt → Type 0) : Type 0 where
-  pub sheltered : (i : I) (x : Place) (q : R) → H i x q → (t : Place) × Target V t x c × ReconAt V start t q
-  pub apart : (i j : I) (x y t u : Place) (q r : R) → H i x q → H j y r → (i ≡ j → ⊥) → Target V t x c → Target V u y c → AreApart V t u
-  pub fresh : (i : I) (x t : Place) (q : R) (row : RowAt) → H i x q → Target V t x c → read row → Under V t row → ⊥
-  pub all : (row : RowAt) → needed row → read row ⊎ ((i : I) × (x : Place) × (q : R) × H i x q × ((t : Place) × Target V t x c × Under V t row))
 
 -- a target is one
 pub target_once : {R K : Type 0} (C : Class Frame R K) (V : Place → Spot) (t u x : Place) (s : ℕ) → Target (view_of C V) t x s → Target (view_of C V) u x s → t ≡ u

@@ -19,3 +19,4 @@ pub mod Follows
 pub mod Divisions
 pub mod Keeping
 pub mod Counts
+pub mod Opens
