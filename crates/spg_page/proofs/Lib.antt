@@ -1,0 +1,6 @@
+pub mod Numbers
+pub mod Tilings
+pub mod Layouts
+pub mod Codec
+pub mod StoredLaws
+pub mod Links

@@ -1,0 +1,32 @@
+use Rattle.std.proofs.Common.{◌≡◌, ◌-◌, ◌<◌, length, refl, arith, ◌∙◌, ap}
+use Rattle.spg_page.proofs.StoredLaws.{seen, next_kept}
+use Rattle.spg_page.specs.Layout.{begin_at}
+use Rattle.spg_page.proofs.stored.StoredPage.set_next.Goals as goal
+
+pub two_at-begin-requires : goal.two_at-begin-requires
+two_at-begin-requires c = let v = seen c.self.inside.bytes.value c.self.inside.kind c.self.inside.nulls c.self.inside.count c.self.inside.upper c.self.inside.placeholders c.args.self.now c.self.invariant c.self.view_is in rw (c.as_slice.ensures, c.deref.ensures) (omega (arith, c.self.invariant.laid.len, c.requires.index))
+
+pub put_two-requires : goal.put_two-requires
+put_two-requires c = let v = seen c.self.inside.bytes.value c.self.inside.kind c.self.inside.nulls c.self.inside.count c.self.inside.upper c.self.inside.placeholders c.args.self.now c.self.invariant c.self.view_is in
+    let eq : c.two_at-begin.result ≡ begin_at c.self.inside.bytes.value (c.args.index) = c.two_at-begin.ensures ∙ rw (c.as_slice.ensures, c.deref.ensures) refl in
+    let l : c.args.index < c.self.inside.count = omega (arith, c.requires.index) in
+    let below = c.self.invariant.laid.tiled.below (c.args.index) l in
+    rw c.deref_mut.ensures.value (omega (arith, below, eq, c.self.invariant.laid.len))
+
+pub invariant_of-self : goal.invariant_of-self
+invariant_of-self c =
+    let eq : c.two_at-begin.result ≡ begin_at c.self.inside.bytes.value (c.args.index) = c.two_at-begin.ensures ∙ rw (c.as_slice.ensures, c.deref.ensures) refl in
+    (next_kept c.self.inside.bytes.value c.put_two.new.bytes c.self.inside.kind c.self.inside.nulls c.self.inside.count c.self.inside.upper (c.args.index) c.self.inside.placeholders c.next_number.result c.args.next c.args.self.now c.self.invariant c.self.view_is (omega (arith, c.requires.index)) c.requires.live c.requires.next c.next_number.ensures (omega (arith, c.next_number.type_inv))
+    (omega (arith, c.put_two.auto.bytes, ap length c.deref_mut.ensures.value, c.self.invariant.laid.len)) (rw eq at c.put_two.ensures.low) (rw eq at c.put_two.ensures.high) (rw (eq, c.deref_mut.ensures.value) at c.put_two.ensures.others)).0
+
+pub returns : goal.returns
+returns c =
+    let eq : c.two_at-begin.result ≡ begin_at c.self.inside.bytes.value (c.args.index) = c.two_at-begin.ensures ∙ rw (c.as_slice.ensures, c.deref.ensures) refl in
+    (next_kept c.self.inside.bytes.value c.put_two.new.bytes c.self.inside.kind c.self.inside.nulls c.self.inside.count c.self.inside.upper (c.args.index) c.self.inside.placeholders c.next_number.result c.args.next c.args.self.now c.self.invariant c.self.view_is (omega (arith, c.requires.index)) c.requires.live c.requires.next c.next_number.ensures (omega (arith, c.next_number.type_inv))
+    (omega (arith, c.put_two.auto.bytes, ap length c.deref_mut.ensures.value, c.self.invariant.laid.len)) (rw eq at c.put_two.ensures.low) (rw eq at c.put_two.ensures.high) (rw (eq, c.deref_mut.ensures.value) at c.put_two.ensures.others)).1
+
+pub overflow_mul-index : goal.overflow_mul-index
+overflow_mul-index c = let v = seen c.self.inside.bytes.value c.self.inside.kind c.self.inside.nulls c.self.inside.count c.self.inside.upper c.self.inside.placeholders c.args.self.now c.self.invariant c.self.view_is in omega (arith, c.requires.index)
+
+pub overflow_add-index : goal.overflow_add-index
+overflow_add-index c = let v = seen c.self.inside.bytes.value c.self.inside.kind c.self.inside.nulls c.self.inside.count c.self.inside.upper c.self.inside.placeholders c.args.self.now c.self.invariant c.self.view_is in omega (arith, c.requires.index)
