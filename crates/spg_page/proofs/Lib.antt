@@ -4,3 +4,4 @@ pub mod Layouts
 pub mod Codec
 pub mod StoredLaws
 pub mod Links
+pub mod SheetLaws

@@ -4,3 +4,6 @@ pub mod Spelling
 pub mod Layout
 pub mod Stored
 pub mod Stores
+pub mod Told
+pub mod Sheets
+pub mod Inside

@@ -149,7 +149,7 @@ pub record IsKept (bytes : List ℕ) (kind : PageKind) (nulls : Bool) (count upp
   pub empties : placeholders ≡ placeholder_count (tuples_in bytes count)
 
 -- the bytes read as the page: the numbers of its header are those of its tuples
-pub record IsPageOf (bytes : List ℕ) (s : Stored) : Type 0 where
+pub record IsStoredIn (bytes : List ℕ) (s : Stored) : Type 0 where
   pub head : IsHead bytes s.kind s.nulls (length s.tuples) (two_at bytes 14)
   pub laid : IsLaid bytes (length s.tuples) (two_at bytes 14)
   pub stored : (i : ℕ) → i < length s.tuples → AreTuple (piece_at bytes i)

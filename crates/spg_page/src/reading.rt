@@ -4,6 +4,8 @@ ghost use Rattle.spg_page.specs.Numbers.{two_at, four_at, six_at};
 ghost use Rattle.spg_page.specs.declared.tuple.Tuple.{Tuple};
 ghost use Rattle.spg_page.specs.Spelling.{kind_of, tag_of, padded, next_of, link_of, node_of, nodes_of, leaf_of, inner_of, tuple_of, AreTuple};
 ghost use Rattle.spg_page.specs.Stored.{nodes_in, node_begin};
+ghost use Rattle.spg_page.specs.Told.{told};
+ghost use Rattle.spg_page.specs.Sheets.{kind_of as kind_in};
 
 use crate::layout::two_at;
 use crate::tuple::{InnerTuple, LeafTuple, Node, Nodes, Tuple, TupleKind};
@@ -162,4 +164,12 @@ pub(crate) fn tuple_of(alloc: Global, bytes: &[u8]) -> Result<Tuple, Memory>
         }),
         TupleKind::Placeholder => Ok(Tuple::Placeholder),
     }
+}
+
+/// The kind of the tuple that the bytes spell.
+pub(crate) fn kind_of(bytes: &[u8]) -> TupleKind
+    requires { AreTuple bytes.now }
+    ensures { result ≡ kind_in (told (tuple_of bytes.now)) }
+{
+    kind_by_tag(bytes[0])
 }

@@ -3,7 +3,7 @@ ghost use Rattle.std.specs.List.{remove};
 ghost use Rattle.spg_page.specs.declared.tuple.Tuple.{Tuple};
 ghost use Rattle.spg_page.specs.declared.tuple.Tuple.TheVariants.{Placeholder};
 ghost use Rattle.spg_page.specs.Spelling.{size_of, tag_of, tuple_of, IsTuple, AreTuple};
-ghost use Rattle.spg_page.specs.Stored.{Stored, trimmed, used, free_of, room_of, placeholder_count, added, place_for, with_next, with_link, nodes_in, IsLive, IsHead, IsPageOf, kind_code};
+ghost use Rattle.spg_page.specs.Stored.{Stored, trimmed, used, free_of, room_of, placeholder_count, added, place_for, with_next, with_link, nodes_in, IsLive, IsHead, IsStoredIn, kind_code};
 
 use crate::layout::{
     piece_at, push_piece, put_piece, put_two, remove_at, replace_at, set_numbers, two_at,
@@ -77,7 +77,7 @@ impl StoredPage {
 
     /// The bytes of the page, with zero as its block.
     pub fn bytes(&self) -> &[u8; 8192]
-        ensures { IsPageOf result.now self.now }
+        ensures { IsStoredIn result.now self.now }
     {
         &self.bytes
     }

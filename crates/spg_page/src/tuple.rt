@@ -60,18 +60,9 @@ impl Nodes {
         ensures ok { OnOk result (self.new ≡ self.old ++ node ∷ []) }
         ensures err { OnErr result (self.new ≡ self.old) }
     {
-        self.items.push(known(node))
-    }
-}
-
-/// The node, whose numbers fit their types.
-fn known(node: Node) -> Node
-    ensures same { result ≡ node }
-    ensures fits { IsInRange node }
-{
-    Node {
-        label: node.label,
-        link: known_link(node.link),
+        let label = node.label;
+        let link = known_link(node.link);
+        self.items.push(Node { label, link })
     }
 }
 

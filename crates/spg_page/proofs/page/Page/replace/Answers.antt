@@ -1,0 +1,28 @@
+use Rattle.std.proofs.Common.{◌≡◌, ◌+◌, ◌-◌, ◌<◌, ◌≤◌, ◌++◌, length, get_or, set, map, arith, refl, sym, ap, ◌∙◌}
+use Rattle.spg_forest.specs.Tuples.{Tuple}
+use Rattle.spg_forest.specs.Pages.{tuple_on, with_tuple}
+use Rattle.spg_page.specs.declared.tuple.Tuple.TheVariants.{Placeholder}
+use Rattle.spg_page.specs.Spelling as S
+use Rattle.spg_page.specs.Stored as St
+use Rattle.spg_page.specs.Stored.{Stored}
+use Rattle.spg_page.specs.Told.{told, number_of}
+use Rattle.spg_page.specs.Inside.{told_page}
+use Rattle.spg_page.specs.Sheets.{Sheet, with_tuples, IsOffset, size_of, relinked, linked, links, added}
+use Rattle.spg_page.proofs.SheetLaws.{told_size, told_used, told_free, told_gaps, told_room, told_place, told_added, told_trimmed, told_removed, told_next, told_link, told_nodes, told_kind, told_length, changed_at, none_told}
+use Rattle.spg_page.proofs.page.Page.replace.Goals as goal
+
+pub put-requires-clause-room : goal.put-requires-clause-room
+put-requires-clause-room c =
+    let h : IsOffset (map told c.self.inside.stored.tuples) c.args.offset = rw (← c.self.view_is) at c.requires.offset in
+    let k = changed_at c.self.inside.stored.tuples c.args.offset h in
+    let n = rw (← c.self.view_is) at c.requires.room in
+    let size : size_of c.args.bytes.now ≡ S.size_of c.spelling.result.now = ap size_of (sym c.spelling.ensures) ∙ told_size c.spelling.result.now in
+    let old : size_of (tuple_on (map told c.self.inside.stored.tuples) c.args.offset) ≡ S.size_of (get_or c.self.inside.stored.tuples (c.args.offset - 1) Placeholder) = ap size_of (sym k.here) ∙ told_size (get_or c.self.inside.stored.tuples (c.args.offset - 1) Placeholder) in
+    rw c.index_of.ensures (rw (size, old, told_free c.self.inside.stored.tuples) at n)
+
+pub returns : goal.returns
+returns c =
+    let h : IsOffset (map told c.self.inside.stored.tuples) c.args.offset = rw (← c.self.view_is) at c.requires.offset in
+    let k = changed_at c.self.inside.stored.tuples c.args.offset h in
+    rw (← c.self.view_is, c.put.ensures, c.index_of.ensures) (ap (with_tuples (told_page c.self.inside.stored)) (k.set c.spelling.result.now
+    ∙ ap (with_tuple (map told c.self.inside.stored.tuples) c.args.offset) c.spelling.ensures))
