@@ -5,3 +5,4 @@ pub mod Codec
 pub mod StoredLaws
 pub mod Links
 pub mod SheetLaws
+pub mod PartLaws

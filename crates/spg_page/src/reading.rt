@@ -39,7 +39,7 @@ pub(crate) fn padded(len: usize) -> usize
     (len + 7) / 8 * 8
 }
 
-fn next_of(number: u16) -> Option<Offset>
+pub(crate) fn next_of(number: u16) -> Option<Offset>
     ensures { result ≡ next_of number }
 {
     if number == 0 {
@@ -70,7 +70,7 @@ fn label_of(bytes: &[u8]) -> i16
     i16::from_le_bytes([bytes[6], bytes[7]])
 }
 
-fn node_of(bytes: &[u8]) -> Node
+pub(crate) fn node_of(bytes: &[u8]) -> Node
     requires { 8 ≤ length bytes.now }
     ensures { result ≡ node_of bytes.now }
 {
