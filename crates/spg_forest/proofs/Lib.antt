@@ -1,3 +1,4 @@
+pub mod Flat
 pub mod Ways
 pub mod Carry
 pub mod Spots
@@ -20,8 +21,7 @@ pub mod Age
 pub mod Sweep
 pub mod Ends
 pub mod Once
-pub mod Shapes
-pub mod Fit
+pub mod FromLinks
 pub mod Part
 pub mod Blocks
 pub mod Runs
@@ -36,8 +36,9 @@ pub mod Scan
 pub mod Cover
 pub mod FitWay
 pub mod Count
-pub mod ToShape
+pub mod ToLinks
 pub mod Rows
 pub mod Read
 pub mod Put
 pub mod Move
+pub mod NewIndex

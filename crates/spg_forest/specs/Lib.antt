@@ -2,8 +2,12 @@ pub mod View
 pub mod Spot
 pub mod Tuples
 pub mod Pages
-pub mod Shape
+pub mod Links
 pub mod Steps
 pub mod Start
 pub mod Classes
 pub mod Sheets
+pub mod Fit
+pub mod Shape
+pub mod Walk
+pub mod Section

@@ -2,9 +2,9 @@
 #![tactic(auto)]
 
 ghost use Rattle.spg_forest.specs.Pages.{PutBehind, MoveChain};
-ghost use Rattle.spg_forest.specs.Start.{StartIsShaped, OneLeafIsShaped};
-ghost use Rattle.spg_forest.specs.Steps.{SplitTuple, AddNode, PutAtEmpty, Age, Sweep, ShapeLaidOut};
-ghost use Rattle.spg_forest.specs.Shape.{ShapeIsTree, TreeIsShape};
+ghost use Rattle.spg_forest.specs.Start.{NewIsShaped, StartIsShaped, OneLeafIsShaped};
+ghost use Rattle.spg_forest.specs.Steps.{SplitTuple, AddNode, PutAtEmpty, Age, Sweep, LinksLaidOut};
+ghost use Rattle.spg_forest.specs.Links.{LinksAreTree, TreeIsLinked};
 
 /// A leaf put behind a chain's head.
 pub fn put_behind()
@@ -27,13 +27,14 @@ pub fn steps()
 
 /// Pages whose links are right are laid out as computed.
 pub fn shape()
-    ensures laid_out { ShapeLaidOut }
-    ensures is_tree { ShapeIsTree }
-    ensures from_tree { TreeIsShape }
+    ensures laid_out { LinksLaidOut }
+    ensures is_tree { LinksAreTree }
+    ensures from_tree { TreeIsLinked }
 {}
 
 /// The premise of these laws can be met.
 pub fn start()
+    ensures new_index { NewIsShaped }
     ensures empty { StartIsShaped }
     ensures one_leaf { OneLeafIsShaped }
 {}
