@@ -15,7 +15,10 @@ use Rattle.spg_page.specs.Numbers.{two_at, four_at, six_at}
 use Rattle.spg_page.specs.Spelling.{padded, node_of, nodes_of, leaf_of, inner_of, next_of, tag_of, bytes_of, tuple_of, AreTuple}
 use Rattle.spg_page.specs.Stored.{nodes_in, prefix_in, node_begin}
 use Rattle.spg_page.specs.Told.{told, number_of}
-use Rattle.spg_page.specs.Sheets.{IsLive, IsInner, IsRedirect, kind_of, leaf_in, next_in, target_in, stamp_in, links, frame_in, IsTarget, IsStored}
+use Rattle.spg_page.specs.Kinds.{IsLive, IsInner, IsRedirect, kind_of}
+use Rattle.spg_page.specs.Reads.{leaf_in, target_in, stamp_in, frame_in, IsTarget, IsStored}
+use Rattle.spg_forest.specs.Tuples.{next_of as next_in}
+use Rattle.spg_forest.specs.Sheets.{links}
 use Rattle.spg_page.proofs.Codec.{tag_back, by_tag, length_from, leaf_readable, inner_readable}
 use Rattle.spg_page.proofs.Links.{node_read}
 use Rattle.spg_page.proofs.SheetLaws.{told_nodes}

@@ -1,10 +1,11 @@
--- What callers use of the definitions of specs/Sheets: places, sums and sizes of a list of tuples.
+-- What callers use of pages: places, sums and sizes of a list of tuples.
 use Rattle.std.proofs.Common.{◌≡◌, ℕ, zero, suc, ◌+◌, ◌*◌, ◌<◌, ◌≤◌, ◌-◌, List, [], ◌∷◌, ◌++◌, length, get_or, set, refl, ap, arith, Option}
 use Rattle.std.proofs.lemmas.List.{length-set}
 use Rattle.spg_forest.specs.View.{Place}
 use Rattle.spg_forest.specs.Tuples.{Tuple, Inner, Live, Dead, Redirect, Placeholder}
 use Rattle.spg_forest.specs.Pages.{tuple_on}
-use Rattle.spg_page.specs.Sheets.{padded, size_of, used, gap, gaps, free_place, relinked, linked}
+use Rattle.spg_page.specs.Spelling.{padded}
+use Rattle.spg_forest.specs.Sheets.{size_of, weight, gap, gaps, free_place, relinked, linked}
 
 -- ---- places
 
@@ -44,18 +45,18 @@ free_place_below (Placeholder ∷ ts) e = omega arith
 
 -- ---- sums
 
-pub used-append : (ts us : List Tuple) → used (ts ++ us) ≡ used ts + used us
-used-append [] us = omega arith
-used-append (t ∷ ts) us = omega (arith, used-append ts us)
+pub weight-append : (ts us : List Tuple) → weight (ts ++ us) ≡ weight ts + weight us
+weight-append [] us = omega arith
+weight-append (t ∷ ts) us = omega (arith, weight-append ts us)
 
 pub gaps-append : (ts us : List Tuple) → gaps (ts ++ us) ≡ gaps ts + gaps us
 gaps-append [] us = omega arith
 gaps-append (t ∷ ts) us = omega (arith, gaps-append ts us)
 
-pub used-set : (ts : List Tuple) (i : ℕ) (t : Tuple) → i < length ts → used (set ts i t) + size_of (get_or ts i Placeholder) ≡ used ts + size_of t
-used-set [] i t h = absurd (omega arith)
-used-set (u ∷ ts) zero t h = omega arith
-used-set (u ∷ ts) (suc i) t h = let e = used-set ts i t (omega arith) in omega arith
+pub weight-set : (ts : List Tuple) (i : ℕ) (t : Tuple) → i < length ts → weight (set ts i t) + size_of (get_or ts i Placeholder) ≡ weight ts + size_of t
+weight-set [] i t h = absurd (omega arith)
+weight-set (u ∷ ts) zero t h = omega arith
+weight-set (u ∷ ts) (suc i) t h = let e = weight-set ts i t (omega arith) in omega arith
 
 pub gaps-set : (ts : List Tuple) (i : ℕ) (t : Tuple) → i < length ts → gaps (set ts i t) + gap (get_or ts i Placeholder) ≡ gaps ts + gap t
 gaps-set [] i t h = absurd (omega arith)
@@ -63,7 +64,7 @@ gaps-set (u ∷ ts) zero t h = omega arith
 gaps-set (u ∷ ts) (suc i) t h = let e = gaps-set ts i t (omega arith) in omega arith
 
 -- each tuple is a part of the sum
-pub part_used : (ts : List Tuple) (i : ℕ) → i < length ts → size_of (get_or ts i Placeholder) + 4 ≤ used ts
+pub part_used : (ts : List Tuple) (i : ℕ) → i < length ts → size_of (get_or ts i Placeholder) + 4 ≤ weight ts
 part_used [] i h = absurd (omega arith)
 part_used (t ∷ ts) zero h = omega arith
 part_used (t ∷ ts) (suc i) h = let k = part_used ts i (omega arith) in omega arith

@@ -18,7 +18,10 @@ use Rattle.spg_page.specs.Spelling as S
 use Rattle.spg_page.specs.Spelling.{padded, IsPlace, IsNode, IsTuple, AreTuple, tuple_of}
 use Rattle.spg_page.specs.Stored as St
 use Rattle.spg_page.specs.Told.{told, number_of, labels_of, links_of}
-use Rattle.spg_page.specs.Sheets.{IsOffset, kind_of, size_of, used, free_of, gap, gaps, room_of, free_place, added, relinked, linked, links, in_front, trimmed, IsLive, IsTarget, IsStored}
+use Rattle.spg_page.specs.Kinds.{IsOffset, kind_of, IsLive}
+use Rattle.spg_forest.specs.Sheets.{size_of, weight, gap, gaps, free_place, relinked, linked, links}
+use Rattle.spg_page.specs.Changes.{free_of, room_of, added, in_front, trimmed}
+use Rattle.spg_page.specs.Reads.{IsTarget, IsStored}
 use Rattle.spg_page.proofs.Codec.{size_from, size_below, spelled_as}
 use Rattle.spg_page.proofs.StoredLaws.{place_below, added_first, added_last}
 
@@ -122,7 +125,7 @@ told_stored PlaceholderOf h = tt
 
 -- ---- lists
 
-pub told_used : (ts : List TupleOf) → used (map told ts) ≡ St.used ts
+pub told_used : (ts : List TupleOf) → weight (map told ts) ≡ St.used ts
 told_used [] = refl
 told_used (t ∷ ts) = omega (arith, told_size t, told_used ts, sum_by-cons (λ u. S.size_of u + 4) t ts)
 

@@ -1,7 +1,10 @@
 ghost use Rattle.std.specs.Prelude.{◌≡◌, ◌<◌, ◌≤◌, length, IfSome, None, Some, slice_get, slice_index_or};
 ghost use Rattle.spg_forest.specs.Pages.{tuple_on};
 ghost use Rattle.spg_page.specs.Told.{number_of};
-ghost use Rattle.spg_page.specs.Sheets.{IsOffset, IsLive, IsInner, IsRedirect, leaf_in, next_in, target_in, stamp_in, links, frame_in, IsStored};
+ghost use Rattle.spg_page.specs.Kinds.{IsOffset, IsLive, IsInner, IsRedirect};
+ghost use Rattle.spg_page.specs.Reads.{leaf_in, target_in, stamp_in, frame_in, IsStored};
+ghost use Rattle.spg_forest.specs.Tuples.{next_of as next_in};
+ghost use Rattle.spg_forest.specs.Sheets.{links};
 
 use crate::page::Page;
 use crate::parts::{

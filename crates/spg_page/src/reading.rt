@@ -5,7 +5,7 @@ ghost use Rattle.spg_page.specs.declared.tuple.Tuple.{Tuple};
 ghost use Rattle.spg_page.specs.Spelling.{kind_of, tag_of, padded, next_of, link_of, node_of, nodes_of, leaf_of, inner_of, tuple_of, AreTuple};
 ghost use Rattle.spg_page.specs.Stored.{nodes_in, node_begin};
 ghost use Rattle.spg_page.specs.Told.{told};
-ghost use Rattle.spg_page.specs.Sheets.{kind_of as kind_in};
+ghost use Rattle.spg_page.specs.Kinds.{kind_of as kind_in};
 
 use crate::layout::two_at;
 use crate::tuple::{InnerTuple, LeafTuple, Node, Nodes, Tuple, TupleKind};

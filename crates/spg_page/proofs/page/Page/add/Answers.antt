@@ -7,7 +7,9 @@ use Rattle.spg_page.specs.Stored as St
 use Rattle.spg_page.specs.Stored.{Stored}
 use Rattle.spg_page.specs.Told.{told, number_of}
 use Rattle.spg_page.specs.Inside.{told_page}
-use Rattle.spg_page.specs.Sheets.{Sheet, with_tuples, IsOffset, size_of, relinked, linked, links, added}
+use Rattle.spg_forest.specs.Sheets.{Sheet, with_tuples, size_of, relinked, linked, links}
+use Rattle.spg_page.specs.Kinds.{IsOffset}
+use Rattle.spg_page.specs.Changes.{added}
 use Rattle.spg_page.proofs.SheetLaws.{told_size, told_used, told_free, told_gaps, told_room, told_place, told_added, told_trimmed, told_removed, told_next, told_link, told_nodes, told_kind, told_length, changed_at, none_told}
 use Rattle.spg_page.proofs.page.Page.add.Goals as goal
 
