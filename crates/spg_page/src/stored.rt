@@ -281,6 +281,10 @@ impl StoredPage {
     }
 }
 
+/// The version of the form of pages.
+const VERSION: u8 = 1;
+
+/// A page's kind in its header.
 fn code_of(kind: PageKind) -> u8
     ensures { result ≡ kind_code kind }
 {
@@ -290,6 +294,7 @@ fn code_of(kind: PageKind) -> u8
     }
 }
 
+/// A page's tree in its header.
 fn tree_of(nulls: bool) -> u8
     ensures { result ≡ (if nulls then 1 else 0) }
 {
@@ -308,7 +313,7 @@ fn write_head(bytes: &mut [u8], kind: PageKind, nulls: bool)
         80,
         71,
         88,
-        1,
+        VERSION,
         0,
         code_of(kind),
         tree_of(nulls),
