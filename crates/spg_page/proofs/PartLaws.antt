@@ -136,9 +136,9 @@ label_there (m ∷ ns) (suc i) n l e = label_there ns i n (omega arith) e
 
 told_node : (t : TupleOf) (i : ℕ) (n : Node) → i < length (nodes_in t) → get_or (nodes_in t) i n ≡ n → (n.link ≡ get_or (links (told t)) i None) × (slice_get (frame_in (told t)).labels i ≡ Some n.label)
 told_node (InnerOf t) i n l e = (
-    sym (get_or-map (λ (n : Node). n.link) t.nodes i n None l ∙ ap (λ (n : Node). n.link) e),
-    label_there t.nodes i n l e,
-  )
+  sym (get_or-map (λ (n : Node). n.link) t.nodes i n None l ∙ ap (λ (n : Node). n.link) e),
+  label_there t.nodes i n l e,
+)
 told_node (LeafOf t) i n l e = absurd (omega arith)
 told_node DeadOf i n l e = absurd (omega arith)
 told_node (RedirectOf to stamp) i n l e = absurd (omega arith)
@@ -166,6 +166,7 @@ link_from (Inner w ns) i h l = at ns i h.links
     one : (l : Option Place) → IfSome l (λ to. IsTarget to × (0 < to.block)) → IfSome l (λ to. (0 < to.block) × (0 < to.offset))
     one None h = tt
     one (Some to) h = (h.1, h.0.offset_from)
+
     at : (ns : List (Option Place)) (i : ℕ) → AllByRecursion (λ l. IfSome l (λ to. IsTarget to × (0 < to.block))) ns → IfSome (get_or ns i None) (λ to. (0 < to.block) × (0 < to.offset))
     at [] i h = tt
     at (l ∷ ls) zero h = one l h.0

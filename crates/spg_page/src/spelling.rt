@@ -17,7 +17,7 @@ enum Store {
     Long(Vec<u8>),
 }
 
-/// A tuple as the bytes that it has on a page.
+/// The bytes of a tuple on a page.
 #[derive(Debug, Drop)]
 pub struct Spelling {
     store: Store,
@@ -61,6 +61,7 @@ impl Spelling {
         self.as_slice().len() as u16
     }
 
+    /// The bytes of a dead tuple.
     pub fn dead() -> Spelling
         ensures { result ≡ Dead }
     {
@@ -69,6 +70,7 @@ impl Spelling {
         }
     }
 
+    /// The bytes of a placeholder.
     pub fn placeholder() -> Spelling
         ensures { result ≡ Placeholder }
     {
@@ -79,6 +81,7 @@ impl Spelling {
 }
 
 impl Spelling {
+    /// The bytes of a redirect.
     pub fn redirect(to: Place, stamp: Stamp) -> Spelling
         requires { 0 < to.offset }
         ensures { result ≡ Redirect to stamp }
@@ -105,6 +108,7 @@ impl Spelling {
     }
 }
 
+/// A next offset as a number: 0 where there is none.
 pub(crate) fn next_number(next: Option<Offset>) -> u16
     ensures { result ≡ next_number next }
 {
@@ -114,6 +118,7 @@ pub(crate) fn next_number(next: Option<Offset>) -> u16
     }
 }
 
+/// The bytes of a leaf tuple.
 fn of_leaf(alloc: Global, leaf: &LeafTuple) -> Result<Spelling, Memory>
     requires { IsSpellable (Leaf leaf.now) }
     ensures { IfOk result (λ bytes. bytes ≡ Leaf leaf.now) }
@@ -168,6 +173,7 @@ fn node_bytes(node: Node) -> [u8; 8]
     [b0, b1, b2, b3, o0, o1, l0, l1]
 }
 
+/// The bytes of an inner tuple.
 fn of_inner(alloc: Global, inner: &InnerTuple) -> Result<Spelling, Memory>
     requires { IsSpellable (Inner inner.now) }
     ensures { IfOk result (λ bytes. bytes ≡ Inner inner.now) }
@@ -189,12 +195,14 @@ fn of_inner(alloc: Global, inner: &InnerTuple) -> Result<Spelling, Memory>
     })
 }
 
+/// One byte for a truth.
 fn flag(yes: bool) -> u8
     ensures { result ≡ (if yes then 1 else 0) }
 {
     if yes { 1 } else { 0 }
 }
 
+/// Adds the bytes of nodes at the end.
 fn push_nodes(bytes: &mut Vec<u8>, nodes: &[Node]) -> Result<(), Memory>
     ensures { OnOk result (bytes.new.items ≡ bytes.old.items ++ flat_map node_bytes nodes.now) }
 {

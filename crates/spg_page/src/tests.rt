@@ -91,11 +91,7 @@ fn leaf_of(alloc: Global, block: u32, len: u8, next: u16) -> Result<TupleBytes, 
     for i in 0..len {
         rest.push(i)?;
     }
-    let next = if next == 0 {
-        None
-    } else {
-        Some(Offset(next))
-    };
+    let next = if next == 0 { None } else { Some(Offset(next)) };
     if rest.len() > 255 {
         return Err(Memory);
     }
@@ -106,11 +102,7 @@ fn leaf_of(alloc: Global, block: u32, len: u8, next: u16) -> Result<TupleBytes, 
 fn link_to(block: u32) -> Option<Place>
     ensures { IfSome result (λ to. (0 < to.block) × (0 < to.offset)) }
 {
-    if block == 0 {
-        None
-    } else {
-        Some(place(block))
-    }
+    if block == 0 { None } else { Some(place(block)) }
 }
 
 fn one_node(alloc: Global, link: Option<Place>) -> Result<Nodes, Memory>

@@ -10,4 +10,3 @@ two_at-requires c = omega (arith, length_from c.args.bytes.now c.requires.tuple)
 
 pub returns-clause-value : goal.returns-clause-value
 returns-clause-value c = let r = leaf_read c.args.bytes.now c.requires.tuple c.requires.live in ap number_of c.next_of.ensures ∙ next_number_of c.two_at.result ∙ c.two_at.ensures ∙ r.next
-

@@ -10,4 +10,3 @@ two_at-requires c = omega (arith, length_from c.args.bytes.now c.requires.tuple)
 
 pub returns : goal.returns
 returns c = let r = inner_read c.args.bytes.now c.requires.tuple c.requires.inner in c.two_at.ensures ∙ r.count
-

@@ -12,7 +12,6 @@ pub slice_bounds-result-end : goal.slice_bounds-result-end
 slice_bounds-result-end c = let r = inner_read c.args.bytes.now c.requires.tuple c.requires.inner in omega (arith, c.two_at-len.ensures, r.long, padded_from c.two_at-len.result)
 
 pub returns : goal.returns
-returns c = let r = inner_read c.args.bytes.now c.requires.tuple c.requires.inner in 
+returns c = let r = inner_read c.args.bytes.now c.requires.tuple c.requires.inner in
     let e : 8 + c.two_at-len.result - 8 ≡ c.two_at-len.result = omega arith in
     rw (e, c.two_at-len.ensures) r.prefix
-

@@ -12,7 +12,6 @@ pub slice_bounds-result-end : goal.slice_bounds-result-end
 slice_bounds-result-end c = let r = leaf_read c.args.bytes.now c.requires.tuple c.requires.live in omega (arith, c.two_at-len.ensures, r.long)
 
 pub returns : goal.returns
-returns c = let r = leaf_read c.args.bytes.now c.requires.tuple c.requires.live in 
+returns c = let r = leaf_read c.args.bytes.now c.requires.tuple c.requires.live in
     let e : 16 + c.two_at-len.result - 16 ≡ c.two_at-len.result = omega arith in
     rw (e, c.two_at-len.ensures) r.rest
-

@@ -16,4 +16,3 @@ at-requires c = let r = leaf_read c.args.bytes.now c.requires.tuple c.requires.l
 
 pub returns : goal.returns
 returns c = let r = leaf_read c.args.bytes.now c.requires.tuple c.requires.live in c.at.ensures ∙ rw (c.two_at.ensures, c.four_at.ensures) r.row
-

@@ -10,4 +10,3 @@ six_at-requires c = omega (arith, length_from c.args.bytes.now c.requires.tuple)
 
 pub returns : goal.returns
 returns c = let r = redirect_read c.args.bytes.now c.requires.tuple c.requires.redirect in c.at.ensures ∙ c.six_at.ensures.value ∙ r.stamp
-

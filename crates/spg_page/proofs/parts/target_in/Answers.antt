@@ -13,4 +13,3 @@ two_at-requires c = omega (arith, length_from c.args.bytes.now c.requires.tuple)
 
 pub returns : goal.returns
 returns c = let r = redirect_read c.args.bytes.now c.requires.tuple c.requires.redirect in rw (c.four_at.ensures, c.two_at.ensures) r.target
-
