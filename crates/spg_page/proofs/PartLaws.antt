@@ -1,25 +1,22 @@
 -- The parts of a tuple stand in its bytes where its spelling has them.
-use Rattle.std.proofs.Common.{◌≡◌, ℕ, zero, suc, ◌+◌, ◌-◌, ◌*◌, ◌<◌, ◌≤◌, Option, Some, None, List, [], ◌∷◌, length, get_or, take, drop, map, refl, sym, ap, subst, ◌∙◌, arith, eqb, false}
+use Rattle.std.proofs.Common.{◌≡◌, ℕ, zero, suc, ◌+◌, ◌*◌, ◌<◌, ◌≤◌, Option, Some, None, List, [], ◌∷◌, length, get_or, take, drop, map, refl, sym, ap, ◌∙◌, arith, eqb, false}
 use Rattle.std.specs.Prelude.{IfSome}
 use Rattle.std.specs.List.{AllByRecursion, slice_get}
-use Rattle.std.proofs.lemmas.List.{get_or-map, length-map, drop-drop}
+use Rattle.std.proofs.lemmas.List.{get_or-map, drop-drop}
 use Rattle.spg_forest.specs.View.{Place}
 use Rattle.spg_forest.specs.Tuples.{Tuple, Inner, Live, Dead, Redirect, Placeholder}
 use Rattle.spg_page.specs.declared.tuple.Node.{Node}
-use Rattle.spg_page.specs.declared.tuple.InnerTuple.{InnerTuple}
-use Rattle.spg_page.specs.declared.tuple.LeafTuple.{LeafTuple}
 use Rattle.spg_page.specs.declared.tuple.Tuple.{Tuple as TupleOf}
 use Rattle.spg_page.specs.declared.tuple.Tuple.TheVariants.{Inner as InnerOf, Leaf as LeafOf, Dead as DeadOf, Redirect as RedirectOf, Placeholder as PlaceholderOf}
-use Rattle.spg_page.specs.declared.tuple.TupleKind.TheVariants as kinds
 use Rattle.spg_page.specs.Numbers.{two_at, four_at, six_at}
-use Rattle.spg_page.specs.Spelling.{padded, node_of, nodes_of, leaf_of, inner_of, next_of, tag_of, bytes_of, tuple_of, AreTuple}
+use Rattle.spg_page.specs.Spelling.{padded, node_of, nodes_of, leaf_of, inner_of, next_of, tag_of, tuple_of, AreTuple}
 use Rattle.spg_page.specs.Stored.{nodes_in, prefix_in, node_begin}
 use Rattle.spg_page.specs.Told.{told, number_of}
-use Rattle.spg_page.specs.Kinds.{IsLive, IsInner, IsRedirect, kind_of}
+use Rattle.spg_page.specs.Kinds.{IsLive, IsInner, IsRedirect}
 use Rattle.spg_page.specs.Reads.{leaf_in, target_in, stamp_in, frame_in, IsTarget, IsStored}
 use Rattle.spg_forest.specs.Tuples.{next_of as next_in}
 use Rattle.spg_forest.specs.Sheets.{links}
-use Rattle.spg_page.proofs.Codec.{tag_back, by_tag, length_from, leaf_readable, inner_readable}
+use Rattle.spg_page.proofs.Codec.{tag_back, by_tag, leaf_readable, inner_readable}
 use Rattle.spg_page.proofs.Links.{node_read}
 use Rattle.spg_page.proofs.SheetLaws.{told_nodes}
 
