@@ -345,6 +345,11 @@ fn changes_match_a_list(rt: HostRuntime) -> Result<(), Fail> {
         change_list(&mut list, change)?;
         assert_equal(&rt, &page, &list, change);
     }
+    assert!(rt; is_inner(&page, 2));
+    let view = page.view_at(alloc, Offset(2))?;
+    assert_eq!(rt; view.all_same, true);
+    assert_eq!(rt; view.prefix.as_slice(), [9; 5].as_slice());
+    assert_eq!(rt; view.labels.as_slice(), [-2].as_slice());
     let mut other = Page::new(alloc, PageKind::Inner, false)?;
     other.copy_from(&page);
     assert_eq!(rt; other.kind(), PageKind::Leaf);
