@@ -1,0 +1,16 @@
+pub mod Texts
+pub mod Conditions
+pub mod Tuples
+pub mod Choosing
+pub mod Dividing
+pub mod Visiting
+pub mod Radix
+pub mod TextLemmas
+pub mod FrontLemmas
+pub mod TupleLemmas
+pub mod Matches
+pub mod Splits
+pub mod Adds
+pub mod Picks
+pub mod Keeps
+pub mod Codes

@@ -1,0 +1,11 @@
+//! The operator class of radix trees over texts of bytes (PostgreSQL 16 manual, chapter SP-GiST,
+//! "Built-in Operator Classes": `text_ops`).
+#![tactic(auto)]
+
+mod condition;
+mod recon;
+mod text;
+
+pub use condition::TextCond;
+pub use recon::RadixRecon;
+pub use text::ByteText;
