@@ -35,7 +35,7 @@ pub radix_codes : CodeLaw radix_meaning
 radix_codes = record {
   start_gives = λ key h. rebuilt_from [] key h;
   start_recon = refl;
-  down_recon = λ recon tuple node r t l. below_bytes recon.text tuple node r t;
+  down_recon = λ recon tuple node r t l. below_bytes recon.text tuple node r (and_true (is_text tuple.prefix) (radix_nodes tuple) t).0;
   start_rest = λ key h. h;
   rebuilt = λ recon rest key h. let r = rebuilt_some recon.text rest key h in subst (λ (k : List ℕ). is_text k ≡ true) r.1 r.0;
   key_value = λ key h. text_bytes key h;

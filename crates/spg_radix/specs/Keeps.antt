@@ -237,8 +237,8 @@ radix_keeps recon tuple conds r t texts =
     record {
       ordered = kept_below-rises p n;
       exact = λ i. (
-        λ h. let u = kept_below-there p n i h in (u.0, (wanted_is recon tuple conds i texts (below_bytes recon.text tuple i r t)).0 u.1),
-        λ h. kept_below-found p n i h.0 ((wanted_is recon tuple conds i texts (below_bytes recon.text tuple i r t)).1 h.1),
+        λ h. let u = kept_below-there p n i h in (u.0, (wanted_is recon tuple conds i texts (below_bytes recon.text tuple i r (and_true (is_text tuple.prefix) (radix_nodes tuple) t).0)).0 u.1),
+        λ h. kept_below-found p n i h.0 ((wanted_is recon tuple conds i texts (below_bytes recon.text tuple i r (and_true (is_text tuple.prefix) (radix_nodes tuple) t).0)).1 h.1),
       );
       all_or_none = λ s. all_or_none recon tuple conds nodes s (p 0) refl;
     }

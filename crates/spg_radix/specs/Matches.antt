@@ -20,7 +20,7 @@ use Rattle.spg_opclass.specs.Meaning.{upper, lower, longer, is_tuple}
 use Rattle.spg_opclass.specs.Laws.{CodeLaw, IsAdd, moved, MatchLaw, AddLaw, SplitLaw, IsMatch, IsSplit, Takes, GoesOn, padded_length, inner_size}
 use Rattle.spg_radix.specs.declared.recon.RadixRecon.{RadixRecon}
 use Rattle.spg_radix.specs.Texts.{is_bytes, is_text, begins}
-use Rattle.spg_radix.specs.TextLemmas.{and_true, true_and, lt_from, lt_to, le_from, text_short, text_front, text_end, bytes_append, text_bytes}
+use Rattle.spg_radix.specs.TextLemmas.{and_true, true_and, lt_from, lt_to, le_from, text_short, text_front, text_end, bytes_append, bytes_parts, text_bytes}
 use Rattle.spg_radix.specs.Tuples.{label_of, text_of, label_at, below, label_admits, radix_admits, is_label, rises_above, labels_rise, eight_alike, radix_nodes}
 use Rattle.spg_radix.specs.Choosing.{shared, after, find_label, place_of, answer_at, answer_by, radix_answer}
 use Rattle.spg_radix.specs.Radix.{radix_rebuilt, radix_meaning}
@@ -47,17 +47,18 @@ pub record LeftOf (tuple : InnerView) (whole : List ℕ) (node : ℕ) (left : Li
   pub ends : label_at tuple node ≡ negsuc 0 → left ≡ []
   pub known : (label_at tuple node ≡ negsuc 0) ⊎ ((b : ℕ) × (label_at tuple node ≡ pos b))
 
-left_of : (tuple : InnerView) (whole left : List ℕ) (node : ℕ) → radix_answer tuple whole ≡ Match node left → LeftOf tuple whole node left
+left_of : (tuple : InnerView) (whole left : List ℕ) (node : ℕ) → is_bytes whole ≡ true → radix_answer tuple whole ≡ Match node left → LeftOf tuple whole node left
 unfolding radix_answer
-left_of tuple whole left node h =
+left_of tuple whole left node bytes h =
     let p = tuple.prefix in
     let front = shared p whole in
     let m = match_by tuple front (after front p) (after front whole) left node h in
     let f = label_found tuple.labels (label_of (after front whole)) node m.1.0 in
+    let fine : is_bytes (after front whole) ≡ true = (bytes_parts front (after front whole) (subst (λ (t : List ℕ). is_bytes t ≡ true) (shared_rest p whole) bytes)).1 in
     let passed : p ≡ front = shared_prefix p whole ∙ ap (λ (t : List ℕ). front ++ t) m.0 ∙ append-nil front in
     record {
       there = f.0;
-      is = shared_rest p whole ∙ ap (λ (t : List ℕ). t ++ after front whole) (sym passed) ∙ ap (λ (t : List ℕ). p ++ t) (label_rest (after front whole) ∙ ap (λ (l : ℤ). text_of l ++ drop 1 (after front whole)) (sym f.1) ∙ ap (λ (t : List ℕ). text_of (label_at tuple node) ++ t) m.1.1);
+      is = shared_rest p whole ∙ ap (λ (t : List ℕ). t ++ after front whole) (sym passed) ∙ ap (λ (t : List ℕ). p ++ t) (label_rest (after front whole) fine ∙ ap (λ (l : ℤ). text_of l ++ drop 1 (after front whole)) (sym f.1) ∙ ap (λ (t : List ℕ). text_of (label_at tuple node) ++ t) m.1.1);
       ends = λ e. sym m.1.1 ∙ ends_at (after front whole) (sym f.1 ∙ e);
       known = known_at (after front whole) f.1;
     }
@@ -113,8 +114,8 @@ takes_left recon tuple whole key node left l h e = record {
 
 pub radix_matches : MatchLaw radix_meaning
 radix_matches recon tuple whole key t k node left a =
-    let l = left_of tuple whole left node a in
     let r = rebuilt_some recon.text whole key k in
+    let l = left_of tuple whole left node (text_bytes whole (text_end recon.text whole r.0)) a in
     let e = below_left recon.text tuple whole left node l in
     record {
       there = l.there;

@@ -25,7 +25,7 @@ use Rattle.spg_radix.specs.Tuples.{label_of, text_of, label_at, below, label_adm
 use Rattle.spg_radix.specs.Choosing.{shared, after, find_label, place_of, answer_at, answer_by, radix_answer}
 use Rattle.spg_radix.specs.Radix.{radix_rebuilt, radix_meaning}
 use Rattle.spg_radix.specs.FrontLemmas.{begins_front, begins_rest, begins_shorter, shared_prefix, shared_rest, pos_same, shared_stops, shared_again, after_itself}
-use Rattle.spg_radix.specs.TupleLemmas.{label_found, label_rest, apart_from, same_label, some_node, above_low, byte_label, is_label-of, few_nodes, below_bytes}
+use Rattle.spg_radix.specs.TupleLemmas.{byte_text, label_found, label_rest, apart_from, same_label, some_node, above_low, byte_label, is_label-of, few_nodes, below_bytes}
 use Rattle.spg_radix.specs.Matches.{LeftOf, rebuilt_some, rebuilt_from, takes_left}
 
 -- what an answer of a split says
@@ -151,7 +151,8 @@ radix_splits recon tuple whole key t k up labels child low a =
     split_cases tuple front (after front p) (after front whole) up labels child low a (λ up labels child low. IsSplit radix_meaning recon tuple whole (upper up labels) child (lower tuple low))
     (λ b below h.
     let e : front ++ b ∷ below ≡ p = ap (λ (t : List ℕ). front ++ t) (sym h) ∙ sym (shared_prefix p whole) in
-    split_with recon tuple whole front below (pos b) t e (byte_label front below b (rw e w.0)) (λ text key h. h) (shared_again p whole) (shared_stops p whole below b h))
+    let byte = (and_true (ltb b 256) (is_bytes below) (text_bytes (b ∷ below) (text_end front (b ∷ below) (rw e w.0)))).0 in
+    split_with recon tuple whole front below (pos b) t (ap (λ (t : List ℕ). front ++ (t ++ below)) (byte_text b byte) ∙ e) (byte_label front below b (rw e w.0)) (λ text key h. h) (shared_again p whole) (shared_stops p whole below b h))
     (λ h same.
     let passed : p ≡ front = shared_prefix p whole ∙ ap (λ (t : List ℕ). front ++ t) h ∙ append-nil front in
     split_with recon tuple whole p [] (negsuc 1) t (append-nil p) refl (λ text key h. h) (ap (λ (t : List ℕ). shared t whole) passed ∙ shared_again p whole ∙ sym passed) (not_below (after p whole)))

@@ -37,10 +37,14 @@ label_found (l ∷ ls) label node h = by_test (int_eq l label) refl (find_label 
     by_test false e None f node h = absurd (cc)
     by_test false e (Some n) f node h = let u = f n refl in subst (λ (k : ℕ). (k < length (l ∷ ls)) × (get_or (l ∷ ls) k (negsuc 1) ≡ label)) (same_Some (suc n) node (rw (← add-one n) h)) (omega (arith, u.0), u.1)
 
+-- the text of a byte's label
+pub byte_text : (b : ℕ) → ltb b 256 ≡ true → text_of (pos b) ≡ b ∷ []
+byte_text b h = ap (λ (t : Bool). cond t (b ∷ []) []) h
+
 -- what a label stands for, and what is left
-pub label_rest : (rest : List ℕ) → rest ≡ text_of (label_of rest) ++ drop 1 rest
-label_rest [] = refl
-label_rest (b ∷ rest) = refl
+pub label_rest : (rest : List ℕ) → is_bytes rest ≡ true → rest ≡ text_of (label_of rest) ++ drop 1 rest
+label_rest [] h = refl
+label_rest (b ∷ rest) h = sym (ap (λ (t : List ℕ). t ++ rest) (byte_text b (and_true (ltb b 256) (is_bytes rest) h).0))
 
 pub apart_from : (l label : ℤ) → int_eq l label ≡ false → l ≢ label
 apart_from l label h e = false≢true (sym h ∙ (Decides-int_eq l label).1 e)
@@ -101,19 +105,15 @@ few_nodes tuple n =
     by_same false a h = let f = rises_few (negsuc 2) tuple.labels h a lt_to_fact in omega (arith, ints)
 
 -- what a label adds is bytes
-label_bytes : (l : ℤ) → is_label l ≡ true → is_bytes (text_of l) ≡ true
-label_bytes (pos b) h = true_and _ _ (and_true (int_le (negsuc 1) (pos b)) (int_lt (pos b) (pos 256)) h).1 refl
-label_bytes (negsuc n) h = refl
+label_bytes : (l : ℤ) → is_bytes (text_of l) ≡ true
+label_bytes (pos b) = by_test (ltb b 256) refl
+  where
+    by_test : (t : Bool) → ltb b 256 ≡ t → is_bytes (cond t (b ∷ []) []) ≡ true
+    by_test true e = true_and _ _ e refl
+    by_test false e = refl
+label_bytes (negsuc n) = refl
 
 -- the text of a child is bytes
-pub below_bytes : (text : List ℕ) (tuple : InnerView) (node : ℕ) → is_bytes text ≡ true → is_tuple radix_meaning tuple ≡ true → is_bytes (below text tuple node) ≡ true
-unfolding below radix_nodes
-below_bytes text tuple node r t =
-    let w = and_true (is_text tuple.prefix) (radix_nodes tuple) t in
-    let a = list_all is_label tuple.labels in
-    let u = and_true (a && ltb 0 (length tuple.labels)) (cond tuple.all_same (eight_alike tuple) (labels_rise tuple.labels)) w.1 in
-    let v = (and_true a (ltb 0 (length tuple.labels)) u.0).0 in
-    bytes_append (text ++ tuple.prefix) (text_of (label_at tuple node)) (bytes_append text tuple.prefix r (text_bytes tuple.prefix w.0)) (label_bytes (label_at tuple node) (elim (cases_lt node (length tuple.labels)) [
-      | inl l ↦ AllPass-from_list_all is_label tuple.labels v node (negsuc 1) l
-      | inr l ↦ subst (λ (k : ℤ). is_label k ≡ true) (sym (get_or_past tuple.labels node (negsuc 1) l)) refl
-    ]))
+pub below_bytes : (text : List ℕ) (tuple : InnerView) (node : ℕ) → is_bytes text ≡ true → is_text tuple.prefix ≡ true → is_bytes (below text tuple node) ≡ true
+unfolding below
+below_bytes text tuple node t p = bytes_append (text ++ tuple.prefix) (text_of (label_at tuple node)) (bytes_append text tuple.prefix t (text_bytes tuple.prefix p)) (label_bytes (label_at tuple node))

@@ -11,9 +11,9 @@ abbrev pub label_of : List ℕ → ℤ
 label_of [] = negsuc 0
 label_of (b ∷ rest) = pos b
 
--- what a label adds to the text of the way: its byte, or nothing
+-- what a label adds to the text of the way: its byte, or nothing where it is none
 abbrev pub text_of : ℤ → List ℕ
-text_of (pos b) = b ∷ []
+text_of (pos b) = if nat_lt b 256 then b ∷ [] else []
 text_of (negsuc n) = []
 
 -- the label of a node, -2 past the last
