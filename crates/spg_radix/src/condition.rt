@@ -1,7 +1,9 @@
-ghost use Rattle.std.specs.Prelude.{◌≡◌, true};
+ghost use Rattle.std.specs.Prelude.{◌≡◌, ◌++◌, All, true};
 ghost use Rattle.spg_radix.specs.Texts.{is_text};
-ghost use Rattle.spg_radix.specs.Conditions.{named};
+ghost use Rattle.spg_radix.specs.Conditions.{named, text_holds};
+ghost use Rattle.spg_radix.specs.Standings.{holds_at, may_hold_at, seen};
 
+use crate::standing::Standing;
 use crate::text::ByteText;
 use spg_base::{Memory, Same};
 
@@ -36,6 +38,51 @@ impl TextCond {
             TextCond::Ge(text) => text.as_slice(),
             TextCond::Starts(text) => text.as_slice(),
         }
+    }
+
+    /// Whether the condition holds of a text that stands so to the named one.
+    pub fn holds(&self, standing: Standing) -> bool
+        ensures { result ≡ holds_at self.now (seen standing.entry) }
+    {
+        match self {
+            TextCond::Eq(_) => standing.is_equal(),
+            TextCond::Lt(_) => standing.is_less(),
+            TextCond::Le(_) => !standing.is_greater(),
+            TextCond::Gt(_) => standing.is_greater(),
+            TextCond::Ge(_) => !standing.is_less(),
+            TextCond::Starts(_) => standing.has_begun(),
+        }
+    }
+
+    /// Whether the condition holds of some text that begins with one that stands so to the named
+    /// one.
+    pub fn may_hold(&self, standing: Standing) -> bool
+        ensures { result ≡ may_hold_at self.now (seen standing.entry) }
+    {
+        match self {
+            TextCond::Eq(_) => standing.is_front(),
+            TextCond::Lt(_) => standing.is_less(),
+            TextCond::Le(_) => !standing.is_greater(),
+            TextCond::Gt(_) => standing.is_greater() || standing.is_front(),
+            TextCond::Ge(_) => standing.is_greater() || standing.is_front(),
+            TextCond::Starts(_) => standing.is_front() || standing.has_begun(),
+        }
+    }
+
+    /// Whether the condition holds of the text in two parts.
+    pub fn holds_of(&self, front: &[u8], back: &[u8]) -> bool
+        ensures { result ≡ text_holds self.now (front.now ++ back.now) }
+    {
+        self.holds(Standing::of(front, self.named()).followed(back))
+    }
+}
+
+/// The text of each condition has at most 3,900 bytes.
+pub fn know_named(conds: &[TextCond])
+    ensures { All (λ c. is_text (named c) ≡ true) conds.now }
+{
+    for cond in conds {
+        cond.named();
     }
 }
 

@@ -2,8 +2,10 @@
 //! "Built-in Operator Classes": `text_ops`).
 #![tactic(auto)]
 
+mod choose;
 mod condition;
 mod recon;
+mod standing;
 mod text;
 
 pub use condition::TextCond;
