@@ -21,7 +21,7 @@ use Rattle.spg_opclass.specs.Laws.{CodeLaw, IsAdd, moved, MatchLaw, AddLaw, Spli
 use Rattle.spg_radix.specs.declared.recon.RadixRecon.{RadixRecon}
 use Rattle.spg_radix.specs.Texts.{is_bytes, is_text, begins}
 use Rattle.spg_radix.specs.TextLemmas.{and_true, true_and, lt_from, lt_to, le_from, text_short, text_front, text_end, bytes_append, text_bytes}
-use Rattle.spg_radix.specs.Tuples.{label_of, text_of, label_at, below, label_admits, radix_admits, is_label, rises_above, labels_rise, eight_alike, radix_nodes}
+use Rattle.spg_radix.specs.Tuples.{label_of, text_of, label_at, below, label_admits, radix_admits, is_label, rises_above, labels_rise, are_in_order, radix_nodes}
 use Rattle.spg_radix.specs.Choosing.{shared, after, find_label, place_of, answer_at, answer_by, radix_answer}
 use Rattle.spg_radix.specs.Radix.{radix_rebuilt, radix_meaning}
 use Rattle.spg_radix.specs.FrontLemmas.{begins_front, begins_rest, begins_shorter, shared_prefix, shared_rest, pos_same, shared_stops, shared_again, after_itself}
@@ -123,7 +123,7 @@ admits_moved text tuple at label i k h l =
     ∙ ap (λ (t : List ℕ). label_admits (label_at tuple i) t k) (below_moved text tuple at label i h l)
 
 longer_nodes : (tuple : InnerView) (label : ℤ) → radix_nodes tuple ≡ true → tuple.all_same ≡ false → is_label label ≡ true → find_label label tuple.labels ≡ None → radix_nodes (longer tuple (place_of label tuple.labels) label) ≡ true
-unfolding radix_nodes
+unfolding radix_nodes are_in_order
 longer_nodes tuple label n same l none =
     let at = place_of label tuple.labels in
     let a = list_all is_label tuple.labels in

@@ -21,7 +21,7 @@ use Rattle.spg_opclass.specs.Laws.{CodeLaw, IsAdd, moved, MatchLaw, AddLaw, Spli
 use Rattle.spg_radix.specs.declared.recon.RadixRecon.{RadixRecon}
 use Rattle.spg_radix.specs.Texts.{is_bytes, is_text, begins}
 use Rattle.spg_radix.specs.TextLemmas.{and_true, true_and, lt_from, lt_to, le_from, text_short, text_front, text_end, bytes_append, text_bytes}
-use Rattle.spg_radix.specs.Tuples.{label_of, text_of, label_at, below, label_admits, radix_admits, is_label, rises_above, labels_rise, eight_alike, radix_nodes}
+use Rattle.spg_radix.specs.Tuples.{label_of, text_of, label_at, below, label_admits, radix_admits, is_label, rises_above, labels_rise, are_in_order, radix_nodes}
 use Rattle.spg_radix.specs.Choosing.{shared, after, find_label, place_of, answer_at, answer_by, radix_answer}
 use Rattle.spg_radix.specs.Radix.{radix_rebuilt, radix_meaning}
 

@@ -21,7 +21,7 @@ use Rattle.spg_opclass.specs.Laws.{CodeLaw, IsAdd, moved, MatchLaw, AddLaw, Spli
 use Rattle.spg_radix.specs.declared.recon.RadixRecon.{RadixRecon}
 use Rattle.spg_radix.specs.Texts.{is_bytes, is_text, begins}
 use Rattle.spg_radix.specs.TextLemmas.{and_true, true_and, lt_from, lt_to, le_from, text_short, text_front, text_end, bytes_append, text_bytes}
-use Rattle.spg_radix.specs.Tuples.{label_of, text_of, label_at, below, label_admits, radix_admits, is_label, rises_above, labels_rise, eight_alike, radix_nodes}
+use Rattle.spg_radix.specs.Tuples.{label_of, text_of, label_at, below, label_admits, radix_admits, is_label, rises_above, labels_rise, are_in_order, radix_nodes}
 use Rattle.spg_radix.specs.Choosing.{shared, after, find_label, place_of, answer_at, answer_by, radix_answer}
 use Rattle.spg_radix.specs.Radix.{radix_rebuilt, radix_meaning}
 use Rattle.spg_radix.specs.FrontLemmas.{begins_front, begins_rest, begins_shorter, shared_prefix, shared_rest, pos_same, shared_stops, shared_again, after_itself}
@@ -110,11 +110,11 @@ unfolding radix_admits
 lower_takes text tuple up low l i k e h = subst (λ (t : List ℕ). label_admits (label_at tuple i) t k ≡ true) (sym (below_two text tuple up low l i e)) h
 
 upper_nodes : (up : List ℕ) (l : ℤ) → is_label l ≡ true → radix_nodes (upper up (l ∷ [])) ≡ true
-unfolding radix_nodes
+unfolding radix_nodes are_in_order
 upper_nodes up l h = true_and _ _ (true_and _ _ (true_and _ _ h refl) refl) (true_and _ _ (lt_to (negsuc 2) l (above_low l h)) refl)
 
 lower_nodes : (tuple : InnerView) (low : List ℕ) → radix_nodes tuple ≡ true → radix_nodes (lower tuple low) ≡ true
-unfolding radix_nodes
+unfolding radix_nodes are_in_order
 lower_nodes tuple low h = h
 
 padded_le : (a b : ℕ) → a ≤ b → padded_length a ≤ padded_length b

@@ -21,7 +21,7 @@ use Rattle.spg_opclass.specs.Laws.{CodeLaw, IsAdd, moved, MatchLaw, AddLaw, Spli
 use Rattle.spg_radix.specs.declared.recon.RadixRecon.{RadixRecon}
 use Rattle.spg_radix.specs.Texts.{is_bytes, is_text, begins}
 use Rattle.spg_radix.specs.TextLemmas.{and_true, true_and, lt_from, lt_to, le_from, text_short, text_front, text_end, bytes_append, text_bytes}
-use Rattle.spg_radix.specs.Tuples.{label_of, text_of, label_at, below, label_admits, radix_admits, is_label, rises_above, labels_rise, eight_alike, radix_nodes}
+use Rattle.spg_radix.specs.Tuples.{label_of, text_of, label_at, below, label_admits, radix_admits, is_label, rises_above, labels_rise, are_in_order, radix_nodes}
 use Rattle.spg_radix.specs.Choosing.{shared, after, find_label, place_of, answer_at, answer_by, radix_answer}
 use Rattle.spg_radix.specs.Radix.{radix_rebuilt, radix_meaning}
 
@@ -51,7 +51,7 @@ apart_from l label h e = false≢true (sym h ∙ (Decides-int_eq l label).1 e)
 
 -- at an all-the-same tuple all labels are one
 pub same_label : (tuple : InnerView) → radix_nodes tuple ≡ true → tuple.all_same ≡ true → (i : ℕ) → i < length tuple.labels → label_at tuple 0 ≡ label_at tuple i
-unfolding radix_nodes
+unfolding radix_nodes are_in_order
 same_label tuple n same i l =
     let a = list_all is_label tuple.labels in
     let u = and_true (a && ltb 0 (length tuple.labels)) (cond tuple.all_same (eqb (length tuple.labels) 8 && list_all (int_eq (label_at tuple 0)) tuple.labels) (labels_rise tuple.labels)) n in
@@ -60,7 +60,7 @@ same_label tuple n same i l =
     (Decides-int_eq (label_at tuple 0) (label_at tuple i)).0 (AllPass-from_list_all (int_eq (label_at tuple 0)) tuple.labels w.1 i (negsuc 1) l)
 
 pub some_node : (tuple : InnerView) → radix_nodes tuple ≡ true → 0 < length tuple.labels
-unfolding radix_nodes
+unfolding radix_nodes are_in_order
 some_node tuple n =
     let a = list_all is_label tuple.labels in
     let u = and_true (a && ltb 0 (length tuple.labels)) (cond tuple.all_same (eqb (length tuple.labels) 8 && list_all (int_eq (label_at tuple 0)) tuple.labels) (labels_rise tuple.labels)) n in
@@ -93,7 +93,7 @@ lt_to_fact : negsuc 2 <ℤ pos 256
 lt_to_fact = omega (arith, ints)
 
 pub few_nodes : (tuple : InnerView) → radix_nodes tuple ≡ true → length tuple.labels ≤ 258
-unfolding radix_nodes
+unfolding radix_nodes are_in_order
 few_nodes tuple n =
     let a = list_all is_label tuple.labels in
     let one = eqb (length tuple.labels) 8 && list_all (int_eq (label_at tuple 0)) tuple.labels in

@@ -4,6 +4,7 @@ ghost use Rattle.spg_radix.specs.Choosing.{answer_at, find_label, place_of, radi
 
 ghost use Rattle.spg_opclass.specs.declared.view.Choice.TheVariants.{Add, Split};
 
+use crate::labels::{OTHERS, first_label};
 use spg_base::{Bytes, Labels, Memory, Same};
 use spg_opclass::{Choice, InnerView};
 use std::alloc::Global;
@@ -19,18 +20,8 @@ pub fn shared_len(prefix: &[u8], rest: &[u8]) -> usize
     at
 }
 
-/// The label of what a rest begins with.
-fn first_label(rest: &[u8]) -> i16
-    ensures { result ≡ label_of rest.now }
-{
-    match rest.first() {
-        Some(byte) => *byte as i16,
-        None => -1,
-    }
-}
-
 /// The first node with a label.
-fn node_with(label: i16, labels: &[i16]) -> Option<usize>
+pub fn node_with(label: i16, labels: &[i16]) -> Option<usize>
     ensures found { result ≡ find_label label labels.now }
     ensures bound { IfSome result (λ node. node < length labels.now) }
 {
@@ -43,7 +34,7 @@ fn node_with(label: i16, labels: &[i16]) -> Option<usize>
 }
 
 /// Where a label is put among labels that rise.
-fn place(label: i16, labels: &[i16]) -> usize
+pub fn place(label: i16, labels: &[i16]) -> usize
     ensures found { result ≡ place_of label labels.now }
     ensures bound { result ≤ length labels.now }
 {
@@ -63,7 +54,7 @@ fn one_label(alloc: Global, label: i16) -> Result<Labels, Memory>
 }
 
 /// What follows the first byte.
-fn after_first(rest: &[u8]) -> &[u8]
+pub fn after_first(rest: &[u8]) -> &[u8]
     ensures { result.now ≡ drop 1 rest.now }
 {
     if rest.is_empty() { rest } else { &rest[1..] }
@@ -92,7 +83,7 @@ fn answer_new(alloc: Global, tuple: &InnerView, label: i16, place: usize) -> Res
     if tuple.all_same {
         Ok(Choice::Split {
             upper_prefix: tuple.prefix.copy()?,
-            upper_labels: one_label(alloc, -2)?,
+            upper_labels: one_label(alloc, OTHERS)?,
             child: 0,
             lower_prefix: Bytes::new(alloc),
         })

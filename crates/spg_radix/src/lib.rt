@@ -4,9 +4,12 @@
 
 mod choose;
 mod condition;
+mod divide;
+mod labels;
 mod recon;
 mod standing;
 mod text;
+mod visit;
 
 pub use condition::TextCond;
 pub use recon::RadixRecon;

@@ -1,13 +1,16 @@
 ghost use Rattle.std.specs.Prelude.{◌≡◌};
 ghost use Rattle.spg_radix.specs.Standings.{followed, has_begun, is_equal, is_front, is_greater, is_less, seen, stands};
+ghost use Rattle.spg_radix.specs.Tuples.{text_of};
 
 use crate::choose::shared_len;
+use crate::labels::byte_of;
 
 /// How a text stands to another. A text may come in parts: each further part is compared with
 /// what is left of the other, so that the whole text is never built.
-#[derive(Clone, Copy)]
+#[derive(Clone, Copy, Default)]
 pub enum Standing<'a> {
     /// It is less, at a byte in which the two differ.
+    #[default]
     Less,
     /// It is greater, at a byte in which the two differ.
     Greater,
@@ -43,6 +46,16 @@ impl<'a> Standing<'a> {
             Standing::Less => Standing::Less,
             Standing::Greater => Standing::Greater,
             Standing::Longer => Standing::Longer,
+        }
+    }
+
+    /// How the text stands once the label's byte follows.
+    pub fn at_label(self, label: i16) -> Standing<'a>
+        ensures { seen result ≡ followed (seen self.entry) (text_of label) }
+    {
+        match byte_of(label) {
+            Some(byte) => self.followed(&[byte]),
+            None => self,
         }
     }
 
