@@ -1,3 +1,4 @@
 pub mod ChoosingLemmas
+pub mod DividingLemmas
 pub mod StandingLemmas
 pub mod VisitingLemmas

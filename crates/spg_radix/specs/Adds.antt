@@ -45,7 +45,7 @@ add_by tuple front [] rest at label h = (refl, add_at tuple rest at label (find_
 add_by tuple front (b ∷ low) rest at label h = absurd (cc)
 
 -- the place of a label
-by_place : (label l : ℤ) (ls : List ℤ) (P : ℕ → Type 0) → (l <ℤ label → P (suc (place_of label ls))) → (label ≤ℤ l → P 0) → P (place_of label (l ∷ ls))
+pub by_place : (label l : ℤ) (ls : List ℤ) (P : ℕ → Type 0) → (l <ℤ label → P (suc (place_of label ls))) → (label ≤ℤ l → P 0) → P (place_of label (l ∷ ls))
 by_place label l ls P f g = by_test (int_lt l label) refl
   where
     by_test : (b : Bool) → int_lt l label ≡ b → P (cond b (suc (place_of label ls)) 0)

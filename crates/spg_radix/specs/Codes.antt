@@ -17,7 +17,7 @@ use Rattle.std.proofs.lemmas.Bool.{lt-ltb, false≢true, le-leb, eqb-true, eqb-f
 use Rattle.spg_opclass.specs.declared.view.InnerView.{InnerView}
 use Rattle.spg_opclass.specs.declared.view.Choice.TheVariants.{Match, Add, Split}
 use Rattle.spg_opclass.specs.Meaning.{upper, lower, longer, is_tuple}
-use Rattle.spg_opclass.specs.Laws.{CodeLaw, IsAdd, moved, MatchLaw, AddLaw, SplitLaw, IsMatch, IsSplit, Takes, GoesOn, padded_length, inner_size}
+use Rattle.spg_opclass.specs.Laws.{CodeLaw, PlainLaw, IsAdd, moved, MatchLaw, AddLaw, SplitLaw, IsMatch, IsSplit, Takes, GoesOn, padded_length, inner_size}
 use Rattle.spg_radix.specs.declared.recon.RadixRecon.{RadixRecon}
 use Rattle.spg_radix.specs.Texts.{is_bytes, is_text, begins}
 use Rattle.spg_radix.specs.TextLemmas.{and_true, true_and, lt_from, lt_to, le_from, text_short, text_front, text_end, bytes_append, text_bytes}
@@ -42,3 +42,7 @@ radix_codes = record {
   inner_fits = λ tuple t. let w = and_true (is_text tuple.prefix) (radix_nodes tuple) t in omega (arith, padded_le (length tuple.prefix) 3900 (text_short tuple.prefix w.0), few_nodes tuple w.1);
   leaf_fits = λ rest h. omega (arith, padded_le (length rest) 3900 (text_short rest h));
 }
+
+-- the class has labels
+pub radix_plain : PlainLaw radix_meaning
+radix_plain h = absurd (cc)

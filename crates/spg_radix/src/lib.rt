@@ -6,11 +6,13 @@ mod choose;
 mod condition;
 mod divide;
 mod labels;
+mod radix;
 mod recon;
 mod standing;
 mod text;
 mod visit;
 
 pub use condition::TextCond;
+pub use radix::Radix;
 pub use recon::RadixRecon;
 pub use text::ByteText;

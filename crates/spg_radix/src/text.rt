@@ -37,6 +37,15 @@ impl ByteText {
         }
     }
 
+    /// The text of bytes that are known to be at most 3,900.
+    pub fn from_short(bytes: Bytes) -> ByteText
+        requires { length bytes ≤ 3900 }
+        ensures { result ≡ bytes }
+    {
+        fits(bytes.as_slice());
+        ByteText { bytes }
+    }
+
     /// The bytes.
     pub fn as_slice(&self) -> &[u8]
         ensures value { result.now ≡ self.now }
