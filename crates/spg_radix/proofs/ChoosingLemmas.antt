@@ -1,11 +1,10 @@
 -- Steps of the loops behind an answer.
-use Rattle.std.proofs.Common.{◌≡◌, ◌≢◌, ℕ, zero, suc, cond, ◌+◌, ◌<◌, ◌≤◌, ◌⊎◌, ℤ, ◌<ℤ◌, ◌≤ℤ◌, Bool, true, false, List, [], ◌∷◌, ◌++◌, length, get_or, take, drop, Option, Some, None, refl, sym, ◌∙◌, ap, subst, inl, inr, arith, rules, eqb, eq-eqb, add-one}
-use Rattle.std.specs.Prelude.{int_lt}
+use Rattle.std.proofs.Common.{◌≡◌, ◌≢◌, ℕ, zero, suc, cond, ◌+◌, ◌<◌, ◌≤◌, ◌⊎◌, ℤ, Bool, true, false, List, [], ◌∷◌, length, get_or, Option, Some, None, refl, ◌∙◌, ap, inl, inr, arith, eqb, eq-eqb, add-one}
 use Rattle.std.proofs.lemmas.Bool.Decides.{Decides-int_eq}
 use Rattle.std.specs.Option.{option_map}
 use Rattle.std.specs.Ordering.{int_eq}
 use Rattle.std.proofs.lemmas.Bool.{eqb-true}
-use Rattle.spg_radix.specs.Choosing.{shared, after, find_label, place_of, SharedAt}
+use Rattle.spg_radix.specs.Choosing.{find_label, SharedAt}
 
 
 apart_at : (x y : ℕ) (p r : List ℕ) → x ≢ y → SharedAt (x ∷ p) (y ∷ r) zero
