@@ -1,3 +1,4 @@
 pub mod Lines
 pub mod Spelled
 pub mod CondsLemmas
+pub mod ScriptLines

@@ -1,3 +1,4 @@
 pub mod Spelling
 pub mod Script
 pub mod Reading
+pub mod Refusal

@@ -1,6 +1,7 @@
-ghost use Rattle.std.specs.Prelude.{◌≡◌, ◌<◌, ◌≤◌, ◌+◌, ◌∷◌, IfOk, IfSome, IfNone, OnErr, MatchResult, length, ⊤};
+ghost use Rattle.std.specs.Prelude.{◌≡◌, ◌<◌, ◌≤◌, ◌+◌, ◌-◌, ◌^◌, ◌∷◌, IfOk, IfErr, IfSome, IfNone, length};
 ghost use Rattle.spg_app.specs.Spelling.{class_text};
-ghost use Rattle.spg_app.specs.Script.{IsScript, IsFirstBad, lines_of};
+ghost use Rattle.spg_app.specs.Script.{IsScript, lines_of};
+ghost use Rattle.spg_app.specs.Refusal.{IsCause};
 ghost use Rattle.spg_app.specs.declared.command.ClassName.{ClassName};
 ghost use Rattle.spg_app.specs.declared.parse.ScriptRefused.TheVariants as refused;
 
@@ -53,4 +54,31 @@ fn read_class(line: &[u8]) -> Option<ClassName>
     } else {
         None
     }
+}
+
+/// The script that the bytes spell.
+pub fn parse(alloc: Global, bytes: &[u8]) -> Result<Script, ScriptRefused>
+    requires { length bytes.now < 2 ^ 32 - 1 }
+    ensures found { IfOk result (λ script. IsScript bytes.now script) }
+    ensures bad { IfErr result (λ why. IsCause bytes.now why) }
+{
+    if bytes.is_empty() {
+        return Err(ScriptRefused::BadLine(1));
+    }
+    let (line, mut rest) = first_line(bytes);
+    let Some(class) = read_class(line) else {
+        return Err(ScriptRefused::BadLine(1));
+    };
+    let mut commands = List::new(alloc);
+    let mut number = 1u32;
+    while !rest.is_empty() {
+        let (line, after) = first_line(rest);
+        number += 1;
+        match read_command(alloc, line)? {
+            Some(command) => commands.push(command)?,
+            None => return Err(ScriptRefused::BadLine(number)),
+        }
+        rest = after;
+    }
+    Ok(Script { class, commands })
 }
