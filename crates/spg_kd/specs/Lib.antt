@@ -1,0 +1,3 @@
+pub mod Kd
+pub mod KdLemmas
+pub mod KdLaws

@@ -1,0 +1,4 @@
+pub mod Codec
+pub mod Areas
+pub mod Heights
+pub mod PointClass

@@ -1,0 +1,3 @@
+pub mod Quad
+pub mod QuadLemmas
+pub mod QuadLaws
