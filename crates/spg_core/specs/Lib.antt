@@ -1,0 +1,5 @@
+pub mod Stage
+pub mod Seen
+pub mod Slot
+pub mod Page
+pub mod Kept
