@@ -6,3 +6,6 @@ pub mod Speech
 pub mod Text
 pub mod Io
 pub mod Status
+pub mod Run
+pub mod Ending
+pub mod Headline

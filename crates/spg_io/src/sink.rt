@@ -4,7 +4,7 @@ ghost use Rattle.std.specs.Io.KnownBytes.{WriteAppends};
 ghost use Rattle.spg_io.specs.Causes.{HasCauseIfFailed};
 ghost use Rattle.spg_io.specs.declared.sink.IoRefused.TheVariants as refused;
 
-use spg_base::List;
+use spg_base::{List, Memory};
 use std::alloc::{AllocError, Global};
 use std::io::Write;
 use std::marker::Model;
@@ -22,6 +22,14 @@ impl From<AllocError> for IoRefused {
     ghost from_gives = { λ _ e. e ≡ refused.Memory };
 
     fn from(_: AllocError) -> IoRefused {
+        IoRefused::Memory
+    }
+}
+
+impl From<Memory> for IoRefused {
+    ghost from_gives = { λ _ e. e ≡ refused.Memory };
+
+    fn from(_: Memory) -> IoRefused {
         IoRefused::Memory
     }
 }

@@ -7,5 +7,5 @@ use Rattle.spg_app.proofs.report.where_text.Given as goal
 abbrev pub invariant-loop-cond : goal.invariant-loop-cond
 invariant-loop-cond g l = record {
   word : shadow (Utf8 l.word);
-  text : string_bytes l.text ++ conds_text g.O.Spoken.speech.cond_text l.word (drop l.cond-index l.conds) ≡ conds_text cond_text (codes "where ") l.conds;
+  text : string_bytes l.text ++ conds_text g.O.Spoken.speech.cond_text l.word (drop l.cond-index l.conds) ≡ conds_text g.O.Spoken.speech.cond_text (codes "where ") l.conds;
 }
