@@ -25,3 +25,6 @@ pub use program::run;
 pub use record::{Outcome, Record, Records};
 pub use speech::Spoken;
 pub use status::Status;
+
+#[cfg(test)]
+mod tests;
