@@ -50,7 +50,7 @@ module _ {O Key Recon Cond : Type 0} (speech : Speech Key Cond) where
   }
 
   module _ (s0 s1 s2 s3 : Seen O Key Recon Cond) (seat : ℕ) (first : seat ≡ 0) (row : RowAt) (key : Point) (k : Key) (named : k ≡ speech.key_in key) (t u : Stage O Key Recon Cond)
-    (opened : s1 ≡ logged s0 seat (OpenInsert seat row (Some k)) t) (between : s2.journal ≡ s1.journal) (r : Record) (claimed : is_claimed row (reverse s0.journal) ≡ false) where
+      (opened : s1 ≡ logged s0 seat (OpenInsert seat row (Some k)) t) (between : s2.journal ≡ s1.journal) (r : Record) (claimed : is_claimed row (reverse s0.journal) ≡ false) where
     count : present_count (reverse s2.journal) ≡ present_count (reverse s0.journal)
     count = ap present_count (ap reverse (between ∙ ap (λ s. s.journal) opened) ∙ reverse-append s0.journal (OpenInsert seat row (Some k) ∷ []))
 

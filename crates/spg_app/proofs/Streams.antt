@@ -37,7 +37,6 @@ result_lines-more number records i one within is =
     at_drop_more (result_lines number) records i one within ∙ ap (λ (r : Record). result_line number r ++ result_lines (number + 1) (drop (i + 1) records)) (sym is)
 
 module _ {O Key Recon Cond : Type 0} (speech : Speech Key Cond) where
-
   pub event_lines-more : (at : ℕ) (events : List (Event O Key Recon Cond)) (i : ℕ) (one : Event O Key Recon Cond) → i < length events → one ≡ get_or events i one
       → event_lines speech at (drop i events) ≡ event_line speech at one ++ event_lines speech (at + 1) (drop (i + 1) events)
   event_lines-more at events i one within is =

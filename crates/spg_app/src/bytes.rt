@@ -1,5 +1,5 @@
 ghost use Rattle.std.specs.Prelude.{◌≡◌, ◌<◌, ◌≤◌, length};
-ghost use Rattle.spg_app.specs.Reading.{len_before, parts_of, split_at, after, now_of};
+ghost use Rattle.spg_app.specs.Reading.{len_before, parts_of, split_at};
 
 /// How many bytes stand before the first that is this one.
 pub fn len_before(bytes: &[u8], stop: u8) -> usize

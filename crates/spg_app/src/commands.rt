@@ -1,4 +1,4 @@
-ghost use Rattle.std.specs.Prelude.{◌≡◌, ◌↔◌, List, IsTrue, IfOk, IfSome, IfNone};
+ghost use Rattle.std.specs.Prelude.{◌≡◌, ◌↔◌, IsTrue, IfOk, IfSome, IfNone};
 ghost use Rattle.spg_app.specs.Spelling.{IsCommand};
 ghost use Rattle.spg_app.specs.Script.{Spells};
 ghost use Rattle.spg_app.specs.Reading.{insert_of, find_of, command_of};

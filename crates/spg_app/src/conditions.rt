@@ -1,4 +1,4 @@
-ghost use Rattle.std.specs.Prelude.{◌≡◌, ◌↔◌, true, IsTrue, IfOk, FitsSigned, length, All};
+ghost use Rattle.std.specs.Prelude.{◌≡◌, ◌↔◌, true, IsTrue, IfOk, FitsSigned};
 ghost use Rattle.std.specs.Int.{w32};
 ghost use Rattle.spg_app.specs.Spelling.{IsCond, IsConds};
 ghost use Rattle.spg_app.specs.Reading.{inside_of, cond_of, first_cond_of, told_cond, conds_of};

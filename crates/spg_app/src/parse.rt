@@ -1,4 +1,4 @@
-ghost use Rattle.std.specs.Prelude.{◌≡◌, ◌<◌, ◌≤◌, ◌+◌, ◌-◌, ◌^◌, ◌∷◌, IfOk, IfErr, IfSome, IfNone, length};
+ghost use Rattle.std.specs.Prelude.{◌≡◌, ◌<◌, ◌+◌, ◌-◌, ◌^◌, ◌∷◌, IfOk, IfErr, IfSome, IfNone, length};
 ghost use Rattle.spg_app.specs.Spelling.{class_text};
 ghost use Rattle.spg_app.specs.Script.{IsScript, lines_of};
 ghost use Rattle.spg_app.specs.Refusal.{IsCause};

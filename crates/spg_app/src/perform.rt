@@ -87,11 +87,7 @@ fn query_in<O: Spoken>(alloc: Global, class: &O, query: &AnyQuery) -> Result<Que
     }
 }
 
-fn find<O: Spoken>(
-    alloc: Global,
-    state: &mut State<O>,
-    query: &AnyQuery,
-) -> Result<Record, Memory>
+fn find<O: Spoken>(alloc: Global, state: &mut State<O>, query: &AnyQuery) -> Result<Record, Memory>
     requires { stage_at state.old 0 ≡ free }
     ensures done { IfOk result (Performed O.speech state.old.journal state.new.journal (Find query.now)) }
     ensures free { IfOk result (λ _. stage_at state.new 0 ≡ free) }

@@ -1,4 +1,4 @@
-ghost use Rattle.std.specs.Prelude.{◌≡◌, ◌≢◌, ◌⊎◌, ◌↔◌, [], ◌∷◌, List, ℕ, IsTrue, IfOk, IfErr, map, codes, string_bytes};
+ghost use Rattle.std.specs.Prelude.{◌≡◌, ◌≢◌, ◌⊎◌, ◌↔◌, [], ◌∷◌, ℕ, IsTrue, IfOk, IfErr, map, codes, string_bytes};
 ghost use Rattle.spg_io.specs.Causes.{Rose};
 ghost use Rattle.spg_app.specs.Headline.{GaveScript, IsRefusal, IsAnswer, HoldsScript, HoldsNoScript, NoFault, streams, ended};
 ghost use Rattle.spg_app.specs.declared.end_state.EndState.TheVariants as state;
@@ -105,7 +105,7 @@ pub fn run<R: AllocGlobal, S: Source, K: Sink>(
     // A script is run, where no call fails.
     ensures complete { map string_bytes words.now ≡ codes "run" ∷ [] → HoldsScript (S.left script.old)
         → NoFault (streams (S.left script.old) (S.left script.new) (S.faults script.old) (S.faults script.new)
-            (K.contents out.old) (K.contents out.new) (K.faults out.old) (K.faults out.new))
+        (K.contents out.old) (K.contents out.new) (K.faults out.old) (K.faults out.new))
         → (result.0 ≡ Status.Done) ⊎ (result.0 ≡ Status.Memory) }
 
     // What is no script is refused with its first bad line, where no read fails.

@@ -1,4 +1,4 @@
-ghost use Rattle.std.specs.Prelude.{◌≡◌, IfOk, length, string_bytes, codes};
+ghost use Rattle.std.specs.Prelude.{◌≡◌, IfOk, string_bytes, codes};
 ghost use Rattle.spg_rows.specs.History.{seat_of};
 ghost use Rattle.spg_app.specs.Spelling.{conds_text};
 ghost use Rattle.spg_app.specs.Speech.{key_or_null_text, query_text};
@@ -55,11 +55,7 @@ pub fn journal_line(alloc: Global, count: u64) -> Result<String, AllocError>
 }
 
 /// The text of conditions: the first behind `where`, each further one behind `and`.
-pub fn where_text<O: Spoken>(
-    alloc: Global,
-    class: &O,
-    conds: &[O::Cond],
-) -> Result<String, Memory>
+pub fn where_text<O: Spoken>(alloc: Global, class: &O, conds: &[O::Cond]) -> Result<String, Memory>
     ensures { IfOk result (λ text. string_bytes text ≡ conds_text O.speech.cond_text (codes "where ") conds.now) }
 {
     let mut text = String::new(alloc);
@@ -83,11 +79,7 @@ fn query_text<O: Spoken>(alloc: Global, class: &O, query: &Query<O>) -> Result<S
     }
 }
 
-fn key_text<O: Spoken>(
-    alloc: Global,
-    class: &O,
-    key: &Option<O::Key>,
-) -> Result<String, Memory>
+fn key_text<O: Spoken>(alloc: Global, class: &O, key: &Option<O::Key>) -> Result<String, Memory>
     ensures { IfOk result (λ text. string_bytes text ≡ key_or_null_text O.speech key.now) }
 {
     match key {

@@ -67,7 +67,10 @@ fn fills_the_page(rt: HostRuntime) -> Result<(), Fail> {
     let mut lines = taken.as_slice().split(|b| *b == b'\n').skip(291);
     assert_eq!(rt; lines.next(), Some(b"292 582 584 full".as_slice()));
     let found = lines.next().unwrap_or(b"");
-    assert_eq!(rt; found.starts_with(b"293 584 586 found 291 walk 291 1.1 1.2 "), true);
+    assert_eq!(rt;
+        found.starts_with(b"293 584 586 found 291 walk 291 1.1 1.2 "),
+        true
+    );
     assert_eq!(rt; found.ends_with(b" 1.290 1.291"), true);
     Ok(())
 }
@@ -173,7 +176,16 @@ fn ran_into(rt: &HostRuntime, call: u64) -> Result<(Status, Vec<u8>), Fail> {
 #[test]
 fn tells_faults(rt: HostRuntime) -> Result<(), Fail> {
     // Most bytes of a read, and the call that fails: in the middle of lines, and at the end.
-    for (most, call) in [(7, 1), (7, 2), (7, 3), (7, 4), (7, 5), (1, 15), (1, 27), (4096, 2)] {
+    for (most, call) in [
+        (7, 1),
+        (7, 2),
+        (7, 3),
+        (7, 4),
+        (7, 5),
+        (1, 15),
+        (1, 27),
+        (4096, 2),
+    ] {
         let (status, taken) = ran_from(&rt, most, call)?;
         assert_eq!(rt; status, Status::ReadFault);
         assert_eq!(rt; taken.is_empty(), true);

@@ -41,7 +41,7 @@ returns-in-Err-IndexFull-clause-done g c =
     let spans : Spans c.recorded-in-Err-IndexFull.result Full (length c.args.state.now.journal) (length c.abandon.new.self.journal) =
     record { outcome_is = c.recorded-in-Err-IndexFull.ensures.outcome; from_is = c.recorded-in-Err-IndexFull.ensures.from ∙ c.position-from.ensures; to_is = c.recorded-in-Err-IndexFull.ensures.to } in
     let dropped = c.abandon.ensures.given_up
-        ∙ ap (λ (s : Stage g.row.O.Denot g.row.O-Key.Denot g.row.O-Recon.Denot g.row.O-Cond.Denot). logged c.insert_step-2.new.self c.first-seat.result (given_up c.first-seat.result s why.Full) free) (ap (λ s. stage_at s c.first-seat.result) same ∙ stepped.2) in
+    ∙ ap (λ (s : Stage g.row.O.Denot g.row.O-Key.Denot g.row.O-Recon.Denot g.row.O-Cond.Denot). logged c.insert_step-2.new.self c.first-seat.result (given_up c.first-seat.result s why.Full) free) (ap (λ s. stage_at s c.first-seat.result) same ∙ stepped.2) in
     full g.O.Spoken.speech c.args.state.now c.open_insert.new.self c.insert_step-2.new.self c.abandon.new.self c.first-seat.result c.first-seat.ensures c.args.row c.args.key c.in_ok-found.found c.in_ok-found.ensures
     (started c.args.row (Some c.in_ok-found.found)) free c.in-Ok.ensures.ok (ap (λ s. s.journal) (same ∙ stepped.1)) c.recorded-in-Err-IndexFull.result
     (not_true _ (λ claimed. ok_not_err _ _ _ c.in-Ok.is (c.open_insert.ensures.row_used.1 claimed)))
