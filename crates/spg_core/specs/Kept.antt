@@ -1,5 +1,5 @@
 -- What the fields of a state keep.
-use Rattle.std.specs.Prelude.{◌≡◌, ◌+◌, ◌≤◌, ℕ, Option, Some, None, length, map, reverse, slice_index_or, if◌then◌else◌}
+use Rattle.std.specs.Prelude.{◌≡◌, ◌≤◌, ℕ, Option, Some, None, length, map, reverse, slice_index_or, if◌then◌else◌}
 use Rattle.std.specs.BTreeMap.{get}
 use Rattle.spg_base.specs.Row.{RowAt, row_cmp}
 use Rattle.spg_opclass.specs.Meaning.{Meaning}

@@ -1,5 +1,5 @@
 -- What a seat's slot says.
-use Rattle.std.specs.Prelude.{◌≡◌, ℕ, ◌+◌, List, [], ◌∷◌, Option, if◌then◌else◌, Bool, true, false, Some, None}
+use Rattle.std.specs.Prelude.{◌≡◌, ℕ, ◌+◌, List, [], ◌∷◌, if◌then◌else◌, Bool, true, false, Some, None}
 use Rattle.spg_base.specs.Row.{RowAt}
 use Rattle.spg_rows.specs.Table.{Table, SetsState, SetsKey}
 use Rattle.spg_rows.specs.declared.table.RowState.TheVariants as row_state

@@ -1,5 +1,5 @@
 -- How far a seat's operation has come.
-use Rattle.std.specs.Prelude.{◌≡◌, ℕ, Option, List, ⊤}
+use Rattle.std.specs.Prelude.{◌≡◌, ℕ, Option, ⊤}
 use Rattle.spg_base.specs.Row.{RowAt}
 use Rattle.spg_opclass.specs.declared.query.Query.{Query}
 use Rattle.spg_rows.specs.declared.event.Event.{Event}

@@ -1,5 +1,5 @@
 ghost use Rattle.std.specs.Prelude.{◌≡◌, ◌+◌, length, Some, None, IfOk, OnOk, OnErr, All};
-ghost use Rattle.std.specs.BTreeMap.{get, Updates, IsOrdered};
+ghost use Rattle.std.specs.BTreeMap.{get, Updates, IsUnchanged, IsOrdered};
 ghost use Rattle.spg_base.specs.Row.{row_cmp};
 ghost use Rattle.spg_core.specs.Page.{IsRestOf, rest_matches, is_live_state, takes, rows_that};
 
@@ -41,7 +41,7 @@ pub fn put_entry(entries: &mut Entries, row: Row, rest: Option<Bytes>) -> Result
     requires { get row_cmp entries.old row ≡ None }
     ensures ok { OnOk result (Updates row_cmp entries.old entries.new row (Some rest)) }
     ensures len { OnOk result (length entries.new.entries ≡ length entries.old.entries + 1) }
-    ensures err { OnErr result (entries.new ≡ entries.old) }
+    ensures err { OnErr result (IsUnchanged entries.old entries.new) }
 {
     entries.insert(row, rest)?;
     Ok(())
@@ -95,12 +95,7 @@ fn is_live(state: RowState) -> bool
     }
 }
 
-fn is_asked<O: OpClass>(
-    class: &O,
-    start: &O::Recon,
-    query: &Query<O>,
-    rest: &Option<Bytes>,
-) -> bool
+fn is_asked<O: OpClass>(class: &O, start: &O::Recon, query: &Query<O>, rest: &Option<Bytes>) -> bool
     requires { start.now ≡ O.meaning.start }
     ensures { result ≡ rest_matches O.meaning query.now rest.now }
 {

@@ -1,4 +1,4 @@
-ghost use Rattle.std.specs.Prelude.{◌≡◌, ◌<◌, ◌×◌, length, replicate, slice_set, slice_index_or, IfOk};
+ghost use Rattle.std.specs.Prelude.{◌≡◌, ◌<◌, length, replicate, slice_set, slice_index_or, IfOk};
 ghost use Rattle.spg_base.specs.Row.{RowAt};
 ghost use Rattle.spg_rows.specs.Table.{state_in};
 ghost use Rattle.spg_rows.specs.declared.table.RowState.TheVariants as row_state;

@@ -12,8 +12,8 @@ ghost use Rattle.spg_rows.specs.declared.event.Event.TheVariants as event;
 use crate::answer::{Closed, InsertOut, OpenKind, OpenRefused, ReadOut, StepRefused};
 use crate::page::{Entries, copy_key, matching, put_entry, rest_of_key};
 use crate::slot::{
-    SEATS, Slot, descend, find, found_of, free_slots, give_back, give_up, held_query, insert_of, kind,
-    set_slot, slot_at,
+    SEATS, Slot, descend, find, found_of, free_slots, give_back, give_up, held_query, insert_of,
+    kind, set_slot, slot_at,
 };
 use spg_base::{Memory, Row, Same, SeatNo};
 use spg_opclass::{OpClass, Query};
@@ -26,7 +26,7 @@ use std::marker::Model;
 const CAPACITY: usize = 291;
 
 /// An open needs room for its own event and for the events that end what all seats have open.
-const ROOM: u64 = SEATS as u64 + 2;
+const ROOM: u64 = SEATS as u64 + 1;
 
 /// An index of one page, what each seat has open, and the journal of all that was done. Each of 64
 /// seats has at most one operation open.

@@ -1,0 +1,75 @@
+use Rattle.std.proofs.Common.{◌++◌, ◌∷◌, [], Some, false, refl, sym, ap, ◌∙◌, subst, reverse, get_or}
+use Rattle.std.proofs.lemmas.Bool.{false≢true}
+use Rattle.std.proofs.lemmas.Result.{err_from_is_err_and}
+use Rattle.spg_rows.specs.declared.event.Event.TheVariants.{OpenInsert}
+use Rattle.spg_rows.specs.Table.{SetsKey}
+use Rattle.spg_rows.proofs.Histories.{itself_opens}
+use Rattle.spg_core.specs.declared.slot.Slot.TheVariants.{Free, Insert}
+use Rattle.spg_core.proofs.Slots.{stage_set, stage_is, logged_is, free_slot}
+use Rattle.spg_core.proofs.Steps.{kept_logged, kept_with, opened_rows, room_for_all, unclaimed_row, unclaimed_seen}
+use Rattle.spg_core.proofs.state.State.open_insert.Goals as goal
+
+pub returns-in_err-told-clause-row_used : goal.returns-in_err-told-clause-row_used
+returns-in_err-told-clause-row_used g c =
+    let free = unclaimed_seen g.O.OpClass.meaning c.self.inside c.self.invariant c.args.self.now c.self.view_is c.args.row (sym c.state.ensures ∙ c.is_free.ensures.0 c.if-not-is_free.false) in
+    let refused = err_from_is_err_and c.from_residual.result c.from_residual.ensures.1 in
+    (λ h. absurd (cc (refused.1, refused.2, h)), λ h. absurd (false≢true (sym free ∙ h)))
+
+pub returns-in_err-claimed-clause-row_used : goal.returns-in_err-claimed-clause-row_used
+returns-in_err-claimed-clause-row_used g c =
+    let free = unclaimed_seen g.O.OpClass.meaning c.self.inside c.self.invariant c.args.self.now c.self.view_is c.args.row (sym c.state.ensures ∙ c.is_free.ensures.0 c.if-not-is_free.false) in
+    let refused = err_from_is_err_and c.from_residual-in_err-claimed.result c.from_residual-in_err-claimed.ensures.1 in
+    (λ h. absurd (cc (refused.1, refused.2, h)), λ h. absurd (false≢true (sym free ∙ h)))
+
+pub invariant_of-self : goal.invariant_of-self
+invariant_of-self g c = kept_with g.O.OpClass.meaning c.self.inside c.self.invariant c.self.inside.rows c.reserve.new.self refl c.reserve.ensures.events c.reserve.ensures.room
+
+pub returns-in_err-reserve-clause-row_used : goal.returns-in_err-reserve-clause-row_used
+returns-in_err-reserve-clause-row_used g c =
+    let free = unclaimed_seen g.O.OpClass.meaning c.self.inside c.self.invariant c.args.self.now c.self.view_is c.args.row (sym c.state.ensures ∙ c.is_free.ensures.0 c.if-not-is_free.false) in
+    let refused = err_from_is_err_and c.from_residual-in_err-reserve.result c.from_residual-in_err-reserve.ensures.1 in
+    (λ h. absurd (cc (refused.1, refused.2, h)), λ h. absurd (false≢true (sym free ∙ h)))
+
+pub invariant_of-self-in_err-claim : goal.invariant_of-self-in_err-claim
+invariant_of-self-in_err-claim g c = kept_with g.O.OpClass.meaning c.self.inside c.self.invariant c.claim.new.self c.reserve.new.self c.in_err-claim.ensures.err c.reserve.ensures.events c.reserve.ensures.room
+
+pub returns-in_err-claim-clause-row_used : goal.returns-in_err-claim-clause-row_used
+returns-in_err-claim-clause-row_used g c =
+    let free = unclaimed_seen g.O.OpClass.meaning c.self.inside c.self.invariant c.args.self.now c.self.view_is c.args.row (sym c.state.ensures ∙ c.is_free.ensures.0 c.if-not-is_free.false) in
+    let refused = err_from_is_err_and c.from_residual-in_err-claim.result c.from_residual-in_err-claim.ensures.1 in
+    (λ h. absurd (cc (refused.1, refused.2, h)), λ h. absurd (false≢true (sym free ∙ h)))
+
+pub invariant_of-self-2 : goal.invariant_of-self-2
+invariant_of-self-2 g c =
+    let m = g.O.OpClass.meaning in
+    let s = c.self.inside in
+    let kept = c.self.invariant in
+    let past = reverse s.journal.events in
+    let seat = c.args.seat in
+    let row = c.args.row in
+    let key = c.args.key in
+    let e = OpenInsert seat row key in
+    let slot = Insert row key false in
+    let events = c.append.ensures.events ∙ ap (λ j. j ++ OpenInsert seat row c.in_ok-told.told ∷ []) c.reserve.ensures.events ∙ ap (λ k. s.journal.events ++ OpenInsert seat row k ∷ []) c.in_ok-told.ensures in
+    let none = free_slot m past seat (get_or s.slots.items seat Free) (kept.slots seat) (sym (stage_is s c.args.self.now c.self.view_is seat) ∙ c.requires) in
+    let unclaimed = unclaimed_row m s kept row (sym c.state.ensures ∙ c.is_free.ensures.0 c.if-not-is_free.false) in
+    let keys = subst (λ k. SetsKey s.rows c.claim.new.self row (Some k)) c.in_ok-claimed.ensures c.in_ok-claim.ensures.key in
+    kept_logged m s kept e slot c.claim.new.self s.entries c.set_slot.new.slots c.append.new.self c.set_slot.ensures.items events c.set_slot.ensures.in_range
+    (none, unclaimed) tt (itself_opens e past) (opened_rows m s kept slot c.set_slot.new.slots c.append.new.self seat row key c.claim.new.self unclaimed c.in_ok-claim.ensures.state keys)
+    (room_for_all _ _ seat slot _ _ c.set_slot.ensures.items kept.seats c.in_ok-reserve.ensures.ok c.append.ensures.spare)
+
+pub returns-clause-ok : goal.returns-clause-ok
+returns-clause-ok g c =
+    let s = c.self.inside in
+    let seat = c.args.seat in
+    let row = c.args.row in
+    let events = c.append.ensures.events ∙ ap (λ j. j ++ OpenInsert seat row c.in_ok-told.told ∷ []) c.reserve.ensures.events ∙ ap (λ k. s.journal.events ++ OpenInsert seat row k ∷ []) c.in_ok-told.ensures in
+    logged_is s c.args.self.now c.self.view_is seat (OpenInsert seat row c.args.key) (Insert row c.args.key false) c.set_slot.new.slots.items c.append.new.self.events c.set_slot.ensures.items events
+
+pub returns-clause-stage : goal.returns-clause-stage
+returns-clause-stage g c = stage_set _ _ c.args.seat (Insert c.args.row c.args.key false) c.set_slot.ensures.items c.self.invariant.seats c.set_slot.ensures.in_range
+
+pub returns-clause-row_used : goal.returns-clause-row_used
+returns-clause-row_used g c =
+    let free = unclaimed_seen g.O.OpClass.meaning c.self.inside c.self.invariant c.args.self.now c.self.view_is c.args.row (sym c.state.ensures ∙ c.is_free.ensures.0 c.if-not-is_free.false) in
+    (λ h. absurd (cc h), λ h. absurd (false≢true (sym free ∙ h)))
