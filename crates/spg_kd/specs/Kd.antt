@@ -1,5 +1,5 @@
 -- K-d trees.
-use Rattle.std.specs.Prelude.{ℕ, ◌-◌, ◌/◌, ◌==◌, ℤ, int_lt, Bool, false, not, if◌then◌else◌, List, [], ◌∷◌, map, length, count_by, nat_lt, nat_le, slice_index}
+use Rattle.std.specs.Prelude.{ℕ, ◌+◌, ◌++◌, ◌/◌, ◌==◌, ℤ, int_lt, Bool, false, not, if◌then◌else◌, List, [], ◌∷◌, map, length, count_by, nat_lt, nat_le, slice_index}
 use Rattle.spg_base.specs.declared.point.Point.{Point}
 use Rattle.spg_base.specs.declared.point.PointCond.{PointCond}
 use Rattle.spg_opclass.specs.Meaning.{Meaning}
@@ -42,18 +42,15 @@ in_order (x ∷ xs) = put_in x (in_order xs)
 unfoldable pub median_of : List ℕ → ℕ
 median_of ks = slice_index (in_order ks) (length ks / 2)
 
--- how many values that equal the median go to node 0
-unfoldable pub ties_of : ℕ → List ℕ → ℕ
-ties_of p ks = length ks / 2 - count_by (λ k. nat_lt k p) ks
+-- the place of a number in the order of all, from 0: so many are less, or equal and among those
+-- in front of it
+abbrev pub place : List ℕ → List ℕ → ℕ → ℕ
+place all front k = count_by (λ j. nat_lt j k) all + count_by (λ j. j == k) front
 
--- the nodes of values: what is below the median goes to node 0, of its equals the first ones too
-unfoldable pub sides : ℕ → ℕ → List ℕ → List ℕ
-sides p t [] = []
-sides p t (k ∷ ks) =
-    if nat_lt k p then 0 ∷ sides p t ks
-    else if nat_lt p k then 1 ∷ sides p t ks
-    else if t == 0 then 1 ∷ sides p t ks
-    else 0 ∷ sides p (t - 1) ks
+-- the nodes of numbers that follow those in front: those placed below the middle go to node 0
+unfoldable pub halves : List ℕ → List ℕ → List ℕ → List ℕ
+halves all front [] = []
+halves all front (k ∷ ks) = (if nat_lt (place all front k) (length all / 2) then 0 else 1) ∷ halves all (front ++ k ∷ []) ks
 
 -- the coordinates of rests, from the lowest
 abbrev pub levels : Bool → List (List ℕ) → List ℕ
@@ -69,7 +66,7 @@ kd = record {
   area = λ recon prefix node. half recon.odd (coordinate_at prefix 0) node;
   side = λ recon prefix p. half_for recon.odd (coordinate_at prefix 0) p;
   prefix_for = λ recon rests. bytes_of_coordinate (lowered (median_of (levels recon.odd rests)));
-  nodes_for = λ recon rests. sides (median_of (levels recon.odd rests)) (ties_of (median_of (levels recon.odd rests)) (levels recon.odd rests)) (levels recon.odd rests);
+  nodes_for = λ recon rests. halves (levels recon.odd rests) [] (levels recon.odd rests);
 }
 
 abbrev pub kd_meaning : Meaning Point KdRecon PointCond

@@ -18,8 +18,9 @@ use Rattle.spg_points.specs.Areas.{in_area}
 use Rattle.spg_points.proofs.PointLemmas.{lt_to, same_test, raised_bound, lt_from, is_coordinate-lowered, length-bytes_of_coordinate, coordinate_at-bytes_of_coordinate, is_coordinate-coordinate_at, raised_is, between_from, between_to, and_true, true_and, is_point-point_of}
 use Rattle.spg_points.proofs.ClassLaws.{IsPointClass, IsSound, matches_of, adds_of, splits_of, picks_of, keeps_of, plain_of, codes_of}
 use Rattle.spg_kd.specs.declared.class.KdRecon.{KdRecon}
-use Rattle.spg_kd.specs.Kd.{level_of, half, half_for, median_of, ties_of, sides, levels, kd, kd_meaning}
-use Rattle.spg_kd.specs.KdLemmas.{sides_below, median_at_most, IsMedian, below, median_is, length_sides, side_each, not_one_side, alone_side, node_if, one_if}
+use Rattle.spg_kd.specs.Kd.{level_of, half, half_for, median_of, halves, levels, kd, kd_meaning}
+use Rattle.spg_kd.specs.Ties.{ties_of, sides}
+use Rattle.spg_kd.specs.KdLemmas.{sides_below, median_at_most, IsMedian, below, median_is, length_sides, side_each, not_one_side, alone_side, sides_halves, node_if, one_if}
 
 is_coordinate-level : (odd : Bool) (p : Point) → is_point p ≡ true → is_coordinate (level_of odd p) ≡ true
 is_coordinate-level true p h = (and_true (is_coordinate p.x) (is_coordinate p.y) h).0
@@ -161,7 +162,8 @@ kd_sound : (recon : KdRecon) (rests : List (List ℕ)) → 0 < length rests → 
 kd_sound recon rests n =
     let ks = levels recon.odd rests in
     let size : length ks ≡ length rests = length-map rests (λ r. raised (level_of recon.odd (point_of r))) in
-    sound recon rests n (median_of ks) size (median_is ks (subst (λ (m : ℕ). 0 < m) (sym size) n))
+    let some = subst (λ (m : ℕ). 0 < m) (sym size) n in
+    subst (λ (ns : List ℕ). IsSound kd recon rests (kd.prefix_for recon rests) ns) (sides_halves ks some) (sound recon rests n (median_of ks) size (median_is ks some))
   where
     sound : (recon : KdRecon) (rests : List (List ℕ)) → 0 < length rests → (p : ℕ) → length (levels recon.odd rests) ≡ length rests → IsMedian p (levels recon.odd rests)
         → IsSound kd recon rests (bytes_of_coordinate (lowered p)) (sides p (ties_of p (levels recon.odd rests)) (levels recon.odd rests))

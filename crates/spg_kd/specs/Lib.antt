@@ -1,3 +1,4 @@
 pub mod Kd
+pub mod Ties
 pub mod KdLemmas
 pub mod KdLaws

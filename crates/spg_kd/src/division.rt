@@ -1,6 +1,7 @@
-ghost use Rattle.std.specs.Prelude.{◌≡◌, ◌<◌, ◌∷◌, ℕ, List as ListOf, length, count_by, nat_lt, IfOk};
+ghost use Rattle.std.specs.Prelude.{◌≡◌, ◌<◌, ◌∷◌, [], ℕ, List as ListOf, length, count_by, nat_lt, IfOk};
 ghost use Rattle.spg_points.specs.PointClass.{divided_by};
-ghost use Rattle.spg_kd.specs.Kd.{kd, levels, median_of, ties_of, sides};
+ghost use Rattle.spg_kd.specs.Kd.{kd, levels, median_of, halves};
+ghost use Rattle.spg_kd.specs.Ties.{ties_of, sides};
 
 use crate::class::KdRecon;
 use crate::half::level;
@@ -17,11 +18,10 @@ pub fn divide(alloc: Global, recon: KdRecon, rests: &[Bytes]) -> Result<Picked, 
 {
     let ks = raised_levels(alloc, recon.odd, rests)?;
     let p = median(alloc, ks.as_slice())?;
-    let ties = ties(p, ks.as_slice());
     Ok(Picked {
         prefix: encode_coordinate(alloc, lower(p))?,
         labels: zero_labels(alloc, 2)?,
-        node_of: nodes_of(alloc, p, ties, ks.as_slice())?,
+        node_of: halves_of(alloc, p, ks.as_slice())?,
         rests: copy_all(alloc, rests)?,
     })
 }
@@ -54,14 +54,23 @@ fn count_below(p: u32, ks: &[u32]) -> usize
 }
 
 /// How many values that equal the median go to node 0.
-#[tactic(auto, unfolding(crate::specs::Kd::ties_of))]
+#[tactic(auto, unfolding(crate::specs::Ties::ties_of))]
 fn ties(p: u32, ks: &[u32]) -> usize
     ensures { result ≡ ties_of p ks.now }
 {
     (ks.len() / 2).saturating_sub(count_below(p, ks))
 }
 
-/// The nodes of values.
+/// The nodes of values, by their places in the order.
+fn halves_of(alloc: Global, p: u32, ks: &[u32]) -> Result<List<u16>, Memory>
+    requires some { 0 < length ks.now }
+    requires middle { p ≡ median_of ks.now }
+    ensures { IfOk result (λ nodes. nodes ≡ halves ks.now [] ks.now) }
+{
+    nodes_of(alloc, p, ties(p, ks), ks)
+}
+
+/// The nodes of values, where so many that equal the median go to node 0.
 fn nodes_of(alloc: Global, p: u32, ties: usize, ks: &[u32]) -> Result<List<u16>, Memory>
     ensures { IfOk result (λ nodes. nodes ≡ sides p ties ks.now) }
 {
@@ -76,7 +85,7 @@ fn nodes_of(alloc: Global, p: u32, ties: usize, ks: &[u32]) -> Result<List<u16>,
 }
 
 /// The node of a value, and how many equal values may still go to node 0.
-#[tactic(auto, unfolding(crate::specs::Kd::sides))]
+#[tactic(auto, unfolding(crate::specs::Ties::sides))]
 fn next_node(k: u32, p: u32, left: usize) -> (u16, usize)
     ensures { (ks : ListOf ℕ) → sides p left (k ∷ ks) ≡ result.0 ∷ sides p result.1 ks }
 {

@@ -6,3 +6,6 @@ mod division;
 mod half;
 
 pub use class::{Kd, KdRecon};
+
+#[cfg(test)]
+mod tests;

@@ -1,5 +1,5 @@
 -- Quad trees.
-use Rattle.std.specs.Prelude.{ℕ, ◌==◌, ℤ, pos, ◌+ℤ◌, ◌-ℤ◌, int_le, Bool, if◌then◌else◌, List, map, length, sum_by}
+use Rattle.std.specs.Prelude.{ℕ, ◌==◌, ℤ, pos, ◌+ℤ◌, ◌-ℤ◌, ◌≤ℤ◌, ◌<ℤ◌, int_le, Bool, if◌then◌else◌, List, [], ◌∷◌, map, length, sum_by}
 use Rattle.std.specs.Int.{div_ceil}
 use Rattle.spg_base.specs.declared.point.Point.{Point}
 use Rattle.spg_base.specs.declared.point.PointCond.{PointCond}
@@ -33,6 +33,16 @@ nodes_area nodes node = if nodes.all_same then whole else region nodes.centroid 
 -- the ceiling of the average, which is that of the heights above the lowest coordinate, lowered
 unfoldable pub ceiling_by : (List ℕ → ℤ) → List (List ℕ) → ℤ
 ceiling_by f rests = lowered (div_ceil (sum_by (λ r. raised (f r)) rests) (length rests))
+
+-- by how much the coordinates exceed z, added up
+abbrev pub excess : (List ℕ → ℤ) → ℤ → List (List ℕ) → ℤ
+excess f z [] = pos 0
+excess f z (r ∷ rests) = (f r -ℤ z) +ℤ excess f z rests
+
+-- z is the least whole number that the coordinates do not exceed on the average
+pub record IsCeiling (f : List ℕ → ℤ) (rests : List (List ℕ)) (z : ℤ) : Type 0 where
+  pub not_exceeded : excess f z rests ≤ℤ pos 0
+  pub least : pos 0 <ℤ excess f (z -ℤ pos 1) rests
 
 -- in each coordinate the ceiling of the average
 unfoldable pub centroid_of : List (List ℕ) → Point

@@ -16,7 +16,7 @@ use Rattle.spg_points.specs.Codec.{lowest, highest, is_coordinate, is_point, poi
 use Rattle.spg_points.specs.Heights.{raised, lowered}
 use Rattle.spg_points.specs.Areas.{in_area}
 use Rattle.spg_points.proofs.PointLemmas.{not_le, raised_is, raised_bound, lowered_le, lowered_above, and_true, true_and, le_from, le_to, between_from, between_to, is_point-point_of, point_of-bytes_of_point, length-bytes_of_point}
-use Rattle.spg_quad.specs.Quad.{quadrant, region, ceiling_by, centroid_of}
+use Rattle.spg_quad.specs.Quad.{quadrant, region, ceiling_by, centroid_of, excess, IsCeiling}
 
 by_tests : (a b d : Bool) (P : ℕ → Type 0) → (a ≡ true → b ≡ true → P 0) → (a ≡ true → b ≡ false → P 1) → (a ≡ false → d ≡ true → P 2) → (a ≡ false → d ≡ false → P 3) → P (cond a (cond b 0 1) (cond d 2 3))
 by_tests true true d P f g h k = f refl refl
@@ -110,3 +110,40 @@ is_point-centroid_of rests n =
   where
     in_range : (r : List ℕ) → (is_coordinate (point_of r).x ≡ true) × (is_coordinate (point_of r).y ≡ true)
     in_range r = and_true (is_coordinate (point_of r).x) (is_coordinate (point_of r).y) (is_point-point_of r)
+
+-- the ceiling by heights is the ceiling
+excess_raised : (f : List ℕ → ℤ) → ((r : List ℕ) → is_coordinate (f r) ≡ true) → (d : ℕ) (rests : List (List ℕ))
+    → excess f (pos d -ℤ pos 2147483648) rests ≡ pos (sum_by (λ r. raised (f r)) rests) -ℤ pos (length rests * d)
+excess_raised f fine d [] = omega (arith, ints)
+excess_raised f fine d (r ∷ rests) =
+    let e = sum_by-cons (λ r. raised (f r)) r rests in
+    let h = raised_is (f r) (fine r) in
+    let n = excess_raised f fine d rests in
+    omega (arith, ints)
+
+excess_less : (f : List ℕ → ℤ) (z : ℤ) (rests : List (List ℕ)) → excess f (z -ℤ pos 1) rests ≡ excess f z rests +ℤ pos (length rests)
+excess_less f z [] = omega (arith, ints)
+excess_less f z (r ∷ rests) = let n = excess_less f z rests in omega (arith, ints)
+
+pub is_ceiling : (f : List ℕ → ℤ) → ((r : List ℕ) → is_coordinate (f r) ≡ true) → (rests : List (List ℕ)) → 0 < length rests → IsCeiling f rests (ceiling_by f rests)
+unfolding ceiling_by lowered
+is_ceiling f fine rests n =
+    let s = sum_by (λ r. raised (f r)) rests in
+    let d = div_ceil s (length rests) in
+    let t = div_ceil_times s (length rests) n in
+    let e = excess_raised f fine d rests in
+    let l = excess_less f (pos d -ℤ pos 2147483648) rests in
+    let low = swap_low s d (length rests) t.0 in
+    let high = under s d (length rests) t.1 in
+    record { not_exceeded = omega (arith, ints); least = omega (arith, ints) }
+  where
+    under : (s d n : ℕ) → d * n < s + n → n * d < s + n
+    under s d n h = omega (arith, mul_comm d n)
+
+pub centroid_x : (rests : List (List ℕ)) → 0 < length rests → IsCeiling (λ r. (point_of r).x) rests (centroid_of rests).x
+unfolding centroid_of
+centroid_x rests n = is_ceiling (λ r. (point_of r).x) (λ r. (and_true (is_coordinate (point_of r).x) (is_coordinate (point_of r).y) (is_point-point_of r)).0) rests n
+
+pub centroid_y : (rests : List (List ℕ)) → 0 < length rests → IsCeiling (λ r. (point_of r).y) rests (centroid_of rests).y
+unfolding centroid_of
+centroid_y rests n = is_ceiling (λ r. (point_of r).y) (λ r. (and_true (is_coordinate (point_of r).x) (is_coordinate (point_of r).y) (is_point-point_of r)).1) rests n

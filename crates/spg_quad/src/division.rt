@@ -4,7 +4,7 @@ ghost use Rattle.spg_points.specs.Codec.{point_of};
 ghost use Rattle.spg_points.specs.Heights.{lowered};
 ghost use Rattle.spg_points.specs.PointClass.{divided_by};
 ghost use Rattle.spg_quad.specs.declared.class.QuadRecon.{QuadRecon as Recon};
-ghost use Rattle.spg_quad.specs.Quad.{quad, quadrant, centroid_of};
+ghost use Rattle.spg_quad.specs.Quad.{quad, quadrant, centroid_of, IsCeiling};
 
 use crate::quadrant::node_of;
 use spg_base::{Bytes, List, Memory, Point};
@@ -29,6 +29,16 @@ pub fn divide(alloc: Global, rests: &[Bytes]) -> Result<Picked, Memory>
 
 /// In each coordinate the ceiling of the average.
 fn centroid(rests: &[Bytes]) -> Point
+    requires { 0 < length rests.now }
+    ensures value { result ≡ centroid_of rests.now }
+    ensures x_ceiling { IsCeiling (λ r. (point_of r).x) rests.now result.x }
+    ensures y_ceiling { IsCeiling (λ r. (point_of r).y) rests.now result.y }
+{
+    centroid_by_heights(rests)
+}
+
+/// The centroid, from the heights of coordinates above the lowest, which are not negative.
+fn centroid_by_heights(rests: &[Bytes]) -> Point
     requires { 0 < length rests.now }
     ensures { result ≡ centroid_of rests.now }
 {

@@ -6,3 +6,6 @@ mod division;
 mod quadrant;
 
 pub use class::{Quad, QuadRecon};
+
+#[cfg(test)]
+mod tests;

@@ -1,5 +1,5 @@
 use Rattle.std.proofs.Common.{◌≡◌, ◌++◌, drop}
-use Rattle.spg_kd.specs.Kd.{sides}
+use Rattle.spg_kd.specs.Ties.{sides}
 use Rattle.spg_kd.proofs.division.nodes_of.Given as goal
 
 abbrev pub invariant-loop-k : goal.invariant-loop-k

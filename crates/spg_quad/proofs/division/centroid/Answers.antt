@@ -1,9 +1,8 @@
-use Rattle.std.proofs.Common.{rules, arith}
-use Rattle.std.proofs.lemmas.Int.{to_z-of_z}
-use Rattle.std.proofs.lemmas.Grind.{common_steps}
-use Rattle.spg_quad.specs.Quad.{centroid_of, ceiling_by}
+use Rattle.spg_quad.specs.QuadLemmas.{centroid_x, centroid_y}
 use Rattle.spg_quad.proofs.division.centroid.Goals as goal
 
-pub returns : goal.returns
-unfolding centroid_of ceiling_by
-returns c = grind (arith, common_steps, to_z-of_z)
+pub returns-clause-x_ceiling : goal.returns-clause-x_ceiling
+returns-clause-x_ceiling c = rw c.centroid_by_heights.ensures (centroid_x c.args.rests.now c.requires)
+
+pub returns-clause-y_ceiling : goal.returns-clause-y_ceiling
+returns-clause-y_ceiling c = rw c.centroid_by_heights.ensures (centroid_y c.args.rests.now c.requires)

@@ -1,7 +1,7 @@
 use Rattle.std.proofs.Common.{◌≡◌, ◌<◌, ◌*◌, ◌^◌, ◌≤◌, take, sum_by}
 use Rattle.spg_points.specs.Codec.{point_of}
 use Rattle.spg_points.specs.Heights.{raised}
-use Rattle.spg_quad.proofs.division.centroid.Given as goal
+use Rattle.spg_quad.proofs.division.centroid_by_heights.Given as goal
 
 abbrev pub invariant-loop-rest : goal.invariant-loop-rest
 invariant-loop-rest l = record {
