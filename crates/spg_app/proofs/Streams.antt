@@ -1,0 +1,70 @@
+-- Reading and writing in several calls.
+use Rattle.std.proofs.Common.{◌≡◌, ◌<◌, ◌+◌, ℕ, List, [], ◌++◌, drop, length, get_or, Result, Ok, Err, OnErr, refl, sym, ap, ◌∙◌}
+use Rattle.std.specs.declared.option.Option.{Option}
+use Rattle.std.proofs.lemmas.List.{append_assoc, append-nil, at_drop_more}
+use Rattle.std.specs.Io.KnownBytes.{Appends}
+use Rattle.std.proofs.KnownBytes.{Appends-trans, Appends-nil}
+use Rattle.spg_app.specs.Io.{Wrote, WroteSome}
+use Rattle.spg_rows.specs.declared.event.Event.{Event}
+use Rattle.spg_app.specs.declared.record.Record.{Record}
+use Rattle.spg_app.specs.Speech.{Speech}
+use Rattle.spg_app.specs.Text.{text, journal_line, result_line, result_lines, event_line, event_lines}
+
+pub Wrote-more : (a b c : Option (List ℕ)) (text rest left piece : List ℕ) → Wrote a b text rest → Appends b c piece → rest ≡ piece ++ left → Wrote a c text left
+Wrote-more a b c text rest left piece wrote next is =
+    (wrote.0 ++ piece, Appends-trans a b c wrote.0 piece wrote.1 next, wrote.2 ∙ ap (λ l. wrote.0 ++ l) is ∙ sym (append_assoc wrote.0 piece left))
+
+pub WroteSome-more : (a b c : Option (List ℕ)) (text rest left piece : List ℕ) → Wrote a b text rest → WroteSome b c piece → rest ≡ piece ++ left → WroteSome a c text
+WroteSome-more a b c text rest left piece wrote some is =
+    (some.0 ++ left, Wrote-more a b c text rest (some.0 ++ left) some.1.0 wrote some.1.1 (is ∙ ap (λ l. l ++ left) some.1.2 ∙ append_assoc some.1.0 some.0 left))
+
+-- nothing is written yet
+pub Wrote-none : (a : Option (List ℕ)) (text : List ℕ) → Wrote a a text text
+Wrote-none a text = ([], Appends-nil a, refl)
+
+pub WroteSome-none : (a : Option (List ℕ)) (text : List ℕ) → WroteSome a a text
+WroteSome-none a text = (text, Wrote-none a text)
+
+pub OnErr-always : {T E : Type 0} (r : Result T E) (P : Type 0) → P → OnErr r P
+OnErr-always (Ok x) P p = tt
+OnErr-always (Err e) P p = p
+
+-- ---- the lines of a run
+
+pub result_lines-more : (number : ℕ) (records : List Record) (i : ℕ) (one : Record) → i < length records → one ≡ get_or records i one
+    → result_lines number (drop i records) ≡ result_line number one ++ result_lines (number + 1) (drop (i + 1) records)
+result_lines-more number records i one within is =
+    at_drop_more (result_lines number) records i one within ∙ ap (λ (r : Record). result_line number r ++ result_lines (number + 1) (drop (i + 1) records)) (sym is)
+
+module _ {O Key Recon Cond : Type 0} (speech : Speech Key Cond) where
+  pub event_lines-more : (at : ℕ) (events : List (Event O Key Recon Cond)) (i : ℕ) (one : Event O Key Recon Cond) → i < length events → one ≡ get_or events i one
+      → event_lines speech at (drop i events) ≡ event_line speech at one ++ event_lines speech (at + 1) (drop (i + 1) events)
+  event_lines-more at events i one within is =
+      at_drop_more (event_lines speech at) events i one within ∙ ap (λ (e : Event O Key Recon Cond). event_line speech at e ++ event_lines speech (at + 1) (drop (i + 1) events)) (sym is)
+
+  -- ---- the three parts of a text, one after another
+
+  module _ (journal : List (Event O Key Recon Cond)) (records : List Record) (a b c d : Option (List ℕ)) (results : Appends a b (result_lines 1 records)) where
+    abbrev whole : List ℕ
+    whole = text speech journal records
+
+    abbrev line : List ℕ
+    line = journal_line (length journal)
+
+    abbrev events : List ℕ
+    events = event_lines speech 0 journal
+
+    split : whole ≡ result_lines 1 records ++ (line ++ events)
+    split = append_assoc (result_lines 1 records) line events
+
+    pub wrote_results : Wrote a b whole (line ++ events)
+    wrote_results = Wrote-more a a b whole whole (line ++ events) (result_lines 1 records) (Wrote-none a whole) results split
+
+    pub wrote_line : Appends b c line → Wrote a c whole events
+    wrote_line next = Wrote-more a b c whole (line ++ events) events line wrote_results next refl
+
+    pub line_fails : WroteSome b c line → WroteSome a c whole
+    line_fails some = WroteSome-more a b c whole (line ++ events) events line wrote_results some refl
+
+    pub events_fail : Appends b c line → WroteSome c d events → WroteSome a d whole
+    events_fail next some = WroteSome-more a c d whole events [] events (wrote_line next) some (sym (append-nil events))

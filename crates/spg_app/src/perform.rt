@@ -1,0 +1,122 @@
+ghost use Rattle.std.specs.Prelude.{◌≡◌, IfOk, length, map};
+ghost use Rattle.spg_core.specs.Stage.{free};
+ghost use Rattle.spg_core.specs.Seen.{stage_at};
+ghost use Rattle.spg_app.specs.Speech.{query_in};
+ghost use Rattle.spg_app.specs.Run.{Performed};
+ghost use Rattle.spg_app.specs.declared.command.Command.TheVariants.{Insert, Find};
+
+use crate::command::{AnyQuery, Command};
+use crate::record::{Outcome, Record};
+use crate::speech::Spoken;
+use spg_base::{List, Memory, Point, PointCond, Row, SeatNo, Span};
+use spg_core::{OpenRefused, State, StepRefused};
+use spg_opclass::Query;
+use spg_rows::Why;
+use std::alloc::Global;
+
+/// How many events there are.
+fn position<O: Spoken>(state: &State<O>) -> u64
+    ensures { result ≡ length state.now.journal }
+{
+    state.journal().len()
+}
+
+/// The record of a command that began at this position.
+fn recorded<O: Spoken>(state: &State<O>, from: u64, outcome: Outcome) -> Record
+    ensures outcome { result.outcome ≡ outcome }
+    ensures from { result.span.from ≡ from }
+    ensures to { result.span.to ≡ length state.now.journal }
+{
+    Record {
+        span: Span {
+            from,
+            to: position(state),
+        },
+        outcome,
+    }
+}
+
+fn insert<O: Spoken>(state: &mut State<O>, row: Row, key: Point) -> Result<Record, Memory>
+    requires { stage_at state.old 0 ≡ free }
+    ensures done { IfOk result (Performed O.speech state.old.journal state.new.journal (Insert row key)) }
+    ensures free { IfOk result (λ _. stage_at state.new 0 ≡ free) }
+{
+    let seat = SeatNo::first();
+    let from = position(state);
+    let found = state.class().key_in(&key)?;
+    match state.open_insert(seat, row, Some(found)) {
+        Ok(()) => {}
+        Err(OpenRefused::RowUsed) => return Ok(recorded(state, from, Outcome::RowUsed)),
+        Err(OpenRefused::Memory) => return Err(Memory),
+    }
+    if state.insert_step(seat).is_err() {
+        return Err(Memory);
+    }
+    match state.insert_step(seat) {
+        Ok(_) => Ok(recorded(state, from, Outcome::Added)),
+        Err(StepRefused::IndexFull) => {
+            state.abandon(seat, Why::Full);
+            Ok(recorded(state, from, Outcome::Full))
+        }
+        Err(StepRefused::Memory) => Err(Memory),
+    }
+}
+
+/// The class's conditions for a script's.
+fn conds_in<O: Spoken>(
+    alloc: Global,
+    class: &O,
+    conds: &[PointCond],
+) -> Result<List<O::Cond>, Memory>
+    ensures { IfOk result (λ found. found ≡ map O.speech.cond_in conds.now) }
+{
+    let mut found = List::new(alloc);
+    for cond in conds {
+        found.push(class.cond_in(cond)?)?;
+    }
+    Ok(found)
+}
+
+/// The class's query for a script's.
+fn query_in<O: Spoken>(alloc: Global, class: &O, query: &AnyQuery) -> Result<Query<O>, Memory>
+    ensures { IfOk result (λ found. found ≡ query_in O.speech query.now) }
+{
+    match query {
+        AnyQuery::All => Ok(Query::All),
+        AnyQuery::Where(conds) => Ok(Query::Where(conds_in(alloc, class, conds.as_slice())?)),
+    }
+}
+
+fn find<O: Spoken>(alloc: Global, state: &mut State<O>, query: &AnyQuery) -> Result<Record, Memory>
+    requires { stage_at state.old 0 ≡ free }
+    ensures done { IfOk result (Performed O.speech state.old.journal state.new.journal (Find query.now)) }
+    ensures free { IfOk result (λ _. stage_at state.new 0 ≡ free) }
+{
+    let seat = SeatNo::first();
+    let from = position(state);
+    let query = query_in(alloc, state.class(), query)?;
+    state.open_scan(seat, query)?;
+    let _ = state.scan_read(seat, 0)?;
+    let closed = state.close_scan(seat)?;
+    let outcome = Outcome::Found {
+        rows: closed.rows,
+        walk: closed.met,
+    };
+    Ok(recorded(state, from, outcome))
+}
+
+/// Does one command, as seat 0.
+pub fn perform<O: Spoken>(
+    alloc: Global,
+    state: &mut State<O>,
+    command: &Command,
+) -> Result<Record, Memory>
+    requires { stage_at state.old 0 ≡ free }
+    ensures done { IfOk result (Performed O.speech state.old.journal state.new.journal command.now) }
+    ensures free { IfOk result (λ _. stage_at state.new 0 ≡ free) }
+{
+    match command {
+        Command::Insert { row, key } => insert(state, *row, *key),
+        Command::Find { query } => find(alloc, state, query),
+    }
+}

@@ -1,0 +1,81 @@
+ghost use Rattle.std.specs.Prelude.{◌≡◌, [], IfOk};
+ghost use Rattle.spg_core.specs.Stage.{free};
+ghost use Rattle.spg_core.specs.Seen.{stage_at};
+ghost use Rattle.spg_rows.specs.Right.{Right};
+ghost use Rattle.spg_app.specs.Run.{RunOf};
+ghost use Rattle.spg_app.specs.Ending.{Ends};
+
+use crate::command::Command;
+use crate::perform::perform;
+use crate::record::Records;
+use crate::speech::Spoken;
+use crate::writing::write_text;
+use spg_base::{List, Memory};
+use spg_core::State;
+use spg_io::{IoRefused, Sink};
+use spg_opclass::OpClass;
+use std::alloc::Global;
+
+/// Does commands one after another, from an empty index.
+fn perform_all<O: Spoken>(
+    alloc: Global,
+    state: &mut State<O>,
+    commands: &[Command],
+) -> Result<Records, Memory>
+    requires empty { state.old.journal ≡ [] }
+    requires free { stage_at state.old 0 ≡ free }
+    ensures { IfOk result (λ records. RunOf O.speech commands.now state.new.journal records) }
+{
+    let mut records = List::new(alloc);
+    for command in commands {
+        let one = perform(alloc, state, command)?;
+        records.push(one)?;
+    }
+    Ok(records)
+}
+
+/// The state and the records after the commands of a script.
+pub fn perform_script<O: Spoken>(
+    alloc: Global,
+    class: O,
+    commands: &[Command],
+) -> Result<(State<O>, Records), Memory>
+    ensures run { IfOk result (λ done. RunOf O.speech commands.now done.0.journal done.1) }
+    ensures right { IfOk result (λ done. Right O.meaning done.0.journal) }
+{
+    let mut state = State::new(alloc, class)?;
+    let records = perform_all(alloc, &mut state, commands)?;
+    let _ = state.journal();
+    Ok((state, records))
+}
+
+/// How the commands of a script ended.
+#[derive(Drop)]
+pub enum Ending<O: OpClass> {
+    /// All were done, and the text was written.
+    Done(State<O>),
+    /// All were done, and the sink failed.
+    WriteFault(State<O>),
+    /// There was no memory.
+    Memory,
+}
+
+/// Does the commands of a script and writes the text of their run.
+pub fn run_commands<O: Spoken, K: Sink>(
+    alloc: Global,
+    class: O,
+    commands: &[Command],
+    out: &mut K,
+) -> Ending<O>
+    ensures { Ends O.meaning O.speech commands.now (K.contents out.old) (K.contents out.new) (K.faults out.old) (K.faults out.new) result }
+{
+    let Ok((state, records)) = perform_script(alloc, class, commands) else {
+        return Ending::Memory;
+    };
+    let journal = state.journal().as_slice();
+    match write_text(alloc, &class, journal, records.as_slice(), out) {
+        Ok(()) => Ending::Done(state),
+        Err(IoRefused::Failed) => Ending::WriteFault(state),
+        Err(IoRefused::Memory) => Ending::Memory,
+    }
+}

@@ -1,0 +1,185 @@
+ghost use Rattle.std.specs.Prelude.{◌≡◌, ◌<◌, ◌≤◌, ℕ, List as Items, length, [], Some, IfOk};
+ghost use Rattle.std.specs.declared.option.Option.{Option};
+ghost use Rattle.std.specs.Io.KnownBytes.{WriteAppends};
+ghost use Rattle.spg_io.specs.Causes.{HasCauseIfFailed};
+ghost use Rattle.spg_io.specs.declared.sink.IoRefused.TheVariants as refused;
+
+use spg_base::{List, Memory};
+use std::alloc::{AllocError, Global};
+use std::io::Write;
+use std::marker::Model;
+
+/// Why a call took nothing. The object is as it was.
+#[derive(Clone, Copy, Debug, PartialEq, Eq)]
+pub enum IoRefused {
+    /// The device failed.
+    Failed,
+    /// There was no memory.
+    Memory,
+}
+
+impl From<AllocError> for IoRefused {
+    ghost from_gives = { λ _ e. e ≡ refused.Memory };
+
+    fn from(_: AllocError) -> IoRefused {
+        IoRefused::Memory
+    }
+}
+
+impl From<Memory> for IoRefused {
+    ghost from_gives = { λ _ e. e ≡ refused.Memory };
+
+    fn from(_: Memory) -> IoRefused {
+        IoRefused::Memory
+    }
+}
+
+/// Where bytes go.
+pub trait Sink {
+    /// The bytes that it has taken, where it tells them.
+    ghost contents: { Self → Option (Items ℕ) };
+
+    /// How often a call failed. It never falls.
+    ghost faults: { Self → ℕ };
+
+    /// Takes the front of the piece, and says how many bytes: at least one where there is one.
+    /// `Failed` comes only where the count of faults rises.
+    fn write(&mut self, piece: &[u8]) -> Result<usize, IoRefused>
+        ensures bound { IfOk result (λ n. n ≤ length piece.now) }
+        ensures some { IfOk result (λ n. 0 < length piece.now → 0 < n) }
+        ensures bytes { WriteAppends (contents self.old) (contents self.new) result piece.now }
+        ensures cause { HasCauseIfFailed (faults self.old) (faults self.new) result };
+}
+
+/// Bytes in memory. No call fails.
+#[derive(Drop)]
+pub struct PlainSink {
+    bytes: Vec<u8>,
+}
+
+impl Model for PlainSink {
+    ghost use Rattle.std.specs.Prelude.{ℕ, List};
+
+    ghost Value = { List ℕ };
+
+    ghost view = { λ s. s.bytes.items };
+}
+
+impl PlainSink {
+    /// No bytes taken.
+    pub fn new(alloc: Global) -> PlainSink
+        ensures { result ≡ [] }
+    {
+        PlainSink {
+            bytes: Vec::new(alloc),
+        }
+    }
+
+    /// The bytes that it has taken.
+    pub fn taken(&self) -> &[u8]
+        ensures { result.now ≡ self.now }
+    {
+        &self.bytes
+    }
+}
+
+impl Sink for PlainSink {
+    ghost contents = { λ s. Some s };
+
+    ghost faults = { λ _. 0 };
+
+    fn write(&mut self, piece: &[u8]) -> Result<usize, IoRefused> {
+        match self.bytes.extend_from_slice(piece) {
+            Ok(()) => Ok(piece.len()),
+            Err(_) => Err(IoRefused::Memory),
+        }
+    }
+}
+
+/// Bytes in memory. The calls with these numbers fail, counted from 1.
+#[derive(Drop)]
+pub struct FaultySink {
+    bytes: Vec<u8>,
+    fails: List<u64>,
+    calls: u64,
+    faults: u64,
+}
+
+impl Model for FaultySink {
+    ghost use Rattle.spg_io.specs.Faulty.{FaultyBytes};
+
+    ghost Value = { FaultyBytes };
+
+    ghost view = { λ s. record { bytes = s.bytes.items; faults = s.faults } };
+}
+
+impl FaultySink {
+    /// No bytes taken and no call made.
+    pub fn new(alloc: Global, fails: List<u64>) -> FaultySink
+        ensures taken { result.bytes ≡ [] }
+        ensures faults { result.faults ≡ 0 }
+    {
+        FaultySink {
+            bytes: Vec::new(alloc),
+            fails,
+            calls: 0,
+            faults: 0,
+        }
+    }
+
+    /// The bytes that it has taken.
+    pub fn taken(&self) -> &[u8]
+        ensures { result.now ≡ self.now.bytes }
+    {
+        &self.bytes
+    }
+}
+
+impl Sink for FaultySink {
+    ghost contents = { λ s. Some s.bytes };
+
+    ghost faults = { λ s. s.faults };
+
+    fn write(&mut self, piece: &[u8]) -> Result<usize, IoRefused> {
+        self.calls = self.calls.saturating_add(1);
+        if self.fails.as_slice().contains(&self.calls) {
+            self.faults = self.faults.saturating_add(1);
+            return Err(IoRefused::Failed);
+        }
+        match self.bytes.extend_from_slice(piece) {
+            Ok(()) => Ok(piece.len()),
+            Err(_) => Err(IoRefused::Memory),
+        }
+    }
+}
+
+/// A writer of std, as standard output. Each refusal is a fault, and so is a write that takes
+/// nothing of a piece that is not empty.
+#[derive(Drop)]
+pub struct OutputSink<W: Write + Drop> {
+    writer: W,
+    faults: u64,
+}
+
+impl<W: Write + Drop> OutputSink<W> {
+    /// What the writer takes, with no fault yet.
+    pub fn new(writer: W) -> OutputSink<W> {
+        OutputSink { writer, faults: 0 }
+    }
+}
+
+impl<W: Write + Drop> Sink for OutputSink<W> {
+    ghost contents = { λ s. W.contents s.writer };
+
+    ghost faults = { λ s. s.faults };
+
+    fn write(&mut self, piece: &[u8]) -> Result<usize, IoRefused> {
+        match self.writer.write(piece) {
+            Ok(count) if count > 0 || piece.is_empty() => Ok(count),
+            _ => {
+                self.faults = self.faults.saturating_add(1);
+                Err(IoRefused::Failed)
+            }
+        }
+    }
+}
