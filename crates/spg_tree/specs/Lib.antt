@@ -6,3 +6,5 @@ pub mod Lending
 pub mod Marks
 pub mod Pick
 pub mod Picked
+pub mod Refused
+pub mod Descents
