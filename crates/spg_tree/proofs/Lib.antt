@@ -1,3 +1,4 @@
 pub mod More
 pub mod Search
 pub mod Picking
+pub mod Two

@@ -6,5 +6,6 @@ pub mod Lending
 pub mod Marks
 pub mod Pick
 pub mod Picked
+pub mod Two
 pub mod Refused
 pub mod Descents

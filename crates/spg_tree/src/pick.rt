@@ -53,7 +53,7 @@ impl PageTable {
     }
 
     /// The lowest empty block that may be taken.
-    fn lowest_vacant(&mut self, want: &Want) -> Option<u32>
+    pub(crate) fn lowest_vacant(&mut self, want: &Want) -> Option<u32>
         ensures lowest { IsVacantIn self.old want.now result }
         ensures same { self.new ≡ self.old }
     {
