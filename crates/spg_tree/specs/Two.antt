@@ -1,5 +1,5 @@
 -- Two pages picked in one section, both or none.
-use Rattle.std.specs.Prelude.{◌≡◌, ◌≢◌, ℕ, ◌<◌, ◌≤◌, ◌⊎◌, [], length, Option, Some, None, IfSome}
+use Rattle.std.specs.Prelude.{◌≡◌, ℕ, ◌<◌, ◌≤◌, ◌⊎◌, [], Option, Some, None}
 use Rattle.spg_forest.specs.Sheets.{Sheet}
 use Rattle.spg_page.specs.Kinds.{is_inner}
 use Rattle.spg_tree.specs.declared.want.Want.{Want}
