@@ -2,3 +2,4 @@ pub mod More
 pub mod Search
 pub mod Picking
 pub mod Two
+pub mod Ranges
