@@ -1,0 +1,9 @@
+pub mod View
+pub mod Spot
+pub mod Tuples
+pub mod Pages
+pub mod Links
+pub mod Steps
+pub mod Start
+pub mod Classes
+pub mod Sheets
