@@ -22,7 +22,6 @@ pub mod Sweep
 pub mod Ends
 pub mod Once
 pub mod FromLinks
-pub mod Fit
 pub mod Part
 pub mod Blocks
 pub mod Runs
@@ -42,3 +41,4 @@ pub mod Rows
 pub mod Read
 pub mod Put
 pub mod Move
+pub mod NewIndex

@@ -7,3 +7,7 @@ pub mod Steps
 pub mod Start
 pub mod Classes
 pub mod Sheets
+pub mod Fit
+pub mod Shape
+pub mod Walk
+pub mod Section

@@ -2,7 +2,7 @@
 #![tactic(auto)]
 
 ghost use Rattle.spg_forest.specs.Pages.{PutBehind, MoveChain};
-ghost use Rattle.spg_forest.specs.Start.{StartIsShaped, OneLeafIsShaped};
+ghost use Rattle.spg_forest.specs.Start.{NewIsShaped, StartIsShaped, OneLeafIsShaped};
 ghost use Rattle.spg_forest.specs.Steps.{SplitTuple, AddNode, PutAtEmpty, Age, Sweep, LinksLaidOut};
 ghost use Rattle.spg_forest.specs.Links.{LinksAreTree, TreeIsLinked};
 
@@ -34,6 +34,7 @@ pub fn shape()
 
 /// The premise of these laws can be met.
 pub fn start()
+    ensures new_index { NewIsShaped }
     ensures empty { StartIsShaped }
     ensures one_leaf { OneLeafIsShaped }
 {}
