@@ -42,3 +42,11 @@ pub mod Read
 pub mod Put
 pub mod Move
 pub mod NewIndex
+pub mod Keeps
+pub mod FitSteps
+pub mod TreeSteps
+pub mod Sections
+pub mod Edits
+pub mod Writes
+pub mod Stock
+pub mod Picks

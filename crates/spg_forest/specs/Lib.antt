@@ -11,3 +11,4 @@ pub mod Fit
 pub mod Shape
 pub mod Walk
 pub mod Section
+pub mod Edits
