@@ -50,3 +50,5 @@ pub mod Edits
 pub mod Writes
 pub mod Stock
 pub mod Picks
+pub mod Puts
+pub mod Joins

@@ -12,3 +12,4 @@ pub mod Shape
 pub mod Walk
 pub mod Section
 pub mod Edits
+pub mod Puts

@@ -4,7 +4,18 @@
 ghost use Rattle.spg_forest.specs.Pages.{PutBehind, MoveChain};
 ghost use Rattle.spg_forest.specs.Start.{NewIsShaped, StartIsShaped, OneLeafIsShaped};
 ghost use Rattle.spg_forest.specs.Steps.{SplitTuple, AddNode, PutAtEmpty, Age, Sweep, LinksLaidOut};
+ghost use Rattle.spg_forest.specs.Puts.{PutsBehind, PutsAtDead, PutsAtRoot, PutsAtEmpty};
 ghost use Rattle.spg_forest.specs.Links.{LinksAreTree, TreeIsLinked};
+
+use spg_opclass::OpClass;
+
+/// A leaf put where there is room adds just its entry.
+pub fn put_leaf<O: OpClass>()
+    ensures behind { PutsBehind O.meaning }
+    ensures at_dead { PutsAtDead O.meaning }
+    ensures at_root { PutsAtRoot O.meaning }
+    ensures at_empty { PutsAtEmpty O.meaning }
+{}
 
 /// A leaf put behind a chain's head.
 pub fn put_behind()
