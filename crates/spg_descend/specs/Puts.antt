@@ -62,3 +62,11 @@ PutsCarried {Key} m t t2 d = (key : Option Key) → IsCarried m (sheets_of t) d 
 abbrev pub IsPutOut : {Key Recon Cond : Type 0} → Meaning Key Recon Cond → Table → Table → Descending Recon → PutOut → Type 0
 IsPutOut m t t2 d Put = Fits t d.stand (Live (carried d) 0) × PutsCarried m t t2 d × IsQuiet t t2
 IsPutOut m t t2 d NoRoom = (Fits t d.stand (Live (carried d) 0) → ⊥) × (t2 ≡ t)
+
+-- the insert stands at the empty downlink i of an inner tuple of its tree
+abbrev pub IsAtEmpty : Sheets → Bool → Stand → Option (Place × ℕ) → Type 0
+IsAtEmpty S nulls Empty (Some (x, i)) = (0 < x.block) × (x.block < length S.sheets) × ((sheet_at S x.block).nulls ≡ nulls) × ((w : Frame) × (ns : List (Option Place)) × (tuple_of S x ≡ Inner w ns) × (i < length ns) × (get_or ns i None ≡ None))
+IsAtEmpty S nulls Empty None = ⊥
+IsAtEmpty S nulls Start parent = ⊥
+IsAtEmpty S nulls (Root b) parent = ⊥
+IsAtEmpty S nulls (At x) parent = ⊥
