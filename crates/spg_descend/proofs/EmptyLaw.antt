@@ -1,4 +1,4 @@
-use Rattle.std.proofs.Common.{◌≡◌, ℕ, zero, suc, ◌+◌, ◌≤◌, ◌<◌, Bool, true, false, List, [], ◌∷◌, ◌⊎◌, ⊎_elim, Option, Some, None, get_or, set, length, refl, sym, ap, ◌∙◌, subst, inl, inr, arith}
+use Rattle.std.proofs.Common.{◌≡◌, ℕ, zero, suc, ◌+◌, ◌≤◌, ◌<◌, Bool, true, false, List, [], ◌∷◌, ◌⊎◌, ⊎_elim, Option, Some, None, get_or, set, length, refl, sym, ap, ap₂, ◌∙◌, subst, inl, inr, arith}
 use Rattle.spg_opclass.specs.Meaning.{Meaning}
 use Rattle.spg_forest.specs.View.{Place, Leaf}
 use Rattle.spg_forest.specs.Spot.{Frame, Spot}
@@ -24,9 +24,15 @@ use Rattle.spg_tree.specs.Descents.{Descending, in_nulls}
 use Rattle.spg_tree.specs.declared.stand.Stand.{Stand}
 use Rattle.spg_tree.specs.declared.stand.Stand.TheVariants.{Start, Root, At, Empty}
 use Rattle.spg_descend.specs.Carried.{carried, IsCarried, WayFits, FitsBelow}
-use Rattle.spg_descend.specs.Puts.{IsAtEmpty, PutsCarried, cost_at}
+use Rattle.spg_forest.specs.Sheets.{links}
+use Rattle.spg_page.specs.Reads.{leaf_in}
+use Rattle.spg_tree.specs.Pick.{Picks}
+use Rattle.spg_tree.specs.Picked.{IsPicked, want_of}
+use Rattle.spg_page.specs.declared.tuple.PageKind.TheVariants as kinds
+use Rattle.spg_descend.specs.declared.put.PutOut.TheVariants.{Put}
+use Rattle.spg_descend.specs.Puts.{IsAtEmpty, PutsCarried, cost_at, leaf_want, Fits, IsPutOut, IsQuiet}
 use Rattle.spg_descend.proofs.Rooms.{fits_added}
-use Rattle.spg_descend.proofs.Picked.{PicksLeaf}
+use Rattle.spg_descend.proofs.Picked.{PicksLeaf, picks_leaf}
 
 -- the table once the leaf stands on page b, below node i of the tuple at x
 abbrev pub put_below : Table → ℕ → Place → ℕ → Leaf → Table
@@ -71,3 +77,63 @@ below_law {Key} {Recon} {Cond} m t t1 d b x i w ns H P same b3 hb leaf nulls st 
     let e3 : linked (tuple_at t2 x) i (Some y) ≡ Inner w (set ns i (Some y)) = ap (λ (u : Tuple). linked u i (Some y)) e2 in
     subst (λ (z : Stand). Adds m S (sheets_of (put_below t1 b x i (carried d))) (b ∷ x.block ∷ []) (cost_at z) d.row key (λ z. z)) (sym st)
     (subst (λ (u : Tuple). Adds m S (sheets_of (with_tuples_at t2 x.block (with_tuple (tuples_at t2 x.block) x.offset u))) (b ∷ x.block ∷ []) (cost_at Empty) d.row key (λ z. z)) (sym e3) B)
+
+-- an insert with a parent that stands at leaves below it, or at an empty downlink of it
+pub at_empty : (S : Sheets) (nulls : Bool) (st : Stand) (parent : Option (Place × ℕ)) (x : Place) (i : ℕ) → IsAtEmpty S nulls st parent → parent ≡ Some (x, i) → (st ≡ Empty) × IsAtEmpty S nulls Empty (Some (x, i))
+at_empty S nulls Empty parent x i a e = (refl, subst (λ (p : Option (Place × ℕ)). IsAtEmpty S nulls Empty p) e a)
+at_empty S nulls Start parent x i a e = absurd a
+at_empty S nulls (Root b) parent x i a e = absurd a
+at_empty S nulls (At y) parent x i a e = absurd a
+
+inner_within : (ts : List Tuple) (o : ℕ) (w : Frame) (ns : List (Option Place)) → tuple_on ts o ≡ Inner w ns → IsOffset ts o
+inner_within ts zero w ns e = cc
+inner_within ts (suc j) w ns e = let h : j < length ts = go ts j e in (omega arith, omega arith)
+  where
+    go : (us : List Tuple) (k : ℕ) → tuple_on us (suc k) ≡ Inner w ns → k < length us
+    go [] k e = cc
+    go (t ∷ us) zero e = omega arith
+    go (t ∷ us) (suc k) e = let h : k < length us = go us k e in omega arith
+
+-- What the code needs to put the leaf below the downlink
+pub record IsReady (t1 : Table) (b : ℕ) (x : Place) (i : ℕ) (need : ℕ) : Type 0 where
+  pub block : (0 < b) × (b < length t1.pages)
+  pub parent : (0 < x.block) × (x.block < length t1.pages)
+  pub apart : b ≡ x.block → ⊥
+  pub within : IsOffset (tuples_at t1 x.block) x.offset
+  pub node : i < length (links (tuple_at t1 x))
+  pub room : need ≤ room_of (tuples_at t1 b) 1
+
+pub picked_ready : {Key Recon Cond : Type 0} (m : Meaning Key Recon Cond) (t t1 : Table) (d : Descending Recon) (b : ℕ) (x : Place) (i seat : ℕ) → Shape m (sheets_of t) → d.parent ≡ Some (x, i) → IsAtEmpty (sheets_of t) (in_nulls d) d.stand d.parent →
+    Picks t (leaf_want d seat) b t1 → IsPicked t (leaf_want d seat) b t1 → IsReady t1 b x i (size_of (Live (carried d) 0) + 4)
+picked_ready m t t1 d b x i seat H pa A Q P =
+    let (st, (pos, hx, tree, (w, ns, e, hi, en))) = at_empty (sheets_of t) (in_nulls d) d.stand d.parent x i A pa in
+    let K : PicksLeaf t b t1 = picks_leaf t t1 (leaf_want d seat) b H.pages.count refl P Q in
+    let H1 : Shape m (sheets_of t1) = picked_shape m (sheets_of t) (sheets_of t1) K.pages H in
+    let ex : tuple_at t1 x ≡ Inner w ns = ap (λ (ts : List Tuple). tuple_on ts x.offset) (P.tuples x.block) ∙ e in
+    record {
+      block = let k = P.from in (omega arith, P.there);
+      parent = let k = P.least in (pos, omega arith);
+      apart = λ q. let k = subst (λ (u : Tuple). IsKindOf m (sheet_at (sheets_of t1) x.block).inner (sheet_at (sheets_of t1) x.block).nulls u) ex ((H1.pages.each x.block).kinds x.offset) in
+          let y : (table.sheet_at t1 x.block).inner ≡ true = k.0 in
+          let z : (table.sheet_at t1 x.block).inner ≡ false = subst (λ c. (table.sheet_at t1 c).inner ≡ false) q P.kind in
+          let v : true ≡ false = sym y ∙ z in cc;
+      within = inner_within (tuples_at t1 x.block) x.offset w ns ex;
+      node = rw ex hi;
+      room = P.room;
+    }
+
+pub below_out : {Key Recon Cond : Type 0} (m : Meaning Key Recon Cond) (t t1 t2 : Table) (d : Descending Recon) (b : ℕ) (x : Place) (i seat : ℕ) (u : Tuple) → Shape m (sheets_of t) → d.parent ≡ Some (x, i) → IsAtEmpty (sheets_of t) (in_nulls d) d.stand d.parent →
+    u ≡ Live (carried d) 0 → Picks t (leaf_want d seat) b t1 → IsPicked t (leaf_want d seat) b t1 → t2 ≡ put_below t1 b x i (leaf_in u) → IsPutOut m t t2 d Put
+below_out m t t1 t2 d b x i seat u H pa A q Q P e =
+    let (st, (pos, hx, tree, (w, ns, f, hi, en))) = at_empty (sheets_of t) (in_nulls d) d.stand d.parent x i A pa in
+    let K : PicksLeaf t b t1 = picks_leaf t t1 (leaf_want d seat) b H.pages.count refl P Q in
+    let R : IsReady t1 b x i (size_of (Live (carried d) 0) + 4) = picked_ready m t t1 d b x i seat H pa A Q P in
+    let e2 : t2 ≡ put_below t1 b x i (carried d) = e ∙ ap (λ (v : Tuple). put_below t1 b x i (leaf_in v)) q in
+    subst (λ (z : Table). IsPutOut m t z d Put) (sym e2) (
+      subst (λ (z : Stand). Fits t z (Live (carried d) 0)) (sym st) tt,
+      below_law m t t1 d b x i w ns H K P.tuples P.from P.there P.kind P.tree st pa pos hx tree (λ k. R.apart (sym k)) (inner_within (tuples_at t x.block) x.offset w ns f) f hi en P.room,
+      record { latches = P.latches; clock = P.clock; counter = P.counter; limit = P.limit },
+    )
+
+pub want_is : {Recon : Type 0} (d : Descending Recon) (seat size : ℕ) (nulls : Bool) (u : Tuple) → nulls ≡ in_nulls d → size ≡ size_of u → u ≡ Live (carried d) 0 → want_of kinds.Leaf nulls None (size + 4) 1 None seat ≡ leaf_want d seat
+want_is d seat size nulls u a b c = ap₂ (λ (i : Bool) (k : ℕ). want_of kinds.Leaf i None (k + 4) 1 None seat) a (b ∙ ap size_of c)

@@ -11,6 +11,9 @@ use Rattle.spg_forest.specs.Edits.{tuple_of}
 use Rattle.spg_forest.specs.Section.{Adds, Cost}
 use Rattle.spg_page.specs.Changes.{free_of, room_of}
 use Rattle.spg_tree.specs.Table.{Table, sheets_of, tuples_at, tuple_at, latch_at}
+use Rattle.spg_tree.specs.declared.want.Want.{Want}
+use Rattle.spg_tree.specs.Picked.{want_of}
+use Rattle.spg_page.specs.declared.tuple.PageKind.TheVariants as kinds
 use Rattle.spg_tree.specs.Descents.{Descending, in_nulls}
 use Rattle.spg_tree.specs.declared.stand.Stand.{Stand}
 use Rattle.spg_tree.specs.declared.stand.Stand.TheVariants.{Start, Root, At, Empty}
@@ -70,3 +73,10 @@ IsAtEmpty S nulls Empty None = ⊥
 IsAtEmpty S nulls Start parent = ⊥
 IsAtEmpty S nulls (Root b) parent = ⊥
 IsAtEmpty S nulls (At x) parent = ⊥
+
+abbrev pub IsPutSpot : {Recon : Type 0} → Sheets → Descending Recon → Type 0
+IsPutSpot S d = IsAtLeaves S (in_nulls d) d.stand ⊎ IsAtEmpty S (in_nulls d) d.stand d.parent
+
+-- the pick of a page for the leaf of an insert
+abbrev pub leaf_want : {Recon : Type 0} → Descending Recon → ℕ → Want
+leaf_want d seat = want_of kinds.Leaf (in_nulls d) None (size_of (Live (carried d) 0) + 4) 1 None seat

@@ -4,4 +4,4 @@
 mod places;
 mod put;
 
-pub use put::{PutOut, put_in_place};
+pub use put::{PutOut, put_leaf};
