@@ -1,5 +1,5 @@
 -- What an open insert carries to where it stands.
-use Rattle.std.specs.Prelude.{◌≡◌, ℕ, ◌<◌, ◌≤◌, Bool, true, false, List, Option, Some, None, get_or, length}
+use Rattle.std.specs.Prelude.{◌≡◌, ℕ, ◌<◌, ◌≤◌, Bool, true, false, List, Option, Some, None, if◌then◌else◌, get_or, length}
 use Rattle.spg_opclass.specs.Meaning.{Meaning}
 use Rattle.spg_forest.specs.View.{Place, Leaf}
 use Rattle.spg_forest.specs.Spot.{Frame, Spot, Bucket}
@@ -36,8 +36,20 @@ WayFits m S (At x) p r key = FitAt (class_of m) (spots S) (Some key) x r
 WayFits m S Empty None r key = ⊥
 WayFits m S Empty (Some (x, i)) r key = FitsBelow m S x i r key
 
+-- the block of the root of each tree
+abbrev pub root_of : Bool → ℕ
+root_of nulls = if nulls then 2 else 1
+
+-- At the root, with the whole rest, the insert is of this key
+pub record IsOfKey {Key Recon Cond : Type 0} (m : Meaning Key Recon Cond) (d : Descending Recon) (key : Option Key) : Type 0 where
+  pub start : d.start ≡ start_of m (root_of (in_nulls d))
+  pub whole : IsRestOf m (in_nulls d) d.whole
+  pub gives : key_of m d.start d.whole ≡ Some key
+
 -- The insert carries this key: no leaf of the index has its row, the rest that it has left gives the key with the rebuilt value, and each node on its way admits the key
 pub record IsCarried {Key Recon Cond : Type 0} (m : Meaning Key Recon Cond) (S : Sheets) (d : Descending Recon) (key : Option Key) : Type 0 where
+  pub of : IsOfKey m d key
+  pub begins : d.stand ≡ Start → d.recon ≡ d.start
   pub fresh : IsFresh (spots S) d.row
   pub rest : IsRestOf m (in_nulls d) d.rest
   pub rebuilt : key_of m d.recon d.rest ≡ Some key
