@@ -2,8 +2,10 @@
 #![tactic(auto)]
 
 mod enter;
+mod leave;
 mod places;
 mod put;
 
 pub use enter::{Entered, enter_root, open_descent};
+pub use leave::release_latches;
 pub use put::{PutOut, put_leaf};
