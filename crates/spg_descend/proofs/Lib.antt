@@ -1,0 +1,4 @@
+pub mod Rooms
+pub mod PutLaws
+pub mod Picked
+pub mod EmptyLaw

@@ -1,0 +1,4 @@
+pub mod Carried
+pub mod Puts
+pub mod Enters
+pub mod Leaves
