@@ -85,7 +85,7 @@ at_empty S nulls Start parent x i a e = absurd a
 at_empty S nulls (Root b) parent x i a e = absurd a
 at_empty S nulls (At y) parent x i a e = absurd a
 
-inner_within : (ts : List Tuple) (o : ℕ) (w : Frame) (ns : List (Option Place)) → tuple_on ts o ≡ Inner w ns → IsOffset ts o
+pub inner_within : (ts : List Tuple) (o : ℕ) (w : Frame) (ns : List (Option Place)) → tuple_on ts o ≡ Inner w ns → IsOffset ts o
 inner_within ts zero w ns e = cc
 inner_within ts (suc j) w ns e = let h : j < length ts = go ts j e in (omega arith, omega arith)
   where
