@@ -1,4 +1,4 @@
-use Rattle.std.proofs.Common.{rules, ◌≡◌, ap, ◌∙◌, get_or, Option, None}
+use Rattle.std.proofs.Common.{rules, ◌≡◌, ap, ◌∙◌, get_or, None}
 use Rattle.spg_forest.specs.View.{Place}
 use Rattle.spg_forest.specs.Pages.{tuple_on}
 use Rattle.spg_forest.specs.Sheets.{Sheet, links}
