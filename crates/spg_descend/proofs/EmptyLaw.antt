@@ -1,17 +1,16 @@
-use Rattle.std.proofs.Common.{◌≡◌, ℕ, zero, suc, ◌+◌, ◌≤◌, ◌<◌, Bool, true, false, List, [], ◌∷◌, ◌⊎◌, ⊎_elim, Option, Some, None, get_or, set, length, refl, sym, ap, ap₂, ◌∙◌, subst, inl, inr, arith}
+use Rattle.std.proofs.Common.{◌≡◌, ℕ, zero, suc, ◌+◌, ◌≤◌, ◌<◌, Bool, true, false, List, [], ◌∷◌, Option, Some, None, get_or, set, length, refl, sym, ap, ap₂, ◌∙◌, subst, inl, arith}
 use Rattle.spg_opclass.specs.Meaning.{Meaning}
 use Rattle.spg_forest.specs.View.{Place, Leaf}
 use Rattle.spg_forest.specs.Spot.{Frame, Spot}
-use Rattle.spg_forest.specs.Tuples.{Tuple, Inner, Live, Placeholder}
+use Rattle.spg_forest.specs.Tuples.{Tuple, Inner, Live}
 use Rattle.spg_forest.specs.Pages.{place, tuple_on, with_tuple, IsFresh}
 use Rattle.spg_forest.specs.Classes.{class_of, key_of, down_of, admits_of}
 use Rattle.spg_forest.specs.Fit.{FitAt}
 use Rattle.spg_forest.specs.Sheets.{Sheet, Sheets, sheet_at, with_tuples, weight, size_of, free_place, linked}
 use Rattle.spg_forest.specs.Shape.{Shape, spots, IsKindOf, IsRestOf}
-use Rattle.spg_forest.specs.Section.{Adds, Cost}
-use Rattle.spg_forest.specs.Edits.{added, tuple_of, put, with_sheet, spot_of, CanPut, IsPicked as IsPickedIn}
+use Rattle.spg_forest.specs.Section.{Adds}
+use Rattle.spg_forest.specs.Edits.{added, tuple_of, put, spot_of, CanPut}
 use Rattle.spg_forest.specs.Puts.{spreads}
-use Rattle.spg_forest.specs.Tuples.{IsAmong}
 use Rattle.spg_forest.proofs.Puts.{puts_at_empty}
 use Rattle.spg_forest.proofs.Picks.{picked_spots, picked_shape, adds_after_pick}
 use Rattle.spg_forest.proofs.Edits.{sheet_other}
@@ -23,14 +22,14 @@ use Rattle.spg_tree.specs.Table as table
 use Rattle.spg_tree.specs.Descents.{Descending, in_nulls}
 use Rattle.spg_tree.specs.declared.stand.Stand.{Stand}
 use Rattle.spg_tree.specs.declared.stand.Stand.TheVariants.{Start, Root, At, Empty}
-use Rattle.spg_descend.specs.Carried.{carried, IsCarried, WayFits, FitsBelow}
+use Rattle.spg_descend.specs.Carried.{carried, WayFits, FitsBelow}
 use Rattle.spg_forest.specs.Sheets.{links}
 use Rattle.spg_page.specs.Reads.{leaf_in}
 use Rattle.spg_tree.specs.Pick.{Picks}
 use Rattle.spg_tree.specs.Picked.{IsPicked, want_of}
 use Rattle.spg_page.specs.declared.tuple.PageKind.TheVariants as kinds
 use Rattle.spg_descend.specs.declared.put.PutOut.TheVariants.{Put}
-use Rattle.spg_descend.specs.Puts.{IsAtEmpty, PutsCarried, cost_at, leaf_want, Fits, IsPutOut, IsQuiet}
+use Rattle.spg_descend.specs.Puts.{IsAtEmpty, PutsCarried, cost_at, leaf_want, Fits, IsPutOut}
 use Rattle.spg_descend.proofs.Rooms.{fits_added}
 use Rattle.spg_descend.proofs.Picked.{PicksLeaf, picks_leaf}
 
@@ -85,7 +84,7 @@ at_empty S nulls Start parent x i a e = absurd a
 at_empty S nulls (Root b) parent x i a e = absurd a
 at_empty S nulls (At y) parent x i a e = absurd a
 
-inner_within : (ts : List Tuple) (o : ℕ) (w : Frame) (ns : List (Option Place)) → tuple_on ts o ≡ Inner w ns → IsOffset ts o
+pub inner_within : (ts : List Tuple) (o : ℕ) (w : Frame) (ns : List (Option Place)) → tuple_on ts o ≡ Inner w ns → IsOffset ts o
 inner_within ts zero w ns e = cc
 inner_within ts (suc j) w ns e = let h : j < length ts = go ts j e in (omega arith, omega arith)
   where

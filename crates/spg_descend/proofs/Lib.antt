@@ -2,3 +2,4 @@ pub mod Rooms
 pub mod PutLaws
 pub mod Picked
 pub mod EmptyLaw
+pub mod FollowLaw

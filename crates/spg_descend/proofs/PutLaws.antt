@@ -1,14 +1,13 @@
-use Rattle.std.proofs.Common.{◌≡◌, ℕ, zero, suc, ◌+◌, ◌≤◌, ◌<◌, Bool, true, false, List, [], ◌∷◌, ◌++◌, ◌⊎◌, ⊎_elim, Option, Some, None, length, refl, sym, ap, ◌∙◌, subst, inl, inr, arith}
-use Rattle.std.proofs.lemmas.Bool.{cases_lt}
+use Rattle.std.proofs.Common.{◌≡◌, ℕ, suc, ◌+◌, ◌≤◌, ◌<◌, Bool, true, List, [], ◌∷◌, ◌++◌, ◌⊎◌, ⊎_elim, Option, Some, length, refl, sym, ap, ◌∙◌, subst, inl, inr, arith}
 use Rattle.spg_base.specs.Row.{RowAt}
 use Rattle.spg_opclass.specs.Meaning.{Meaning}
 use Rattle.spg_forest.specs.View.{Place, Leaf}
-use Rattle.spg_forest.specs.Spot.{Frame, Spot, Bucket}
-use Rattle.spg_forest.specs.Tuples.{Tuple, Inner, Live, Dead, Redirect, Placeholder, Shows, IsChain, IsHead}
-use Rattle.spg_forest.specs.Pages.{place, tuple_on, with_tuple, all_live, page_of}
-use Rattle.spg_forest.specs.Sheets.{Sheet, Sheets, sheet_at, with_tuples, weight, size_of, free_place, pages_of}
+use Rattle.spg_forest.specs.Spot.{Spot, Bucket}
+use Rattle.spg_forest.specs.Tuples.{Tuple, Inner, Live, Dead, Shows}
+use Rattle.spg_forest.specs.Pages.{tuple_on, with_tuple, all_live}
+use Rattle.spg_forest.specs.Sheets.{Sheets, sheet_at, weight, size_of, free_place}
 use Rattle.spg_forest.specs.Shape.{Shape, spots, IsKindOf, IsRestOf}
-use Rattle.spg_forest.specs.Section.{Adds, Cost}
+use Rattle.spg_forest.specs.Section.{Adds}
 use Rattle.spg_forest.specs.Edits.{added, tuple_of}
 use Rattle.spg_forest.proofs.Puts.{puts_behind, puts_at_dead, puts_at_root}
 use Rattle.spg_forest.proofs.Edits.{sheet_laid, page_is}
@@ -19,14 +18,14 @@ use Rattle.spg_page.proofs.SheetFacts.{free_place_free, free_place_length}
 use Rattle.spg_tree.specs.Table.{Table, sheets_of, tuples_at, tuple_at, with_tuples_at, with_touched}
 use Rattle.spg_tree.specs.Descents.{Descending, in_nulls}
 use Rattle.spg_tree.specs.declared.stand.Stand.{Stand}
-use Rattle.spg_tree.specs.declared.stand.Stand.TheVariants.{Start, Root, At, Empty}
+use Rattle.spg_tree.specs.declared.stand.Stand.TheVariants.{Root, At}
 use Rattle.spg_chain.proofs.Laid.{live_tuple, live_offset_within}
-use Rattle.spg_descend.specs.Carried.{carried, IsCarried, WayFits}
+use Rattle.spg_descend.specs.Carried.{carried, WayFits}
 use Rattle.spg_page.specs.Reads.{leaf_in}
 use Rattle.spg_forest.specs.Puts.{spreads}
 use Rattle.spg_forest.specs.Classes.{key_of}
 use Rattle.spg_chain.proofs.Taking.{dead_within}
-use Rattle.spg_descend.specs.declared.put.PutOut.TheVariants.{Put, NoRoom}
+use Rattle.spg_descend.specs.declared.put.PutOut.TheVariants.{Put}
 use Rattle.spg_descend.specs.Puts.{IsAtLeaves, PutsCarried, cost_at, Fits, FitsBy, IsQuiet, IsPutOut}
 use Rattle.spg_descend.proofs.Rooms.{fits_added, fits_replaced, fits_behind, root_more}
 

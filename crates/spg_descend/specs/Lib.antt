@@ -2,3 +2,4 @@ pub mod Carried
 pub mod Puts
 pub mod Enters
 pub mod Leaves
+pub mod Follows

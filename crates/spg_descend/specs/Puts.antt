@@ -1,10 +1,9 @@
 -- Where a leaf is put, and what that does.
-use Rattle.std.specs.Prelude.{◌≡◌, ℕ, suc, ◌+◌, ◌<◌, ◌≤◌, ◌⊎◌, Bool, true, false, List, [], ◌∷◌, Option, Some, None, get_or, length}
+use Rattle.std.specs.Prelude.{◌≡◌, ℕ, ◌+◌, ◌<◌, ◌≤◌, ◌⊎◌, Bool, false, List, Option, Some, None, get_or, length}
 use Rattle.spg_opclass.specs.Meaning.{Meaning}
 use Rattle.spg_forest.specs.View.{Place, Leaf}
-use Rattle.spg_forest.specs.Spot.{Frame, Spot, Bucket}
+use Rattle.spg_forest.specs.Spot.{Frame, Bucket}
 use Rattle.spg_forest.specs.Tuples.{Tuple, Inner, Live, Dead, Redirect, Placeholder}
-use Rattle.spg_forest.specs.Pages.{place}
 use Rattle.spg_forest.specs.Sheets.{Sheets, sheet_at, size_of}
 use Rattle.spg_forest.specs.Shape.{spots}
 use Rattle.spg_forest.specs.Edits.{tuple_of}

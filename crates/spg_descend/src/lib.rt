@@ -1,11 +1,13 @@
 //! The sections of an open insert on its way down, and the put of its leaf where there is room.
 #![tactic(auto)]
 
+mod below;
 mod enter;
 mod leave;
 mod places;
 mod put;
 
+pub use below::follow;
 pub use enter::{Entered, enter_root, open_descent};
 pub use leave::release_latches;
 pub use put::{PutOut, put_leaf};

@@ -1,13 +1,8 @@
-use Rattle.std.proofs.Common.{◌≡◌, ◌+◌, None, subst, sym}
-use Rattle.spg_page.specs.declared.tuple.PageKind.TheVariants as kinds
-use Rattle.spg_forest.specs.Sheets.{size_of}
-use Rattle.spg_forest.specs.Tuples.{Live}
+use Rattle.std.proofs.Common.{subst}
 use Rattle.spg_tree.specs.declared.want.Want.{Want}
 use Rattle.spg_tree.specs.Pick.{Picks}
-use Rattle.spg_tree.specs.Picked.{IsPicked, want_of}
-use Rattle.spg_descend.specs.Carried.{carried}
-use Rattle.spg_descend.specs.Puts.{leaf_want}
-use Rattle.spg_descend.proofs.EmptyLaw.{IsReady, picked_ready, below_out, want_is}
+use Rattle.spg_tree.specs.Picked.{IsPicked}
+use Rattle.spg_descend.proofs.EmptyLaw.{picked_ready, below_out, want_is}
 use Rattle.spg_descend.proofs.put.put_at_empty.Goals as goal
 
 pub put_under-requires-clause-apart : goal.put_under-requires-clause-apart

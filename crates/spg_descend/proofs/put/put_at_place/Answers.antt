@@ -1,4 +1,4 @@
-use Rattle.std.proofs.Common.{rules, ◌≡◌, ◌+◌, ◌≤◌, ap, sym, ◌∙◌, arith}
+use Rattle.std.proofs.Common.{rules, ◌+◌, ◌≤◌}
 use Rattle.spg_forest.specs.Sheets.{size_of}
 use Rattle.spg_page.specs.Changes.{room_of, free_of}
 use Rattle.spg_page.specs.Kinds.{IsLive}

@@ -1,6 +1,6 @@
-use Rattle.std.proofs.Common.{rules, ◌≡◌, ◌+◌, ◌≤◌, ap, sym, ◌∙◌, arith}
+use Rattle.std.proofs.Common.{rules, ◌+◌, ◌≤◌}
 use Rattle.spg_forest.specs.Sheets.{size_of}
-use Rattle.spg_page.specs.Changes.{room_of, free_of}
+use Rattle.spg_page.specs.Changes.{room_of}
 use Rattle.spg_tree.specs.Table.{tuples_at}
 use Rattle.spg_descend.proofs.PutLaws.{root_out}
 use Rattle.spg_descend.proofs.put.put_at_root.Goals as goal
