@@ -1,5 +1,8 @@
-//! Runs of the whole program for each class of points, as tables of commands and texts.
+//! Tests that cross crates: runs of the whole program for each class of points, and calls of the
+//! lower crates that the program does not make.
 #![tactic(auto)]
 
+#[cfg(test)]
+mod calls;
 #[cfg(test)]
 mod tests;
