@@ -3,3 +3,4 @@ pub mod Puts
 pub mod Enters
 pub mod Leaves
 pub mod Follows
+pub mod Starts

@@ -3,11 +3,13 @@
 
 mod below;
 mod enter;
+mod laws;
 mod leave;
 mod places;
 mod put;
 
 pub use below::follow;
 pub use enter::{Entered, enter_root, open_descent};
+pub use laws::start;
 pub use leave::release_latches;
 pub use put::{PutOut, put_leaf};
