@@ -4,3 +4,4 @@ pub mod Enters
 pub mod Leaves
 pub mod Follows
 pub mod Starts
+pub mod Rules
