@@ -3,3 +3,4 @@ pub mod PutLaws
 pub mod Picked
 pub mod EmptyLaw
 pub mod FollowLaw
+pub mod Starts

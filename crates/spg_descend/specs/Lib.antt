@@ -3,3 +3,5 @@ pub mod Puts
 pub mod Enters
 pub mod Leaves
 pub mod Follows
+pub mod Starts
+pub mod Rules
