@@ -30,6 +30,7 @@ use Rattle.spg_tree.specs.Picked.{IsPicked, want_of}
 use Rattle.spg_page.specs.declared.tuple.PageKind.TheVariants as kinds
 use Rattle.spg_descend.specs.declared.put.PutOut.TheVariants.{Put}
 use Rattle.spg_descend.specs.Puts.{IsAtEmpty, PutsCarried, cost_at, leaf_want, Fits, IsPutOut}
+use Rattle.spg_descend.proofs.PutLaws.{kind_kept}
 use Rattle.spg_descend.proofs.Rooms.{fits_added}
 use Rattle.spg_descend.proofs.Picked.{PicksLeaf, picks_leaf}
 
@@ -131,8 +132,15 @@ below_out m t t1 t2 d b x i seat u H pa A q Q P e =
     subst (λ (z : Table). IsPutOut m t z d Put) (sym e2) (
       subst (λ (z : Stand). Fits t z (Live (carried d) 0)) (sym st) tt,
       below_law m t t1 d b x i w ns H K P.tuples P.from P.there P.kind P.tree st pa pos hx tree (λ k. R.apart (sym k)) (inner_within (tuples_at t x.block) x.offset w ns f) f hi en P.room,
-      record { latches = P.latches; clock = P.clock; counter = P.counter; limit = P.limit },
+      record { latches = P.latches; clock = P.clock; counter = P.counter; limit = P.limit; roots = λ c h. roots K c h },
     )
+  where
+    roots : PicksLeaf t b t1 → (c : ℕ) → c < 3 → (sheet_at (sheets_of (put_below t1 b x i (carried d))) c).inner ≡ (sheet_at (sheets_of t) c).inner
+    roots K c h =
+        let n : c ≡ b → ⊥ = λ e. let k = P.from in absurd (omega arith) in
+        let ta : Table = with_tuples_at t1 b (added (tuples_at t1 b) 0 (free_place (tuples_at t1 b) + 1) (carried d)) in
+        kind_kept ta x.block (with_tuple (tuples_at ta x.block) x.offset (linked (tuple_at ta x) i (Some (place b (free_place (tuples_at t1 b) + 1))))) c
+        ∙ kind_kept t1 b (added (tuples_at t1 b) 0 (free_place (tuples_at t1 b) + 1) (carried d)) c ∙ ap (λ (s : Sheet). s.inner) (K.others c n)
 
 pub want_is : {Recon : Type 0} (d : Descending Recon) (seat size : ℕ) (nulls : Bool) (u : Tuple) → nulls ≡ in_nulls d → size ≡ size_of u → u ≡ Live (carried d) 0 → want_of kinds.Leaf nulls None (size + 4) 1 None seat ≡ leaf_want d seat
 want_is d seat size nulls u a b c = ap₂ (λ (i : Bool) (k : ℕ). want_of kinds.Leaf i None (k + 4) 1 None seat) a (b ∙ ap size_of c)

@@ -1,16 +1,18 @@
-use Rattle.std.proofs.Common.{◌≡◌, ℕ, suc, ◌+◌, ◌≤◌, ◌<◌, Bool, true, List, [], ◌∷◌, ◌++◌, ◌⊎◌, ⊎_elim, Option, Some, length, refl, sym, ap, ◌∙◌, subst, inl, inr, arith}
+use Rattle.std.proofs.Common.{◌≡◌, ℕ, suc, ◌+◌, ◌≤◌, ◌<◌, Bool, true, false, set, length-set, List, [], ◌∷◌, ◌++◌, ◌⊎◌, ⊎_elim, Option, Some, length, refl, sym, ap, ◌∙◌, subst, inl, inr, arith}
 use Rattle.spg_base.specs.Row.{RowAt}
 use Rattle.spg_opclass.specs.Meaning.{Meaning}
 use Rattle.spg_forest.specs.View.{Place, Leaf}
 use Rattle.spg_forest.specs.Spot.{Spot, Bucket}
 use Rattle.spg_forest.specs.Tuples.{Tuple, Inner, Live, Dead, Shows}
 use Rattle.spg_forest.specs.Pages.{tuple_on, with_tuple, all_live}
-use Rattle.spg_forest.specs.Sheets.{Sheets, sheet_at, weight, size_of, free_place}
+use Rattle.std.proofs.lemmas.Bool.{cases_eq, cases_lt}
+use Rattle.std.proofs.lemmas.List.{get_or_past}
+use Rattle.spg_forest.specs.Sheets.{Sheet, Sheets, sheet_at, weight, size_of, free_place, blank, with_tuples}
 use Rattle.spg_forest.specs.Shape.{Shape, spots, IsKindOf, IsRestOf}
 use Rattle.spg_forest.specs.Section.{Adds}
 use Rattle.spg_forest.specs.Edits.{added, tuple_of}
 use Rattle.spg_forest.proofs.Puts.{puts_behind, puts_at_dead, puts_at_root}
-use Rattle.spg_forest.proofs.Edits.{sheet_laid, page_is}
+use Rattle.spg_forest.proofs.Edits.{sheet_laid, page_is, sheet_same, sheet_other}
 use Rattle.spg_forest.proofs.Sections.{shape_shown}
 use Rattle.spg_page.specs.Changes.{room_of, free_of}
 use Rattle.spg_page.specs.Kinds.{IsOffset, IsLive}
@@ -123,8 +125,21 @@ root_law {Key} {Recon} {Cond} m t d b H s A room key C =
     (puts_at_root m S b ls (carried d) key H pos low a (subst (λ (vs : List Tuple). weight vs ≤ 8160) u fit) rest C.fresh kc))
     ((shape_shown m S H).root b pos low))
 
+abbrev retold : Table → ℕ → List Tuple → Sheet
+retold t b us = with_tuples (sheet_at (sheets_of t) b) us
+
+-- other tuples on a page leave the kinds of all pages as they were
+pub kind_kept : (t : Table) (b : ℕ) (us : List Tuple) (c : ℕ) → (sheet_at (sheets_of (with_tuples_at t b us)) c).inner ≡ (sheet_at (sheets_of t) c).inner
+kind_kept t b us c = ⊎_elim (λ e. subst (λ (i : ℕ). (sheet_at (sheets_of (with_tuples_at t b us)) i).inner ≡ (sheet_at (sheets_of t) i).inner) (sym e) here) (λ n. ap (λ (s : Sheet). s.inner) (sheet_other (sheets_of t) b (retold t b us) c n)) (cases_eq c b)
+  where
+    here : (sheet_at (sheets_of (with_tuples_at t b us)) b).inner ≡ (sheet_at (sheets_of t) b).inner
+    here = ⊎_elim (λ h. ap (λ (s : Sheet). s.inner) (sheet_same (sheets_of t) b (retold t b us) h))
+        (λ h. let e : length (set t.pages b (retold t b us)) ≡ length t.pages = length-set t.pages b (retold t b us) in
+        let h2 : length (set t.pages b (retold t b us)) ≤ b = omega arith in
+        ap (λ (s : Sheet). s.inner) (get_or_past (set t.pages b (retold t b us)) b (blank false) h2 ∙ sym (get_or_past t.pages b (blank false) h))) (cases_lt b (length t.pages))
+
 quiet : (t : Table) (b : ℕ) (us : List Tuple) (bs : List ℕ) → IsQuiet t (with_touched (with_tuples_at t b us) bs)
-quiet t b us bs = record { latches = λ c. refl; clock = refl; counter = refl; limit = refl }
+quiet t b us bs = record { latches = λ c. refl; clock = refl; counter = refl; limit = refl; roots = λ c h. kind_kept t b us c }
 
 -- the three as what comes of a put
 pub behind_out : {Key Recon Cond : Type 0} (m : Meaning Key Recon Cond) (t t2 : Table) (d : Descending Recon) (x : Place) (u : Tuple) → Shape m (sheets_of t) → d.stand ≡ At x → IsAtLeaves (sheets_of t) (in_nulls d) d.stand →

@@ -49,12 +49,13 @@ cost_at (Root b) = record { pages = 0; ticks = 0; spread = 1 }
 cost_at (At x) = record { pages = 0; ticks = 0; spread = 1 }
 cost_at Empty = record { pages = 1; ticks = 0; spread = 0 }
 
--- latches, clock, counter and limit are as they were
+-- latches, clock, counter and limit are as they were, and a root page keeps its kind
 pub record IsQuiet (t t2 : Table) : Type 0 where
   pub latches : (b : ℕ) → latch_at t2 b ≡ latch_at t b
   pub clock : t2.clock ≡ t.clock
   pub counter : t2.counter ≡ t.counter
   pub limit : t2.limit ≡ t.limit
+  pub roots : (b : ℕ) → b < 3 → (sheet_at (sheets_of t2) b).inner ≡ (sheet_at (sheets_of t) b).inner
 
 -- the row is put with the key that the insert carries
 abbrev pub PutsCarried : {Key Recon Cond : Type 0} → Meaning Key Recon Cond → Table → Table → Descending Recon → Type 0

@@ -137,6 +137,8 @@ PlainLaw {Key} {Recon} m = m.labels ≡ false → (recon : Recon) (tuple : Inner
 -- keys, rests and rebuilt values, and sizes
 pub record CodeLaw {Key Recon Cond : Type 0} (m : Meaning Key Recon Cond) : Type 0 where
   pub start_gives : (key : Key) → m.is_key key ≡ true → m.rebuild m.start (m.rest_of key) ≡ Some key
+  -- a rest that gives the key at the root is as long as the one that the key has
+  pub start_length : (rest : List ℕ) (key : Key) → m.rebuild m.start rest ≡ Some key → length rest ≡ length (m.rest_of key)
   pub start_recon : m.is_recon m.start ≡ true
   pub down_recon : (recon : Recon) (tuple : InnerView) (node : ℕ) → m.is_recon recon ≡ true → is_tuple m tuple ≡ true → node < length tuple.labels → m.is_recon (m.down recon tuple node) ≡ true
   pub start_rest : (key : Key) → m.is_key key ≡ true → m.is_rest (m.rest_of key) ≡ true

@@ -209,6 +209,7 @@ inner_size_ok kind fine tuple b s t =
 pub codes_of : {Recon : Type 0} (kind : PointClass Recon) → IsPointClass kind → CodeLaw (meaning_of kind)
 codes_of kind fine = record {
   start_gives = λ key h. rebuilt_from (bytes_of_point key) (point_length key) ∙ ap Some (point_of-bytes_of_point key h);
+  start_length = λ rest key h. let a = eqb-true (length rest) 8 (rebuilt_some rest key h).0 in let b = eqb-true (length (bytes_of_point key)) 8 (point_length key) in a ∙ sym b;
   start_recon = refl;
   down_recon = λ recon tuple node h t l. refl;
   start_rest = λ key h. point_length key;
