@@ -1,0 +1,4 @@
+pub mod Held
+pub mod Scanning
+pub mod Covers
+pub mod Rest

