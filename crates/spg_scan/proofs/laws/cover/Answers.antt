@@ -1,0 +1,2 @@
+use Rattle.spg_scan.proofs.CoverReplaced.{replaced_holds}
+use Rattle.spg_scan.proofs.laws.cover.Goals as goal
