@@ -1,2 +1,4 @@
 pub mod CoverLists
 pub mod CoverReplaced
+pub mod CoverWays
+pub mod CoverNodes
