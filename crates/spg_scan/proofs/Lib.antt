@@ -2,3 +2,4 @@ pub mod CoverLists
 pub mod CoverReplaced
 pub mod CoverWays
 pub mod CoverNodes
+pub mod CoverKeys
