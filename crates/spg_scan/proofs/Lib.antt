@@ -3,3 +3,5 @@ pub mod CoverReplaced
 pub mod CoverWays
 pub mod CoverNodes
 pub mod CoverKeys
+pub mod CoverTaken
+pub mod CoverGives
