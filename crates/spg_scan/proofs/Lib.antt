@@ -5,3 +5,4 @@ pub mod CoverNodes
 pub mod CoverKeys
 pub mod CoverTaken
 pub mod CoverGives
+pub mod CoverLaws
