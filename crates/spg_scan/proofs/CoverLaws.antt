@@ -63,7 +63,7 @@ keeps_apart m S table s s2 i needed H R D d =
     (λ row h k. D.fresh i R.place t R.recon row R.item target (has_contains s.rows row h)
     (found_below m S table s.query R.place t R.recon s.stamp H target recon R.items R.found R.met (spots S R.place) refl R.spot row (has_contains R.found row k))))
 
-module _ {Key Recon Cond : Type 0} (m : Meaning Key Recon Cond) (S : Sheets) (stamp : ℕ) (H : Shape m S) where
+module _ {Key Recon Cond : Type 0} (m : Meaning Key Recon Cond) (S : Sheets) (H : Shape m S) where
   abbrev V : Place → Spot
   V = spots S
 
@@ -83,10 +83,10 @@ module _ {Key Recon Cond : Type 0} (m : Meaning Key Recon Cond) (S : Sheets) (st
   root_stands b (inl (w, ns, e, f)) = subst IsStanding (sym f) tt
   root_stands b (inr (ls, e, f)) = subst IsStanding (sym f) tt
 
-  main_stands : IsStanding (V one)
+  pub main_stands : IsStanding (V one)
   main_stands = root_stands 1 ((shape_shown m S H).root 1 (omega arith) (omega arith))
 
-  nulls_stand : IsStanding (V two)
+  pub nulls_stand : IsStanding (V two)
   nulls_stand = root_stands 2 ((shape_shown m S H).root 2 (omega arith) (omega arith))
 
   -- a root is not below another place
@@ -126,65 +126,66 @@ module _ {Key Recon Cond : Type 0} (m : Meaning Key Recon Cond) (S : Sheets) (st
       null_key : r ≡ None → key ≡ None
       null_key n = let e : Some None ≡ Some key = ap (λ (p : Option Recon). key_of m p l.rest) (sym n) ∙ d in let f : None ≡ key = cc in sym f
 
-  sheltered_main : (x : Place) (r : Option Recon) → ◌≡◌ {A = Option (Place × Option Recon)} (Some (one, Some m.start)) (Some (x, r)) → (t : Place) × Target W t x stamp × ReconAt W (start_of m) t r
-  sheltered_main x r e = let (a, b) = some_pair_parts one x (Some m.start) r e in (one, subst (λ (z : Place). Target W one z stamp) a (Target.stands main_stands), subst (λ (p : Option Recon). HasRecon m V one p) b main_recon)
+  module _ (stamp : ℕ) where
+    sheltered_main : (x : Place) (r : Option Recon) → ◌≡◌ {A = Option (Place × Option Recon)} (Some (one, Some m.start)) (Some (x, r)) → (t : Place) × Target W t x stamp × ReconAt W (start_of m) t r
+    sheltered_main x r e = let (a, b) = some_pair_parts one x (Some m.start) r e in (one, subst (λ (z : Place). Target W one z stamp) a (Target.stands main_stands), subst (λ (p : Option Recon). HasRecon m V one p) b main_recon)
 
-  sheltered_nulls : (x : Place) (r : Option Recon) → ◌≡◌ {A = Option (Place × Option Recon)} (Some (two, None)) (Some (x, r)) → (t : Place) × Target W t x stamp × ReconAt W (start_of m) t r
-  sheltered_nulls x r e = let (a, b) = some_pair_parts two x None r e in (two, subst (λ (z : Place). Target W two z stamp) a (Target.stands nulls_stand), subst (λ (p : Option Recon). HasRecon m V two p) b nulls_recon)
+    sheltered_nulls : (x : Place) (r : Option Recon) → ◌≡◌ {A = Option (Place × Option Recon)} (Some (two, None)) (Some (x, r)) → (t : Place) × Target W t x stamp × ReconAt W (start_of m) t r
+    sheltered_nulls x r e = let (a, b) = some_pair_parts two x None r e in (two, subst (λ (z : Place). Target W two z stamp) a (Target.stands nulls_stand), subst (λ (p : Option Recon). HasRecon m V two p) b nulls_recon)
 
-  main_target : (x t : Place) (r : Option Recon) → ◌≡◌ {A = Option (Place × Option Recon)} (Some (one, Some m.start)) (Some (x, r)) → Target W t x stamp → one ≡ t
-  main_target x t r e a = target_once (class_of m) V one t x stamp (subst (λ (z : Place). Target W one z stamp) (some_pair_parts one x (Some m.start) r e).0 (Target.stands main_stands)) a
+    main_target : (x t : Place) (r : Option Recon) → ◌≡◌ {A = Option (Place × Option Recon)} (Some (one, Some m.start)) (Some (x, r)) → Target W t x stamp → one ≡ t
+    main_target x t r e a = target_once (class_of m) V one t x stamp (subst (λ (z : Place). Target W one z stamp) (some_pair_parts one x (Some m.start) r e).0 (Target.stands main_stands)) a
 
-  nulls_target : (x t : Place) (r : Option Recon) → ◌≡◌ {A = Option (Place × Option Recon)} (Some (two, None)) (Some (x, r)) → Target W t x stamp → two ≡ t
-  nulls_target x t r e a = target_once (class_of m) V two t x stamp (subst (λ (z : Place). Target W two z stamp) (some_pair_parts two x None r e).0 (Target.stands nulls_stand)) a
+    nulls_target : (x t : Place) (r : Option Recon) → ◌≡◌ {A = Option (Place × Option Recon)} (Some (two, None)) (Some (x, r)) → Target W t x stamp → two ≡ t
+    nulls_target x t r e a = target_once (class_of m) V two t x stamp (subst (λ (z : Place). Target W two z stamp) (some_pair_parts two x None r e).0 (Target.stands nulls_stand)) a
 
-  module _ (needed : RowAt → Type 0) where
-    abbrev Holds : List (Place × Option Recon) → Type 0
-    Holds xs = ScanHolds W (start_of m) stamp (IsPlaceIn xs) (Contains {X = RowAt} []) needed
+    module _ (needed : RowAt → Type 0) where
+      abbrev Holds : List (Place × Option Recon) → Type 0
+      Holds xs = ScanHolds W (start_of m) stamp (IsPlaceIn xs) (Contains {X = RowAt} []) needed
 
-    holds_one : (y : Place) (s : Option Recon) → ((x : Place) (r : Option Recon) → ◌≡◌ {A = Option (Place × Option Recon)} (Some (y, s)) (Some (x, r)) → (t : Place) × Target W t x stamp × ReconAt W (start_of m) t r) → Target W y y stamp → ((row : RowAt) → needed row → Under W y row) → Holds ((y, s) ∷ [])
-    holds_one y s shelter target all = record {
-      sheltered = sheltered;
-      apart = apart;
-      fresh = λ i x t q row h a n u. contains_none row n;
-      all = λ row n. inr (0, y, s, refl, (y, target, all row n));
-    }
-      where
-        sheltered : (i : ℕ) (x : Place) (r : Option Recon) → IsPlaceIn ((y, s) ∷ []) i x r → (t : Place) × Target W t x stamp × ReconAt W (start_of m) t r
-        sheltered zero x r e = shelter x r e
-        sheltered (suc i) x r e = cc
+      holds_one : (y : Place) (s : Option Recon) → ((x : Place) (r : Option Recon) → ◌≡◌ {A = Option (Place × Option Recon)} (Some (y, s)) (Some (x, r)) → (t : Place) × Target W t x stamp × ReconAt W (start_of m) t r) → Target W y y stamp → ((row : RowAt) → needed row → Under W y row) → Holds ((y, s) ∷ [])
+      holds_one y s shelter target all = record {
+        sheltered = sheltered;
+        apart = apart;
+        fresh = λ i x t q row h a n u. contains_none row n;
+        all = λ row n. inr (0, y, s, refl, (y, target, all row n));
+      }
+        where
+          sheltered : (i : ℕ) (x : Place) (r : Option Recon) → IsPlaceIn ((y, s) ∷ []) i x r → (t : Place) × Target W t x stamp × ReconAt W (start_of m) t r
+          sheltered zero x r e = shelter x r e
+          sheltered (suc i) x r e = cc
 
-        apart : (i j : ℕ) (x z t u : Place) (q r : Option Recon) → IsPlaceIn ((y, s) ∷ []) i x q → IsPlaceIn ((y, s) ∷ []) j z r → (i ≡ j → ⊥) → Target W t x stamp → Target W u z stamp → AreApart W t u
-        apart zero zero x z t u q r e f n a b = absurd (n refl)
-        apart zero (suc j) x z t u q r e f n a b = cc
-        apart (suc i) j x z t u q r e f n a b = cc
+          apart : (i j : ℕ) (x z t u : Place) (q r : Option Recon) → IsPlaceIn ((y, s) ∷ []) i x q → IsPlaceIn ((y, s) ∷ []) j z r → (i ≡ j → ⊥) → Target W t x stamp → Target W u z stamp → AreApart W t u
+          apart zero zero x z t u q r e f n a b = absurd (n refl)
+          apart zero (suc j) x z t u q r e f n a b = cc
+          apart (suc i) j x z t u q r e f n a b = cc
 
-    holds_both : ((row : RowAt) → needed row → Under W one row ⊎ Under W two row) → Holds ((one, Some m.start) ∷ (two, None) ∷ [])
-    holds_both all = record {
-      sheltered = sheltered;
-      apart = apart;
-      fresh = λ i x t q row h a n u. contains_none row n;
-      all = λ row n. inr (⊎_elim (λ u. (0, one, Some m.start, refl, (one, Target.stands main_stands, u))) (λ u. (1, two, None, refl, (two, Target.stands nulls_stand, u))) (all row n));
-    }
-      where
-        sheltered : (i : ℕ) (x : Place) (r : Option Recon) → IsPlaceIn ((one, Some m.start) ∷ (two, None) ∷ []) i x r → (t : Place) × Target W t x stamp × ReconAt W (start_of m) t r
-        sheltered zero x r e = sheltered_main x r e
-        sheltered (suc zero) x r e = sheltered_nulls x r e
-        sheltered (suc (suc i)) x r e = cc
+      holds_both : ((row : RowAt) → needed row → Under W one row ⊎ Under W two row) → Holds ((one, Some m.start) ∷ (two, None) ∷ [])
+      holds_both all = record {
+        sheltered = sheltered;
+        apart = apart;
+        fresh = λ i x t q row h a n u. contains_none row n;
+        all = λ row n. inr (⊎_elim (λ u. (0, one, Some m.start, refl, (one, Target.stands main_stands, u))) (λ u. (1, two, None, refl, (two, Target.stands nulls_stand, u))) (all row n));
+      }
+        where
+          sheltered : (i : ℕ) (x : Place) (r : Option Recon) → IsPlaceIn ((one, Some m.start) ∷ (two, None) ∷ []) i x r → (t : Place) × Target W t x stamp × ReconAt W (start_of m) t r
+          sheltered zero x r e = sheltered_main x r e
+          sheltered (suc zero) x r e = sheltered_nulls x r e
+          sheltered (suc (suc i)) x r e = cc
 
-        apart : (i j : ℕ) (x z t u : Place) (q r : Option Recon) → IsPlaceIn ((one, Some m.start) ∷ (two, None) ∷ []) i x q → IsPlaceIn ((one, Some m.start) ∷ (two, None) ∷ []) j z r → (i ≡ j → ⊥) → Target W t x stamp → Target W u z stamp → AreApart W t u
-        apart zero zero x z t u q r e f n a b = absurd (n refl)
-        apart zero (suc zero) x z t u q r e f n a b = subst (λ (p : Place). AreApart W p u) (main_target x t q e a) (subst (λ (p : Place). AreApart W one p) (nulls_target z u r f b) roots_apart)
-        apart zero (suc (suc j)) x z t u q r e f n a b = cc
-        apart (suc zero) zero x z t u q r e f n a b = subst (λ (p : Place). AreApart W p u) (nulls_target x t q e a) (subst (λ (p : Place). AreApart W two p) (main_target z u r f b) (λ v c d. roots_apart v d c))
-        apart (suc zero) (suc zero) x z t u q r e f n a b = absurd (n refl)
-        apart (suc zero) (suc (suc j)) x z t u q r e f n a b = cc
-        apart (suc (suc i)) j x z t u q r e f n a b = cc
+          apart : (i j : ℕ) (x z t u : Place) (q r : Option Recon) → IsPlaceIn ((one, Some m.start) ∷ (two, None) ∷ []) i x q → IsPlaceIn ((one, Some m.start) ∷ (two, None) ∷ []) j z r → (i ≡ j → ⊥) → Target W t x stamp → Target W u z stamp → AreApart W t u
+          apart zero zero x z t u q r e f n a b = absurd (n refl)
+          apart zero (suc zero) x z t u q r e f n a b = subst (λ (p : Place). AreApart W p u) (main_target x t q e a) (subst (λ (p : Place). AreApart W one p) (nulls_target z u r f b) roots_apart)
+          apart zero (suc (suc j)) x z t u q r e f n a b = cc
+          apart (suc zero) zero x z t u q r e f n a b = subst (λ (p : Place). AreApart W p u) (nulls_target x t q e a) (subst (λ (p : Place). AreApart W two p) (main_target z u r f b) (λ v c d. roots_apart v d c))
+          apart (suc zero) (suc zero) x z t u q r e f n a b = absurd (n refl)
+          apart (suc zero) (suc (suc j)) x z t u q r e f n a b = cc
+          apart (suc (suc i)) j x z t u q r e f n a b = cc
 
-  opens : {O : Type 0} (query : Query O Key Recon Cond) (needed : RowAt → Bool) → ((row : RowAt) → needed row ≡ true → HasAsked m S query row) → ScanHolds W (start_of m) stamp (IsPlaceIn (roots_of m query)) (Contains {X = RowAt} []) (λ row. needed row ≡ true)
-  opens {O} All needed h = holds_both (λ row. needed row ≡ true) (λ row n. let (key, e, q) = h row n in ⊎_elim (λ a. inl a.0) (λ a. inr a.0) (below_root row key e))
-  opens {O} Null needed h = holds_one (λ row. needed row ≡ true) two None sheltered_nulls (Target.stands nulls_stand) (λ row n. let (key, e, q) = h row n in ⊎_elim (λ (a, (k, b)). let f = ap (query_matches {O = O} m Null) (sym b) ∙ q in cc) (λ a. a.0) (below_root row key e))
-  opens {O} (Where conds) needed h = holds_one (λ row. needed row ≡ true) one (Some m.start) sheltered_main (Target.stands main_stands) (λ row n. let (key, e, q) = h row n in ⊎_elim (λ a. a.0) (λ (a, b). let f = ap (query_matches {O = O} m (Where conds)) (sym b) ∙ q in cc) (below_root row key e))
+    opens : {O : Type 0} (query : Query O Key Recon Cond) (needed : RowAt → Bool) → ((row : RowAt) → needed row ≡ true → HasAsked m S query row) → ScanHolds W (start_of m) stamp (IsPlaceIn (roots_of m query)) (Contains {X = RowAt} []) (λ row. needed row ≡ true)
+    opens {O} All needed h = holds_both (λ row. needed row ≡ true) (λ row n. let (key, e, q) = h row n in ⊎_elim (λ a. inl a.0) (λ a. inr a.0) (below_root row key e))
+    opens {O} Null needed h = holds_one (λ row. needed row ≡ true) two None sheltered_nulls (Target.stands nulls_stand) (λ row n. let (key, e, q) = h row n in ⊎_elim (λ (a, (k, b)). let f = ap (query_matches {O = O} m Null) (sym b) ∙ q in cc) (λ a. a.0) (below_root row key e))
+    opens {O} (Where conds) needed h = holds_one (λ row. needed row ≡ true) one (Some m.start) sheltered_main (Target.stands main_stands) (λ row n. let (key, e, q) = h row n in ⊎_elim (λ a. a.0) (λ (a, b). let f = ap (query_matches {O = O} m (Where conds)) (sym b) ∙ q in cc) (below_root row key e))
 
 pub opens_cover : {O Key Recon Cond : Type 0} (m : Meaning Key Recon Cond) → OpensCover O Key Recon Cond m
-opens_cover m S query at stamp needed H h = opens m S stamp H query needed h
+opens_cover m S query at stamp needed H h = opens m S H stamp query needed h

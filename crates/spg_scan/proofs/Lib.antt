@@ -6,3 +6,5 @@ pub mod CoverKeys
 pub mod CoverTaken
 pub mod CoverGives
 pub mod CoverLaws
+pub mod RestMet
+pub mod RestLaws
