@@ -1,20 +1,19 @@
 -- What a read gives, by what stands at the item's place.
-use Rattle.std.proofs.Common.{◌≡◌, ℕ, zero, suc, ◌≤◌, Bool, true, List, [], ◌∷◌, ◌++◌, ◌⊎◌, ⊎_elim, Option, Some, None, get_or, length, refl, sym, ap, ◌∙◌, subst, inl, inr, arith}
+use Rattle.std.proofs.Common.{◌≡◌, ℕ, zero, suc, List, [], ◌∷◌, ◌++◌, ⊎_elim, Option, Some, None, get_or, length, refl, sym, ap, ◌∙◌, subst, inl, inr, arith}
 use Rattle.std.proofs.lemmas.List.Elements.{Contains-append_left, Contains-append_right, Contains-append_cases}
 use Rattle.std.proofs.lemmas.Option.{some_pair_parts}
 use Rattle.std.specs.Prelude.{Contains}
 use Rattle.spg_base.specs.Row.{RowAt}
 use Rattle.spg_opclass.specs.Meaning.{Meaning}
 use Rattle.spg_opclass.specs.Laws.{KeptLaw, CodeLaw}
-use Rattle.spg_opclass.specs.Queries.{query_matches}
 use Rattle.spg_opclass.specs.declared.query.Query.{Query}
 use Rattle.spg_opclass.specs.declared.query.Query.TheVariants.{All, Null, Where}
 use Rattle.spg_forest.specs.View.{Place, Leaf, View, Class, Steps, Reach, AreApart, Under, ReconAt, Target}
-use Rattle.spg_forest.specs.Spot.{Frame, Spot, Branch, Bucket, Forward, Nothing, IsStanding, IsTree, IsIn, view_of, child_of, step_of, leaves_of}
+use Rattle.spg_forest.specs.Spot.{Frame, Spot, Branch, Bucket, Forward, Nothing, IsStanding, IsTree, IsIn, child_of, step_of, leaves_of}
 use Rattle.spg_forest.specs.Classes.{class_of, down_of, start_of, key_of, HasRecon, HasEntry}
 use Rattle.spg_forest.specs.Sheets.{Sheets}
 use Rattle.spg_forest.specs.Shape.{Shape, spots, tree_of}
-use Rattle.spg_forest.specs.Walk.{children_at, followed, met_at}
+use Rattle.spg_forest.specs.Walk.{children_at, followed}
 use Rattle.spg_forest.proofs.FitWay.{recon_of_fit}
 use Rattle.spg_forest.proofs.Forest.{children_apart, under_children}
 use Rattle.spg_forest.proofs.Read.{target_earlier}
@@ -28,7 +27,7 @@ use Rattle.spg_scan.proofs.CoverReplaced.{Gives, IsPlaceIn}
 use Rattle.spg_scan.proofs.CoverWays.{recon_holds, main_tuple}
 use Rattle.spg_scan.proofs.CoverNodes.{NoTwice, no_twice, below_twice, child_from, child_to, children_differ, contains_none}
 use Rattle.spg_scan.proofs.CoverKeys.{is_followed, leaf_fits}
-use Rattle.spg_scan.proofs.CoverTaken.{IsTaken, taken_has, taken_from}
+use Rattle.spg_scan.proofs.CoverTaken.{taken_has, taken_from}
 
 module _ {O Key Recon Cond : Type 0} (m : Meaning Key Recon Cond) (S : Sheets) (table : rows.Table O Key Recon Cond) (query : Query O Key Recon Cond) (x t : Place) (r : Option Recon) (c : ℕ) (H : Shape m S) (target : Target (tree_of m S) t x c) (recon : HasRecon m (spots S) t r) where
   abbrev C : Class Frame (Option Recon) (Option (Option Key))

@@ -1,5 +1,5 @@
 -- The keys of the rows below a node, and that a query follows it.
-use Rattle.std.proofs.Common.{◌≡◌, ℕ, Bool, true, false, List, [], ◌∷◌, ◌⊎◌, ⊎_elim, Option, Some, None, get_or, length, option_map, refl, sym, ap, ◌∙◌, subst, inl, inr, arith}
+use Rattle.std.proofs.Common.{◌≡◌, ℕ, Bool, true, List, [], ◌∷◌, Option, Some, None, get_or, length, option_map, refl, sym, ap, ◌∙◌, subst, arith}
 use Rattle.std.proofs.lemmas.Bool.{and_parts}
 use Rattle.std.proofs.lemmas.List.Elements.{All-nil, All-cons, All-weaker}
 use Rattle.std.specs.Prelude.{Contains}
@@ -7,11 +7,10 @@ use Rattle.std.specs.List.{All as Each, list_all}
 use Rattle.spg_base.specs.Row.{RowAt}
 use Rattle.spg_opclass.specs.Meaning.{Meaning}
 use Rattle.spg_opclass.specs.Laws.{KeptLaw, CodeLaw, MeetsSome}
-use Rattle.spg_opclass.specs.Queries.{query_matches}
 use Rattle.spg_opclass.specs.declared.query.Query.{Query}
 use Rattle.spg_opclass.specs.declared.query.Query.TheVariants.{All, Null, Where}
-use Rattle.spg_forest.specs.View.{Place, Leaf, View, Class, Steps, Under, ReconAt}
-use Rattle.spg_forest.specs.Spot.{Frame, Spot, Branch, IsTree, IsIn, view_of, child_of, leaves_of}
+use Rattle.spg_forest.specs.View.{Place, Leaf, View, Class, Steps, Under}
+use Rattle.spg_forest.specs.Spot.{Frame, Spot, Branch, IsTree, IsIn, child_of, leaves_of}
 use Rattle.spg_forest.specs.Fit.{FitAt, Admits, admit_of}
 use Rattle.spg_forest.specs.Classes.{class_of, key_of, admits_of, HasRecon, HasEntry}
 use Rattle.spg_forest.specs.Sheets.{Sheets}

@@ -1,5 +1,5 @@
 -- The laws of the cover of a scan.
-use Rattle.std.proofs.Common.{◌≡◌, ℕ, zero, suc, ◌+◌, ◌≤◌, Bool, true, List, [], ◌∷◌, ◌++◌, ◌⊎◌, ⊎_elim, Option, Some, None, option_map, take, drop, refl, sym, ap, ◌∙◌, subst, inl, inr, arith}
+use Rattle.std.proofs.Common.{◌≡◌, ℕ, zero, suc, ◌+◌, Bool, true, List, [], ◌∷◌, ◌++◌, ◌⊎◌, ⊎_elim, Option, Some, None, option_map, take, drop, refl, sym, ap, ◌∙◌, subst, inl, inr, arith}
 use Rattle.std.proofs.lemmas.List.Elements.{Contains-append_cases}
 use Rattle.std.proofs.lemmas.Option.{some_pair_parts}
 use Rattle.std.specs.Prelude.{Contains}
@@ -9,8 +9,8 @@ use Rattle.spg_opclass.specs.Laws.{KeptLaw, CodeLaw}
 use Rattle.spg_opclass.specs.Queries.{query_matches}
 use Rattle.spg_opclass.specs.declared.query.Query.{Query}
 use Rattle.spg_opclass.specs.declared.query.Query.TheVariants.{All, Null, Where}
-use Rattle.spg_forest.specs.View.{Place, Leaf, View, Way, Steps, Reach, AreApart, Under, ReconAt, Target}
-use Rattle.spg_forest.specs.Spot.{Spot, Branch, Bucket, Forward, Nothing, NoRepeat, IsTree, IsStanding, IsIn, leaves_of}
+use Rattle.spg_forest.specs.View.{Place, View, Way, Reach, AreApart, Under, ReconAt, Target}
+use Rattle.spg_forest.specs.Spot.{Spot, Branch, Bucket, Forward, Nothing, NoRepeat, IsTree, IsStanding, leaves_of}
 use Rattle.spg_forest.specs.Opens.{ScanHolds}
 use Rattle.spg_forest.specs.Pages.{place, IsInnerRoot, IsLeafRoot}
 use Rattle.spg_forest.specs.Classes.{class_of, start_of, key_of, HasRecon, HasEntry}
@@ -23,8 +23,8 @@ use Rattle.spg_forest.proofs.Scan.{target_once}
 use Rattle.spg_forest.proofs.Sections.{shape_tree, shape_shown}
 use Rattle.spg_forest.proofs.Ways.{steps_of_way}
 use Rattle.spg_rows.specs.Table as rows
-use Rattle.spg_scan.specs.Covers.{Covers, HasAsked, IsAskable, OpensCover, KeepsCover, FindsRight, KeepsApart}
-use Rattle.spg_scan.specs.Scanning.{Scanning, Reads, ReadsSpot, IsItem, IsLiveIn, replaced, opened, taken_of}
+use Rattle.spg_scan.specs.Covers.{Covers, HasAsked, OpensCover, KeepsCover, FindsRight, KeepsApart}
+use Rattle.spg_scan.specs.Scanning.{Scanning, Reads, ReadsSpot, IsItem}
 use Rattle.spg_scan.proofs.CoverLists.{around}
 use Rattle.spg_scan.proofs.CoverReplaced.{IsPlaceIn, replaced_holds}
 use Rattle.spg_scan.proofs.CoverWays.{way_none, way_some, root_is}
@@ -36,9 +36,9 @@ pub keeps_cover : {O Key Recon Cond : Type 0} (m : Meaning Key Recon Cond) → K
 keeps_cover {O} {Key} {Recon} {Cond} m K L S table s s2 i needed H R A wanted D =
     let (t, target, recon) = D.sheltered i R.place R.recon R.item in
     let G = gives m S table s.query R.place t R.recon s.stamp H target recon (λ row. needed row ≡ true) wanted K L A s.rows R.found R.items R.met (spots S R.place) refl R.spot in
-    let D2 = subst (λ xs. ScanHolds (tree_of m S) (start_of m) s.stamp (IsItem xs) (Contains s.rows) (λ row. needed row ≡ true)) (around s.items i (R.place, R.recon) R.item).0 D in
+    let there = subst (λ xs. ScanHolds (tree_of m S) (start_of m) s.stamp (IsItem xs) (Contains s.rows) (λ row. needed row ≡ true)) (around s.items i (R.place, R.recon) R.item).0 D in
     subst (λ (z : Scanning O Key Recon Cond). Covers m S z needed) (sym R.after)
-    (replaced_holds (class_of m) (spots S) S.clock s.stamp (shape_tree m S H) (take i s.items) R.items (drop (i + 1) s.items) R.place t R.recon (Contains s.rows) (Contains (s.rows ++ R.found)) (λ row. needed row ≡ true) D2 target G)
+    (replaced_holds (class_of m) (spots S) S.clock s.stamp (shape_tree m S H) (take i s.items) R.items (drop (i + 1) s.items) R.place t R.recon (Contains s.rows) (Contains (s.rows ++ R.found)) (λ row. needed row ≡ true) there target G)
 
 rows_after : {O Key Recon Cond : Type 0} (m : Meaning Key Recon Cond) (S : Sheets) (table : rows.Table O Key Recon Cond) (s s2 : Scanning O Key Recon Cond) (i : ℕ) (R : Reads m S table s s2 i) → s2.rows ≡ s.rows ++ R.found
 rows_after {O} {Key} {Recon} {Cond} m S table s s2 i R = ap (λ (z : Scanning O Key Recon Cond). z.rows) R.after
