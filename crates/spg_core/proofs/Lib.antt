@@ -1,3 +1,2 @@
-pub mod Scans
-pub mod Slots
-pub mod Steps
+pub mod Stands
+pub mod Chooses

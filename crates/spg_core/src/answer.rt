@@ -1,8 +1,7 @@
 ghost use Rattle.std.specs.Prelude.{◌≡◌};
 ghost use Rattle.spg_core.specs.declared.answer.OpenRefused.TheVariants as refused;
-ghost use Rattle.spg_core.specs.declared.answer.StepRefused.TheVariants as stopped;
 
-use spg_base::{Memory, Rows};
+use spg_base::{Block, Memory, SeatNo};
 
 /// Why an insert was not opened.
 #[derive(Clone, Copy, Debug, PartialEq, Eq)]
@@ -21,37 +20,17 @@ impl From<Memory> for OpenRefused {
     }
 }
 
-/// Why a step of an insert changed nothing.
-#[derive(Clone, Copy, Debug, PartialEq, Eq)]
-pub enum StepRefused {
-    /// The page holds 291 rows.
-    IndexFull,
-    /// Want of memory.
-    Memory,
-}
-
-impl From<Memory> for StepRefused {
-    ghost from_gives = { λ _ e. e ≡ stopped.Memory };
-
-    fn from(_: Memory) -> StepRefused {
-        StepRefused::Memory
-    }
-}
-
-/// What a step of an insert did.
+/// What a section of an insert did.
 #[derive(Clone, Copy, Debug, PartialEq, Eq)]
 pub enum InsertOut {
-    /// It came to the page.
+    /// It came to the root, or from an inner tuple to the child or the empty downlink of a node.
     Descended,
+    /// The leaves were divided without its own; it goes on from the new inner tuple.
+    Restructured,
+    /// Another seat holds the block of the root or child to be visited; it is back at its start.
+    Restarted { block: Block, by: SeatNo },
     /// The row stands in the index, and the insert has ended.
     Put,
-}
-
-/// What a step of a scan did.
-#[derive(Clone, Copy, Debug, PartialEq, Eq)]
-pub enum ReadOut {
-    /// It read the item.
-    Read,
 }
 
 /// What a seat has open.
@@ -63,13 +42,4 @@ pub enum OpenKind {
     Insert,
     /// A scan, which still holds so many items.
     Scan { held: usize },
-}
-
-/// What a scan found.
-#[derive(Debug, Drop)]
-pub struct Closed {
-    /// The rows, ascending.
-    pub rows: Rows,
-    /// How many tuples the scan met.
-    pub met: u64,
 }

@@ -1,10 +1,13 @@
-//! The state of an index of one page, and the calls that change it section by section.
+//! The sections of an index, and the journal of all that was done.
 #![tactic(auto)]
 
 mod answer;
-mod page;
+mod insert;
+mod operations;
 mod slot;
 mod state;
 
-pub use answer::{Closed, InsertOut, OpenKind, OpenRefused, ReadOut, StepRefused};
+pub use answer::{InsertOut, OpenKind, OpenRefused};
+pub use spg_scan::{Closed, ReadOut};
+pub use spg_tree::StepRefused;
 pub use state::State;

@@ -1,44 +1,43 @@
-ghost use Rattle.std.specs.Prelude.{◌≡◌, ◌≢◌, ◌<◌, [], ◌↔◌, ℕ, true, Option, Some, None, IfOk, OnOk, OnErr, IsErrOf, IsTrue};
-ghost use Rattle.spg_base.specs.Row.{RowAt};
-ghost use Rattle.spg_rows.specs.Rows.{is_claimed, present_count};
+ghost use Rattle.std.specs.Prelude.{◌≡◌, ◌≢◌, ◌<◌, ◌≤◌, ◌+◌, ◌↔◌, ◌⊎◌, [], ℕ, true, false, Option, Some, None, IfOk, OnOk, OnErr, IsErrOf, IsTrue};
+ghost use Rattle.spg_base.specs.declared.recorded.Origin.{Origin};
+ghost use Rattle.spg_forest.specs.Shape.{Represents};
+ghost use Rattle.spg_forest.specs.Walk.{weight_of};
+ghost use Rattle.spg_rows.specs.Rows.{is_claimed};
 ghost use Rattle.spg_rows.specs.Right.{Right};
-ghost use Rattle.spg_core.specs.Stage.{free, started, descended, holding, read, IsInserting, IsDescended, IsRead, IsStageOf, held_count, given_up, kind_of};
-ghost use Rattle.spg_core.specs.Seen.{stage_at, moved, logged, past_of};
-ghost use Rattle.spg_opclass.specs.declared.query.Query.{Query};
-ghost use Rattle.spg_rows.specs.History.{open_of};
 ghost use Rattle.spg_rows.specs.declared.table.RowState.TheVariants as row_state;
 ghost use Rattle.spg_rows.specs.declared.event.Event.TheVariants as event;
+ghost use Rattle.spg_rows.specs.History.{open_of};
+ghost use Rattle.spg_tree.specs.Table.{Table, sheets_of, start_table};
+ghost use Rattle.spg_core.specs.Stage.{free, IsInserting, IsRead, IsStageOf, held_count, given_up, kind_of};
+ghost use Rattle.spg_core.specs.Seen.{stage_at, past_of, IsPresentWith};
+ghost use Rattle.spg_core.specs.Sections.{IsNew, OpensInsert, IsInsertOut, IsHeavy, OpensScan, ReadsItem, ClosesScan, GivesUp};
 
-use crate::answer::{Closed, InsertOut, OpenKind, OpenRefused, ReadOut, StepRefused};
-use crate::page::{Entries, copy_key, matching, put_entry, rest_of_key};
-use crate::slot::{
-    SEATS, Slot, descend, find, found_of, free_slots, give_back, give_up, held_query, insert_of,
-    kind, set_slot, slot_at,
-};
-use spg_base::{Memory, Row, Same, SeatNo};
+use crate::answer::{InsertOut, OpenKind, OpenRefused};
+use crate::operations::{close_slot, read_slot, release_slot, step_slot};
+use crate::slot::{SEATS, Slot, free_slots, give_up, kind, set_slot, slot_at};
+use spg_base::{Memory, Origin, Recorded, Row, Same, SeatNo, Stamp};
+use spg_descend::open_descent;
 use spg_opclass::{OpClass, Query};
 use spg_rows::{Event, Journal, RowState, RowTable, Why};
+use spg_scan::{Closed, ReadOut, Scan};
+use spg_tree::{PageTable, StepRefused};
 use std::alloc::Global;
-use std::collections::BTreeMap;
 use std::marker::Model;
-
-/// How many rows the one page holds.
-const CAPACITY: usize = 291;
 
 /// An open needs room for its own event and for the events that end what all seats have open.
 const ROOM: u64 = SEATS as u64 + 1;
 
-/// An index of one page, what each seat has open, and the journal of all that was done. Each of 64
-/// seats has at most one operation open.
+/// An index, what each seat has open, and the journal of all that was done. A seat has at most one
+/// operation open; so far seat 0 alone may have one.
 #[derive(Drop)]
 pub struct State<O: OpClass> {
     alloc: Global,
     class: O,
-    start: O::Recon,
+    table: PageTable,
     rows: RowTable<O>,
-    entries: Entries,
     slots: Vec<Slot<O>>,
     journal: Journal<O>,
+    origin: Origin,
 }
 
 impl<O: OpClass> Model for State<O> {
@@ -52,20 +51,48 @@ impl<O: OpClass> Model for State<O> {
     ghost invariant = { λ s. IsKept O.meaning s };
 }
 
+impl<O: OpClass> Recorded for State<O> {
+    ghost use Rattle.std.specs.Prelude.{◌≡◌};
+    ghost use Rattle.spg_rows.specs.History.{seat_of};
+
+    type Entry = Event<O>;
+
+    ghost entries = { λ s. s.journal };
+
+    ghost seat_of = { seat_of };
+
+    ghost origin_of = { λ s. s.origin };
+
+    fn len(&self) -> u64 {
+        self.journal.len()
+    }
+
+    fn origin(&self) -> Origin {
+        self.origin
+    }
+}
+
 impl<O: OpClass> State<O> {
-    /// An empty index.
-    pub fn new(alloc: Global, class: O) -> Result<State<O>, Memory>
-        ensures journal { IfOk result (λ state. state.journal ≡ []) }
-        ensures stages { IfOk result (λ state. (seat : ℕ) → stage_at state seat ≡ free) }
+    /// An empty index of at most `limit` pages, 4 to 131,072. The class has no labels so far.
+    pub fn new(alloc: Global, class: O, limit: u32) -> Result<State<O>, Memory>
+        requires plain { O.meaning.labels ≡ false }
+        requires from { 4 ≤ limit }
+        requires to { limit ≤ 131072 }
+        ensures { IfOk result (λ state. IsNew limit state) }
     {
         Ok(State {
             alloc,
             class,
-            start: class.start(alloc)?,
+            table: PageTable::new(alloc, limit)?,
             rows: RowTable::new(alloc),
-            entries: BTreeMap::new(alloc),
             slots: free_slots(alloc)?,
             journal: Journal::new(alloc),
+            origin: Origin {
+                limit,
+                pages: 3,
+                clock: 0,
+                loaded: false,
+            },
         })
     }
 
@@ -80,6 +107,14 @@ impl<O: OpClass> State<O> {
         ensures right { Right O.meaning self.now.journal }
     {
         &self.journal
+    }
+
+    /// The pages. They are well formed and hold just the rows that are present, each with its key.
+    pub fn pages(&self) -> &PageTable
+        ensures value { result.now ≡ self.now.table }
+        ensures represents { Represents O.meaning (sheets_of self.now.table) (IsPresentWith (past_of self.now)) }
+    {
+        &self.table
     }
 
     /// What the seat has open. It is what the journal says.
@@ -97,15 +132,16 @@ impl<O: OpClass> State<O> {
         row: Row,
         key: Option<O::Key>,
     ) -> Result<(), OpenRefused>
-        requires { stage_at self.old seat ≡ free }
-        ensures ok { OnOk result (self.new ≡ logged self.old seat (event.OpenInsert seat row key) (started row key)) }
-        ensures stage { OnOk result (stage_at self.new seat ≡ started row key) }
+        requires first { seat ≡ 0 }
+        requires free { stage_at self.old seat ≡ free }
+        ensures ok { OnOk result (OpensInsert O.meaning self.old self.new seat row key) }
         ensures row_used { IsErrOf result OpenRefused.RowUsed ↔ (is_claimed row (past_of self.old) ≡ true) }
         ensures err { OnErr result (self.new ≡ self.old) }
     {
         if !is_free(self.rows.state(row)) {
             return Err(OpenRefused::RowUsed);
         }
+        let descent = open_descent(self.alloc, &self.class, row, key.as_ref())?;
         let told = copy_key::<O>(&key)?;
         let claimed = copy_key::<O>(&key)?;
         self.journal.reserve(ROOM)?;
@@ -115,112 +151,110 @@ impl<O: OpClass> State<O> {
             row,
             key: told,
         });
-        let slot = Slot::Insert {
-            row,
-            key,
-            descended: false,
-        };
-        set_slot(&mut self.slots, seat, slot);
+        set_slot(&mut self.slots, seat, Slot::Insert { key, descent });
         Ok(())
     }
 
-    /// The next step of an insert: the first comes to the page, the second puts the row there.
-    /// `IndexFull` exactly where the second step finds 291 rows present.
+    /// The next section of an insert. `Descended` where it comes to the root, or from an inner tuple
+    /// to the child or the empty downlink of a node. `Restructured` where the leaves are divided
+    /// without its own. `Put` where the row is put, and the insert has ended. `IndexFull` only where
+    /// the keys of its tree that were ever inserted take more than 8,160 bytes: where a page is
+    /// wanted and there may be none, and so far also where a chain below a root has no room.
     pub fn insert_step(&mut self, seat: SeatNo) -> Result<InsertOut, StepRefused>
-        requires { IsInserting (stage_at self.old seat) }
-
-        ensures descends { (row : RowAt) (key : Option O.Key) → stage_at self.old seat ≡ started row key
-            → (result ≡ Ok InsertOut.Descended) × (self.new ≡ moved self.old seat (descended row key))
-            × (stage_at self.new seat ≡ descended row key) }
-        ensures puts { (row : RowAt) (key : Option O.Key) → stage_at self.old seat ≡ descended row key
-            → IfOk result (λ out. (out ≡ InsertOut.Put) × (self.new ≡ logged self.old seat (event.Put seat row) free)
-            × (stage_at self.new seat ≡ free)) }
-
-        ensures full { IsErrOf result StepRefused.IndexFull
-            ↔ (IsDescended (stage_at self.old seat) × (present_count (past_of self.old) ≡ 291)) }
+        requires first { seat ≡ 0 }
+        requires inserting { IsInserting (stage_at self.old seat) }
+        ensures ok { IfOk result (λ out. IsInsertOut self.old self.new seat out) }
+        ensures full { IsErrOf result StepRefused.IndexFull → IsHeavy O.meaning self.old seat }
+        ensures clock { IsErrOf result StepRefused.ClockFull → ⊥ }
         ensures err { OnErr result (self.new ≡ self.old) }
     {
-        let (row, key, descended) = insert_of(slot_at(&self.slots, seat));
-        if !descended {
+        let out = step_slot(
+            self.alloc,
+            &self.class,
+            &mut self.table,
+            &mut self.slots,
+            seat,
+        )?;
+        if out == InsertOut::Put {
             let slot = set_slot(&mut self.slots, seat, Slot::Free);
-            set_slot(&mut self.slots, seat, descend(slot));
-            return Ok(InsertOut::Descended);
+            if let Slot::Insert { descent, .. } = &slot {
+                let row = descent.row();
+                self.rows.put(row);
+                self.journal.append(Event::Put { seat, row });
+            }
         }
-        if self.entries.len() == CAPACITY {
-            return Err(StepRefused::IndexFull);
-        }
-        let rest = rest_of_key(self.alloc, &self.class, key)?;
-        put_entry(&mut self.entries, row, rest)?;
-        self.rows.put(row);
-        self.journal.append(Event::Put { seat, row });
-        set_slot(&mut self.slots, seat, Slot::Free);
-        Ok(InsertOut::Put)
+        Ok(out)
     }
 
-    /// Opens a scan. It holds one item, the page.
+    /// Opens a scan. It holds the roots that the query begins at.
     pub fn open_scan(&mut self, seat: SeatNo, query: Query<O>) -> Result<(), Memory>
-        requires { stage_at self.old seat ≡ free }
-        ensures ok { OnOk result (self.new ≡ logged self.old seat (event.OpenScan seat query) (holding query)) }
-        ensures stage { OnOk result (stage_at self.new seat ≡ holding query) }
+        requires first { seat ≡ 0 }
+        requires free { stage_at self.old seat ≡ free }
+        ensures ok { OnOk result (OpensScan O.meaning self.old self.new seat query) }
         ensures err { OnErr result (self.new ≡ self.old) }
     {
         let told = query.copy()?;
+        let start = self.class.start(self.alloc)?;
+        let stamp = Stamp::at(self.table.clock());
+        let scan = Scan::open(self.alloc, query, start, self.journal.len(), stamp)?;
         self.journal.reserve(ROOM)?;
         self.journal.append(Event::OpenScan { seat, query: told });
-        let slot = Slot::Scan { query, found: None };
-        set_slot(&mut self.slots, seat, slot);
+        set_slot(&mut self.slots, seat, Slot::Scan(scan));
         Ok(())
     }
 
-    /// Reads a held item: it takes the live rows that the query asks for.
+    /// Reads a held item: what it leads to takes its place, and the live rows that the query asks for
+    /// are taken.
     pub fn scan_read(&mut self, seat: SeatNo, item: usize) -> Result<ReadOut, Memory>
-        requires { item < held_count (stage_at self.old seat) }
-        ensures ok { OnOk result ((query : Query O O.Key O.Recon O.Cond) → stage_at self.old seat ≡ holding query
-            → (self.new ≡ moved self.old seat (read query)) × (stage_at self.new seat ≡ read query)) }
+        requires first { seat ≡ 0 }
+        requires held { item < held_count (stage_at self.old seat) }
+        ensures ok { IfOk result (λ out. ReadsItem O.meaning self.old self.new seat item out) }
         ensures err { OnErr result (self.new ≡ self.old) }
     {
-        let query = held_query(slot_at(&self.slots, seat));
-        let rows = matching(
+        read_slot(
             self.alloc,
             &self.class,
-            &self.start,
+            &self.table,
             &self.rows,
-            &self.entries,
-            query,
-        )?;
-        let slot = set_slot(&mut self.slots, seat, Slot::Free);
-        set_slot(&mut self.slots, seat, find(slot, rows));
-        Ok(ReadOut::Read)
+            &mut self.slots,
+            seat,
+            item,
+        )
     }
 
-    /// Ends a scan that holds nothing. `met` is the number of rows present.
+    /// Ends a scan that holds nothing, and gives its rows, ascending.
     pub fn close_scan(&mut self, seat: SeatNo) -> Result<Closed, Memory>
-        requires { IsRead (stage_at self.old seat) }
-        ensures ok { IfOk result (λ closed. self.new ≡ logged self.old seat (event.CloseScan seat closed.rows) free) }
-        ensures stage { OnOk result (stage_at self.new seat ≡ free) }
-        ensures met { IfOk result (λ closed. closed.met ≡ present_count (past_of self.old)) }
+        requires first { seat ≡ 0 }
+        requires read { IsRead (stage_at self.old seat) }
+        ensures ok { IfOk result (λ closed. ClosesScan self.old self.new seat closed) }
         ensures err { OnErr result (self.new ≡ self.old) }
     {
-        let found = found_of(slot_at(&self.slots, seat));
-        let rows = found.copy()?;
-        let told = found.copy()?;
+        let (told, closed) = close_slot(self.alloc, &mut self.slots, seat)?;
         self.journal.append(Event::CloseScan { seat, rows: told });
         set_slot(&mut self.slots, seat, Slot::Free);
-        Ok(Closed {
-            rows,
-            met: self.entries.len() as u64,
-        })
+        Ok(closed)
     }
 
-    /// Gives up what the seat has open: an insert with this cause. It takes no memory.
+    /// Gives up what the seat has open: an insert with this cause. The seat's latches are given free.
+    /// It takes no memory.
     pub fn abandon(&mut self, seat: SeatNo, why: Why)
-        requires { stage_at self.old seat ≢ free }
-        ensures given_up { self.new ≡ logged self.old seat (given_up seat (stage_at self.old seat) why) free }
-        ensures stage { stage_at self.new seat ≡ free }
+        requires first { seat ≡ 0 }
+        requires open { stage_at self.old seat ≢ free }
+        ensures { GivesUp self.old self.new seat why }
     {
         let slot = set_slot(&mut self.slots, seat, Slot::Free);
-        give_back(&slot, &mut self.rows);
+        release_slot(&mut self.table, &mut self.rows, &slot, seat);
         self.journal.append(give_up(&slot, seat, why));
+    }
+}
+
+/// An equal key, or a null.
+fn copy_key<O: OpClass>(key: &Option<O::Key>) -> Result<Option<O::Key>, Memory>
+    ensures { IfOk result (λ copied. copied ≡ key.now) }
+{
+    match key {
+        None => Ok(None),
+        Some(key) => Ok(Some(key.copy()?)),
     }
 }
 

@@ -1,5 +1,5 @@
 -- A scan as contracts see it, and what a read of one of its items does.
-use Rattle.std.specs.Prelude.{◌≡◌, ◌↔◌, ◌+◌, ◌<◌, ◌&&◌, ◌^◌, ◌-◌, ℕ, Bool, true, false, List, [], ◌∷◌, ◌++◌, Option, Some, None, Contains, take, drop, min, slice_get, if◌then◌else◌}
+use Rattle.std.specs.Prelude.{◌≡◌, ◌↔◌, ◌+◌, ◌<◌, ◌&&◌, ◌^◌, ◌-◌, ℕ, Bool, true, false, List, [], ◌∷◌, ◌++◌, Option, Some, None, Contains, take, drop, min, length, slice_get, if◌then◌else◌}
 use Rattle.std.specs.List.Sorted.{IsStrictlySortedBy}
 use Rattle.spg_base.specs.Row.{RowAt, row_cmp}
 use Rattle.spg_opclass.specs.Meaning.{Meaning}
@@ -105,6 +105,7 @@ IsReadOut {O} {Key} {Recon} m t table s s2 i seat (Latched block by) = ((x : Pla
 -- a scan that was closed: the rows that it took, ascending
 pub record IsClosing {O Key Recon Cond : Type 0} (s : Scanning O Key Recon Cond) (closed : Closed) : Type 0 where
   pub met : closed.met ≡ s.met
+  pub count : length closed.rows ≡ length s.rows
   pub same : (row : RowAt) → Contains closed.rows row ↔ Contains s.rows row
   pub ascending : AreDistinct s.rows → IsStrictlySortedBy row_cmp closed.rows
 

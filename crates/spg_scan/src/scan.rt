@@ -65,6 +65,15 @@ impl<O: OpClass> Scan<O> {
     }
 }
 
+impl<O: OpClass> Scan<O> {
+    /// How many rows it has taken.
+    pub fn found(&self) -> usize
+        ensures { result ≡ length self.now.rows }
+    {
+        self.rows.len()
+    }
+}
+
 impl<O: OpClass> Walk<O> for Scan<O> {
     ghost scanning = { λ s. s };
 

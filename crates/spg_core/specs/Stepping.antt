@@ -1,0 +1,71 @@
+-- Where an open insert stands in a table, and what a section of it does.
+use Rattle.std.specs.Prelude.{◌≡◌, ◌⊎◌, ◌<◌, ◌≤◌, ℕ, Bool, true, false, List, length, get_or, Option, Some, None, if◌then◌else◌}
+use Rattle.spg_opclass.specs.Meaning.{Meaning}
+use Rattle.spg_forest.specs.View.{Place}
+use Rattle.spg_forest.specs.Spot.{Frame}
+use Rattle.spg_forest.specs.Tuples.{Inner, Live}
+use Rattle.spg_forest.specs.Sheets.{sheet_at, links}
+use Rattle.spg_forest.specs.Section.{Adds, Leaves, Cost}
+use Rattle.spg_tree.specs.Table.{Table, sheets_of, latch_at, tuple_at}
+use Rattle.spg_tree.specs.Descents.{Descending, in_nulls}
+use Rattle.spg_tree.specs.declared.stand.Stand.{Stand}
+use Rattle.spg_tree.specs.declared.stand.Stand.TheVariants.{Start, Root, At, Empty}
+use Rattle.spg_descend.specs.Carried.{carried, root_of, IsCarried}
+use Rattle.spg_descend.specs.Follows.{IsAtInner}
+use Rattle.spg_descend.specs.Puts.{IsAtLeaves, IsAtEmpty, Fits}
+use Rattle.spg_descend.specs.Rules.{IsAtNoInner}
+use Rattle.spg_core.specs.declared.answer.InsertOut.{InsertOut}
+use Rattle.spg_core.specs.declared.answer.InsertOut.TheVariants.{Descended, Restructured, Restarted, Put}
+
+-- the root of a tree is an inner tuple
+abbrev pub HasInnerRoot : Table → Bool → Type 0
+HasInnerRoot t nulls = (sheet_at (sheets_of t) (root_of nulls)).inner ≡ true
+
+-- node i of the inner tuple at p leads there
+abbrev pub IsLink : Table → Place → ℕ → Place → Type 0
+IsLink t p i x = (p.block < length t.pages) × ((w : Frame) × (ns : List (Option Place)) × (tuple_at t p ≡ Inner w ns) × (get_or ns i None ≡ Some x))
+
+-- the insert stands at the root of its tree; or below an inner root, at what the node of the tuple above leads to, or at its empty downlink
+abbrev pub StandsAt : Table → Bool → Stand → Option (Place × ℕ) → Type 0
+StandsAt t nulls Start parent = parent ≡ None
+StandsAt t nulls (Root b) parent = (b ≡ root_of nulls) × (parent ≡ None)
+StandsAt t nulls (At x) None = ⊥
+StandsAt t nulls (At x) (Some (p, i)) = HasInnerRoot t nulls × ((sheet_at (sheets_of t) x.block).nulls ≡ nulls) × IsLink t p i x × (IsAtInner t (At x) ⊎ IsAtLeaves (sheets_of t) nulls (At x))
+StandsAt t nulls Empty parent = HasInnerRoot t nulls × IsAtEmpty (sheets_of t) nulls Empty parent
+
+-- the insert of a table stands there
+abbrev pub Stands : {Recon : Type 0} → Table → Descending Recon → Type 0
+Stands t d = StandsAt t (in_nulls d) d.stand d.parent
+
+-- the pages stay as they are
+abbrev pub SamePages : Table → Table → Type 0
+SamePages t t2 = (sheets_of t2 ≡ sheets_of t) × (t2.limit ≡ t.limit)
+
+-- the insert goes on: it is of the same row, stands somewhere, and carries the key that it carried
+abbrev pub GoesOn : {Key Recon Cond : Type 0} → Meaning Key Recon Cond → Table → Table → Descending Recon → Descending Recon → Type 0
+GoesOn {Key} m t t2 d d2 = (d2.row ≡ d.row) × (in_nulls d2 ≡ in_nulls d) × Stands t2 d2 × ((key : Option Key) → IsCarried m (sheets_of t) d key → IsCarried m (sheets_of t2) d2 key)
+
+-- the insert stands at its root, which is a leaf page on which its leaf does not fit
+abbrev pub IsRootFull : {Recon : Type 0} → Table → Descending Recon → Type 0
+IsRootFull t d = (d.stand ≡ Root (root_of (in_nulls d))) × ((sheet_at (sheets_of t) (root_of (in_nulls d))).inner ≡ false) × (Fits t (Root (root_of (in_nulls d))) (Live (carried d) 0) → ⊥)
+
+-- the tree has outgrown its root page, or does so with the leaf of the insert
+abbrev pub IsOutgrown : {Recon : Type 0} → Table → Descending Recon → Type 0
+IsOutgrown t d = HasInnerRoot t (in_nulls d) ⊎ IsRootFull t d
+
+-- a root is an inner tuple only where it was one, or where the insert has outgrown it
+abbrev pub RootsGrow : {Recon : Type 0} → Table → Table → Descending Recon → Type 0
+RootsGrow t t2 d = (nulls : Bool) → HasInnerRoot t2 nulls → HasInnerRoot t nulls ⊎ ((nulls ≡ in_nulls d) × IsRootFull t d)
+
+-- What comes of a section of an insert. It comes to the root, or from an inner tuple to the child or the empty downlink of a node; the leaves are divided
+-- without its own; another seat holds the block to be visited, and it is at its start again; or its row is put
+abbrev pub IsStepOut : {Key Recon Cond : Type 0} → Meaning Key Recon Cond → Table → Table → Descending Recon → Descending Recon → ℕ → InsertOut → Type 0
+IsStepOut m t t2 d d2 seat Descended = ((d.stand ≡ Start) ⊎ IsAtInner t d.stand) × SamePages t t2 × GoesOn m t t2 d d2
+IsStepOut m t t2 d d2 seat Restructured = IsAtNoInner t d.stand × ((cost : Cost) × Leaves m (sheets_of t) (sheets_of t2) t2.touched cost 0 (λ x. x)) × (t2.limit ≡ t.limit) × RootsGrow t t2 d × GoesOn m t t2 d d2
+IsStepOut m t t2 d d2 seat (Restarted block by) = (latch_at t block ≡ Some by) × (by ≡ seat → ⊥) × (d2.stand ≡ Start) × SamePages t t2 × GoesOn m t t2 d d2
+IsStepOut {Key} m t t2 d d2 seat Put =
+    IsAtNoInner t d.stand × ((key : Option Key) → IsCarried m (sheets_of t) d key → (cost : Cost) × Adds m (sheets_of t) (sheets_of t2) t2.touched cost d.row key (λ x. x)) × (t2.limit ≡ t.limit) × RootsGrow t t2 d
+
+-- the node that an all-the-same tuple is followed at is the one that the counter names
+abbrev pub named : ℕ → Frame → ℕ → ℕ
+named turn w node = if w.all_same then turn else node

@@ -1,0 +1,127 @@
+ghost use Rattle.std.specs.Prelude.{◌≡◌, ◌<◌, [], ℕ, false, Option, length, slice_set, slice_index_or, IfOk, OnErr, IsErrOf, IfSome, ◌≤◌, vec_capacity};
+ghost use Rattle.spg_forest.specs.Shape.{Shape};
+ghost use Rattle.spg_rows.specs.Table.{state_in};
+ghost use Rattle.spg_rows.specs.declared.table.RowState.TheVariants as row_state;
+ghost use Rattle.spg_tree.specs.Table.{sheets_of};
+ghost use Rattle.spg_tree.specs.declared.stand.StepRefused.TheVariants.{IndexFull, ClockFull};
+ghost use Rattle.spg_core.specs.declared.slot.Slot.TheVariants as kept;
+ghost use Rattle.spg_core.specs.Slot.{GivesBack};
+ghost use Rattle.spg_core.specs.Operations.{CanStep, StepsSlot, IsOutgrownBy, CanRead, ReadsSlot, CanClose, ClosesSlot, CanRelease};
+ghost use Rattle.spg_core.specs.Stepping.{SamePages};
+ghost use Rattle.spg_scan.specs.Scanning.{IsClosing};
+
+use crate::answer::InsertOut;
+use crate::insert::step;
+use crate::slot::Slot;
+use spg_base::{List, Memory, Row, Rows, SeatNo};
+use spg_descend::release_latches;
+use spg_opclass::OpClass;
+use spg_rows::RowTable;
+use spg_scan::{Closed, ReadOut, Scan, Walk};
+use spg_tree::{PageTable, StepRefused};
+use std::alloc::Global;
+
+/// The next section of the insert in the seat's slot.
+pub(crate) fn step_slot<O: OpClass>(
+    alloc: Global,
+    class: &O,
+    table: &mut PageTable,
+    slots: &mut Vec<Slot<O>>,
+    seat: SeatNo,
+) -> Result<InsertOut, StepRefused>
+    requires seats { length slots.old.items ≡ 64 }
+    requires plain { O.meaning.labels ≡ false }
+    requires shape { Shape O.meaning (sheets_of table.old) }
+    requires insert { CanStep O.meaning table.old (slice_index_or slots.old.items seat kept.Free) }
+    ensures ok { IfOk result (λ out. StepsSlot O.meaning table.old table.new slots.old.items slots.new.items seat out) }
+    ensures full { IsErrOf result IndexFull → IsOutgrownBy table.old (slice_index_or slots.old.items seat kept.Free) }
+    ensures clock { IsErrOf result ClockFull → ⊥ }
+    ensures err { OnErr result (table.new ≡ table.old) }
+    ensures err_slots { OnErr result (slots.new ≡ slots.old) }
+{
+    match &mut slots[usize::from(seat.number())] {
+        Slot::Insert { descent, .. } => step(alloc, class, table, descent, seat),
+        _ => unreachable!(),
+    }
+}
+
+/// Reads an item of the scan in the seat's slot.
+pub(crate) fn read_slot<O: OpClass>(
+    alloc: Global,
+    class: &O,
+    table: &PageTable,
+    rows: &RowTable<O>,
+    slots: &mut Vec<Slot<O>>,
+    seat: SeatNo,
+    item: usize,
+) -> Result<ReadOut, Memory>
+    requires seats { length slots.old.items ≡ 64 }
+    requires shape { Shape O.meaning (sheets_of table.now) }
+    requires scan { CanRead O.meaning table.now (slice_index_or slots.old.items seat kept.Free) item }
+    ensures ok { IfOk result (λ out. ReadsSlot O.meaning table.now rows.now slots.old.items slots.new.items seat item out) }
+    ensures err { OnErr result (slots.new ≡ slots.old) }
+{
+    match &mut slots[usize::from(seat.number())] {
+        Slot::Scan(scan) => scan.read(alloc, class, table, rows, item, seat),
+        _ => unreachable!(),
+    }
+}
+
+/// A copy of rows, in memory that was taken before.
+fn copied(mut told: Vec<Row>, rows: &[Row]) -> Rows
+    requires empty { told.items ≡ [] }
+    requires room { length rows.now ≤ vec_capacity told }
+    ensures { result ≡ rows.now }
+{
+    for row in rows {
+        told.push_reserved(*row);
+    }
+    List::from_vec(told)
+}
+
+/// Closes the scan in the seat's slot, which holds nothing. Its rows come twice.
+fn close_twice<O: OpClass>(alloc: Global, scan: &mut Scan<O>) -> Result<(Rows, Closed), Memory>
+    requires { scan.old.items ≡ [] }
+    ensures ok { IfOk result (λ closed. IsClosing scan.old closed.1) }
+    ensures told { IfOk result (λ closed. closed.0 ≡ closed.1.rows) }
+    ensures err { OnErr result (scan.new ≡ scan.old) }
+{
+    let told = Vec::with_capacity(alloc, scan.found())?;
+    let closed = scan.close()?;
+    Ok((copied(told, closed.rows.as_slice()), closed))
+}
+
+/// Closes the scan in the seat's slot, which holds nothing. Its rows come twice.
+pub(crate) fn close_slot<O: OpClass>(
+    alloc: Global,
+    slots: &mut Vec<Slot<O>>,
+    seat: SeatNo,
+) -> Result<(Rows, Closed), Memory>
+    requires seats { length slots.old.items ≡ 64 }
+    requires scan { CanClose (slice_index_or slots.old.items seat kept.Free) }
+    ensures ok { IfOk result (λ closed. ClosesSlot slots.old.items slots.new.items seat closed.1) }
+    ensures told { IfOk result (λ closed. closed.0 ≡ closed.1.rows) }
+    ensures err { OnErr result (slots.new ≡ slots.old) }
+{
+    match &mut slots[usize::from(seat.number())] {
+        Slot::Scan(scan) => close_twice(alloc, scan),
+        _ => unreachable!(),
+    }
+}
+
+/// Gives free what the operation of a slot holds: the latches and the row of an insert.
+pub(crate) fn release_slot<O: OpClass>(
+    table: &mut PageTable,
+    rows: &mut RowTable<O>,
+    slot: &Slot<O>,
+    seat: SeatNo,
+)
+    requires { CanRelease table.old rows.old slot.now }
+    ensures pages { SamePages table.old table.new }
+    ensures rows { GivesBack slot.now rows.old rows.new }
+{
+    if let Slot::Insert { descent, .. } = slot {
+        release_latches(table, descent, seat);
+        rows.drop_claim(descent.row());
+    }
+}
