@@ -34,6 +34,7 @@ struct Chosen {
 fn begin<O: OpClass>(table: &mut PageTable, descent: &mut Descent<O>, seat: SeatNo) -> InsertOut
     requires shape { Shape O.meaning (sheets_of table.old) }
     requires start { descent.old.stand ≡ Start }
+    requires stands { Stands table.old descent.old }
     ensures { IsStepOut O.meaning table.old table.new descent.old descent.new seat result }
 {
     match enter_root(table, descent, seat) {

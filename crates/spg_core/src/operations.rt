@@ -37,7 +37,7 @@ pub(crate) fn step_slot<O: OpClass>(
     ensures full { IsErrOf result IndexFull → IsOutgrownBy table.old (slice_index_or slots.old.items seat kept.Free) }
     ensures clock { IsErrOf result ClockFull → ⊥ }
     ensures err { OnErr result (table.new ≡ table.old) }
-    ensures err_slots { OnErr result (slots.new ≡ slots.old) }
+    ensures err_slots { OnErr result (slots.new.items ≡ slots.old.items) }
 {
     match &mut slots[usize::from(seat.number())] {
         Slot::Insert { descent, .. } => step(alloc, class, table, descent, seat),
@@ -59,7 +59,7 @@ pub(crate) fn read_slot<O: OpClass>(
     requires shape { Shape O.meaning (sheets_of table.now) }
     requires scan { CanRead O.meaning table.now (slice_index_or slots.old.items seat kept.Free) item }
     ensures ok { IfOk result (λ out. ReadsSlot O.meaning table.now rows.now slots.old.items slots.new.items seat item out) }
-    ensures err { OnErr result (slots.new ≡ slots.old) }
+    ensures err { OnErr result (slots.new.items ≡ slots.old.items) }
 {
     match &mut slots[usize::from(seat.number())] {
         Slot::Scan(scan) => scan.read(alloc, class, table, rows, item, seat),
@@ -101,7 +101,7 @@ pub(crate) fn close_slot<O: OpClass>(
     requires scan { CanClose (slice_index_or slots.old.items seat kept.Free) }
     ensures ok { IfOk result (λ closed. ClosesSlot slots.old.items slots.new.items seat closed.1) }
     ensures told { IfOk result (λ closed. closed.0 ≡ closed.1.rows) }
-    ensures err { OnErr result (slots.new ≡ slots.old) }
+    ensures err { OnErr result (slots.new.items ≡ slots.old.items) }
 {
     match &mut slots[usize::from(seat.number())] {
         Slot::Scan(scan) => close_twice(alloc, scan),

@@ -4,10 +4,10 @@ ghost use Rattle.spg_forest.specs.Sheets.{size_of};
 ghost use Rattle.spg_forest.specs.Shape.{Shape, IsRestOf};
 ghost use Rattle.spg_opclass.specs.Laws.{leaf_size};
 ghost use Rattle.spg_tree.specs.Pick.{IsFull};
-ghost use Rattle.spg_tree.specs.declared.stand.StepRefused.TheVariants.{IndexFull};
+ghost use Rattle.spg_tree.specs.declared.stand.StepRefused.TheVariants.{IndexFull, ClockFull};
 ghost use Rattle.spg_tree.specs.Table.{sheets_of};
 ghost use Rattle.spg_tree.specs.Descents.{in_nulls};
-ghost use Rattle.spg_tree.specs.declared.stand.Stand.TheVariants.{Root, At};
+ghost use Rattle.spg_tree.specs.declared.stand.Stand.TheVariants.{Root, At, Empty};
 ghost use Rattle.spg_descend.specs.Carried.{carried};
 ghost use Rattle.spg_descend.specs.Puts.{IsAtLeaves, IsAtEmpty, IsPutSpot, IsPutOut, leaf_want};
 
@@ -110,6 +110,7 @@ fn put_at_empty<O: OpClass>(
     requires leaf { leaf.now ≡ Live (carried descent.now) 0 }
     ensures ok { IfOk result (λ out. IsPutOut O.meaning table.old table.new descent.now out) }
     ensures full { IsErrOf result IndexFull → IsFull table.old (leaf_want descent.now seat) }
+    ensures clock { IsErrOf result ClockFull → ⊥ }
     ensures err { OnErr result (table.new ≡ table.old) }
 {
     let need = leaf.size() + 4;
@@ -133,7 +134,8 @@ fn leaf_of<O: OpClass>(alloc: Global, descent: &Descent<O>) -> Result<TupleBytes
 /// Puts the leaf of an insert where it stands: on a root leaf page, behind the head of a chain, in
 /// the place of a dead tuple, or below an empty downlink on a leaf page that is picked. `NoRoom`
 /// comes exactly where it does not fit there, and never below an empty downlink. `IndexFull` comes
-/// only where the pick needs a new page and there may be none. The latches stay as they are.
+/// only at an empty downlink, where the pick needs a new page and there may be none. The latches stay
+/// as they are.
 pub fn put_leaf<O: OpClass>(
     alloc: Global,
     table: &mut PageTable,
@@ -144,7 +146,8 @@ pub fn put_leaf<O: OpClass>(
     requires spot { IsPutSpot (sheets_of table.old) descent.now }
     requires rest { IsRestOf O.meaning (in_nulls descent.now) descent.now.rest }
     ensures ok { IfOk result (λ out. IsPutOut O.meaning table.old table.new descent.now out) }
-    ensures full { IsErrOf result IndexFull → IsFull table.old (leaf_want descent.now seat) }
+    ensures full { IsErrOf result IndexFull → (descent.now.stand ≡ Empty) × IsFull table.old (leaf_want descent.now seat) }
+    ensures clock { IsErrOf result ClockFull → ⊥ }
     ensures err { OnErr result (table.new ≡ table.old) }
 {
     let leaf = leaf_of(alloc, descent)?;

@@ -1,22 +1,14 @@
-use Rattle.std.proofs.Common.{rules, ◌≡◌, ◌⊎◌, ◌<◌, Option}
-use Rattle.std.proofs.Common.{Some as Just}
-use Rattle.std.proofs.Common.{false, IfOk, OnErr, IsErrOf, length, ℕ, ◌+◌, ◌-◌, ◌*◌, ◌≤◌, ◌/◌, ◌%◌, Bool, true, nat_eq, nat_lt, List, [], ◌∷◌, ◌++◌, slice_index_or, slice_set, bit_and, bit_or, w8, w32, w64, Bor, MutBor}
-use Rattle.spg_forest.specs.Tuples.{Live}
-use Rattle.spg_forest.specs.Shape.{Shape, IsRestOf}
-use Rattle.spg_forest.specs.Sheets.{links}
-use Rattle.spg_forest.specs.Follows.{GoesBelow}
-use Rattle.spg_page.specs.Reads.{frame_in}
-use Rattle.spg_tree.specs.Table.{sheets_of, tuple_at}
-use Rattle.spg_tree.specs.Descents.{in_nulls}
-use Rattle.spg_tree.specs.declared.stand.Stand.TheVariants.{Start}
-use Rattle.spg_tree.specs.declared.stand.StepRefused.TheVariants.{IndexFull, ClockFull}
-use Rattle.spg_descend.specs.Carried.{carried, IsCarried}
-use Rattle.spg_descend.specs.Follows.{IsAtInner, tuple_place}
-use Rattle.spg_descend.specs.Puts.{Fits}
-use Rattle.spg_descend.specs.Rules.{IsAtNoInner}
-use Rattle.spg_core.specs.Stepping.{Stands, IsOutgrown, IsStepOut, named}
+use Rattle.std.proofs.Common.{◌≡◌, refl, sym, ap, ◌∙◌, subst}
+use Rattle.spg_tree.specs.Table.{Table, sheets_of, latch_at}
+use Rattle.spg_tree.specs.Descents.{Descending}
+use Rattle.spg_core.specs.Stepping.{SamePages}
+use Rattle.spg_core.proofs.Moves.{goes_same}
 use Rattle.spg_core.proofs.insert.begin.Goals as goal
 
--- src/insert.rt:34:1
 pub returns-in-Busy : goal.returns-in-Busy
-returns-in-Busy g c = ?
+returns-in-Busy g c =
+    let t = c.args.table.now in
+    let d = c.args.descent.now in
+    let (eb, held, other, et, ed) = c.in-Busy.ensures.entered in
+    let same : SamePages t c.enter_root.new.table = (ap sheets_of et, ap (λ (z : Table). z.limit) et) in
+    (held, other, ap (λ (z : Descending _). z.stand) ed ∙ c.requires.start, same, goes_same g.O.OpClass.meaning t c.enter_root.new.table d c.enter_root.new.descent same ed c.requires.stands)

@@ -1,22 +1,25 @@
-use Rattle.std.proofs.Common.{rules, ◌≡◌, ◌⊎◌, ◌<◌, Option}
-use Rattle.std.proofs.Common.{Some as Just}
-use Rattle.std.proofs.Common.{false, IfOk, OnErr, IsErrOf, length, ℕ, ◌+◌, ◌-◌, ◌*◌, ◌≤◌, ◌/◌, ◌%◌, Bool, true, nat_eq, nat_lt, List, [], ◌∷◌, ◌++◌, slice_index_or, slice_set, bit_and, bit_or, w8, w32, w64, Bor, MutBor}
-use Rattle.spg_forest.specs.Tuples.{Live}
-use Rattle.spg_forest.specs.Shape.{Shape, IsRestOf}
-use Rattle.spg_forest.specs.Sheets.{links}
-use Rattle.spg_forest.specs.Follows.{GoesBelow}
-use Rattle.spg_page.specs.Reads.{frame_in}
-use Rattle.spg_tree.specs.Table.{sheets_of, tuple_at}
-use Rattle.spg_tree.specs.Descents.{in_nulls}
-use Rattle.spg_tree.specs.declared.stand.Stand.TheVariants.{Start}
-use Rattle.spg_tree.specs.declared.stand.StepRefused.TheVariants.{IndexFull, ClockFull}
-use Rattle.spg_descend.specs.Carried.{carried, IsCarried}
-use Rattle.spg_descend.specs.Follows.{IsAtInner, tuple_place}
-use Rattle.spg_descend.specs.Puts.{Fits}
-use Rattle.spg_descend.specs.Rules.{IsAtNoInner}
-use Rattle.spg_core.specs.Stepping.{Stands, IsOutgrown, IsStepOut, named}
+use Rattle.std.proofs.Common.{◌≡◌, refl, sym, ap, ◌∙◌, subst}
+use Rattle.spg_tree.specs.Table.{Table, sheets_of}
+use Rattle.spg_descend.specs.declared.enter.Entered.{Entered}
+use Rattle.spg_descend.specs.Follows.{FollowsNode, CarriesBelow}
+use Rattle.spg_core.specs.Stepping.{SamePages, Stands}
+use Rattle.spg_core.proofs.Stands.{above_there}
+use Rattle.spg_core.proofs.Moves.{down_out}
 use Rattle.spg_core.proofs.insert.go_down.Goals as goal
+use Rattle.spg_core.proofs.insert.go_down.Goals.{then-chosen, else-chosen}
 
--- src/insert.rt:135:1
 pub returns-in-In-clause-ok : goal.returns-in-In-clause-ok
-returns-in-In-clause-ok g c = ?
+returns-in-In-clause-ok g c =
+    let t = c.args.table.now in
+    let d = c.args.descent.now in
+    let m = g.O.OpClass.meaning in
+    let t1 = c.follow.new.table in
+    let d2 = c.follow.new.descent in
+    let same : SamePages t1 c.if-chosen.table = elim c.if-chosen.branch [
+      | then-chosen w ↦ (ap sheets_of (w.table-is ∙ w.turn_counter.ensures), ap (λ (z : Table). z.limit) (w.table-is ∙ w.turn_counter.ensures))
+      | else-chosen w ↦ (ap sheets_of w.table-is, ap (λ (z : Table). z.limit) w.table-is)
+    ] in
+    let node = c.in_ok-chosen.chosen.node in
+    let rest = c.in_ok-chosen.chosen.rest in
+    down_out m t t1 c.if-chosen.table d d2 c.args.seat node rest c.requires.shape c.requires.inner c.requires.stands c.in_ok-chosen.ensures.node c.in_ok-chosen.ensures.rest c.in_ok-chosen.ensures.goes
+    (subst (λ (e : Entered). FollowsNode m t t1 d d2 c.args.seat node rest e) c.in-In.is c.in_ok-entered.ensures.ok) (subst (λ (e : Entered). CarriesBelow m t t1 d d2 node rest e) c.in-In.is c.in_ok-entered.ensures.carries) same

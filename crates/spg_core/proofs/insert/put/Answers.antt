@@ -1,30 +1,24 @@
-use Rattle.std.proofs.Common.{rules, ◌≡◌, ◌⊎◌, ◌<◌, Option}
-use Rattle.std.proofs.Common.{Some as Just}
-use Rattle.std.proofs.Common.{false, IfOk, OnErr, IsErrOf, length, ℕ, ◌+◌, ◌-◌, ◌*◌, ◌≤◌, ◌/◌, ◌%◌, Bool, true, nat_eq, nat_lt, List, [], ◌∷◌, ◌++◌, slice_index_or, slice_set, bit_and, bit_or, w8, w32, w64, Bor, MutBor}
-use Rattle.spg_forest.specs.Tuples.{Live}
-use Rattle.spg_forest.specs.Shape.{Shape, IsRestOf}
-use Rattle.spg_forest.specs.Sheets.{links}
-use Rattle.spg_forest.specs.Follows.{GoesBelow}
-use Rattle.spg_page.specs.Reads.{frame_in}
-use Rattle.spg_tree.specs.Table.{sheets_of, tuple_at}
-use Rattle.spg_tree.specs.Descents.{in_nulls}
-use Rattle.spg_tree.specs.declared.stand.Stand.TheVariants.{Start}
-use Rattle.spg_tree.specs.declared.stand.StepRefused.TheVariants.{IndexFull, ClockFull}
-use Rattle.spg_descend.specs.Carried.{carried, IsCarried}
-use Rattle.spg_descend.specs.Follows.{IsAtInner, tuple_place}
-use Rattle.spg_descend.specs.Puts.{Fits}
-use Rattle.spg_descend.specs.Rules.{IsAtNoInner}
-use Rattle.spg_core.specs.Stepping.{Stands, IsOutgrown, IsStepOut, named}
+use Rattle.std.proofs.Common.{◌≡◌, sym, ap, ◌∙◌, subst}
+use Rattle.spg_tree.specs.Table.{Table}
+use Rattle.spg_descend.specs.Leaves.{stand_block, parent_block}
+use Rattle.spg_descend.specs.Puts.{IsPutOut}
+use Rattle.spg_descend.specs.declared.put.PutOut.{PutOut}
+use Rattle.spg_core.specs.Stepping.{SamePages}
+use Rattle.spg_core.proofs.Stands.{stand_put}
+use Rattle.spg_core.proofs.Moves.{put_out, freed_same, freed_touched}
 use Rattle.spg_core.proofs.insert.put.Goals as goal
 
--- src/insert.rt:179:11
 pub put_leaf-requires-clause-spot : goal.put_leaf-requires-clause-spot
-put_leaf-requires-clause-spot g c κs within = ?
+put_leaf-requires-clause-spot g c κs within = stand_put g.O.OpClass.meaning c.args.table.now c.args.descent.now c.requires.shape c.requires.stands c.requires.elsewhere
 
--- src/insert.rt:179:11
-pub returns-in_err-put_leaf-clause-full : goal.returns-in_err-put_leaf-clause-full
-returns-in_err-put_leaf-clause-full g c = ?
-
--- src/insert.rt:163:1
 pub returns-clause-ok : goal.returns-clause-ok
-returns-clause-ok g c = ?
+returns-clause-ok g c =
+    let t = c.args.table.now in
+    let d = c.args.descent.now in
+    let t1 = c.put_leaf.new.table in
+    let a = stand_block d.stand in
+    let b = parent_block d.parent in
+    let same : SamePages t1 c.release_latches.new.table = subst (λ (z : Table). SamePages t1 z) (sym c.release_latches.ensures.table) (freed_same t1 a b c.args.seat) in
+    let touched = ap (λ (z : Table). z.touched) c.release_latches.ensures.table ∙ freed_touched t1 a b c.args.seat in
+    let (fits, puts, quiet) = subst (λ (o : PutOut). IsPutOut g.O.OpClass.meaning t t1 d o) c.in-Put.is c.in_ok-put_leaf.ensures.ok in
+    put_out g.O.OpClass.meaning t t1 c.release_latches.new.table d d c.args.seat c.requires.elsewhere puts quiet same touched

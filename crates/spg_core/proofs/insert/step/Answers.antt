@@ -1,22 +1,5 @@
-use Rattle.std.proofs.Common.{rules, ◌≡◌, ◌⊎◌, ◌<◌, Option}
-use Rattle.std.proofs.Common.{Some as Just}
-use Rattle.std.proofs.Common.{false, IfOk, OnErr, IsErrOf, length, ℕ, ◌+◌, ◌-◌, ◌*◌, ◌≤◌, ◌/◌, ◌%◌, Bool, true, nat_eq, nat_lt, List, [], ◌∷◌, ◌++◌, slice_index_or, slice_set, bit_and, bit_or, w8, w32, w64, Bor, MutBor}
-use Rattle.spg_forest.specs.Tuples.{Live}
-use Rattle.spg_forest.specs.Shape.{Shape, IsRestOf}
-use Rattle.spg_forest.specs.Sheets.{links}
-use Rattle.spg_forest.specs.Follows.{GoesBelow}
-use Rattle.spg_page.specs.Reads.{frame_in}
-use Rattle.spg_tree.specs.Table.{sheets_of, tuple_at}
-use Rattle.spg_tree.specs.Descents.{in_nulls}
-use Rattle.spg_tree.specs.declared.stand.Stand.TheVariants.{Start}
-use Rattle.spg_tree.specs.declared.stand.StepRefused.TheVariants.{IndexFull, ClockFull}
-use Rattle.spg_descend.specs.Carried.{carried, IsCarried}
-use Rattle.spg_descend.specs.Follows.{IsAtInner, tuple_place}
-use Rattle.spg_descend.specs.Puts.{Fits}
-use Rattle.spg_descend.specs.Rules.{IsAtNoInner}
-use Rattle.spg_core.specs.Stepping.{Stands, IsOutgrown, IsStepOut, named}
+use Rattle.spg_core.proofs.Moves.{there_of}
 use Rattle.spg_core.proofs.insert.step.Goals as goal
 
--- src/insert.rt:236:11
 pub rule_at-requires-clause-there : goal.rule_at-requires-clause-there
-rule_at-requires-clause-there g c κs within = ?
+rule_at-requires-clause-there g c κs within = there_of g.O.OpClass.meaning c.args.table.now c.args.descent.now c.requires.shape c.requires.stands

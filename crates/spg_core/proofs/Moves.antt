@@ -1,0 +1,155 @@
+-- What comes of a section of an insert.
+use Rattle.std.proofs.Common.{◌≡◌, ℕ, ◌<◌, Bool, true, false, List, [], ◌∷◌, ◌⊎◌, ⊎_elim, Option, Some, None, get_or, length, refl, sym, ap, ◌∙◌, subst, inl, inr, arith, cond}
+use Rattle.spg_opclass.specs.Meaning.{Meaning}
+use Rattle.spg_forest.specs.View.{Place}
+use Rattle.spg_forest.specs.Spot.{Frame}
+use Rattle.spg_forest.specs.Tuples.{Live}
+use Rattle.spg_forest.specs.Sheets.{Sheets, sheet_at, links}
+use Rattle.spg_forest.specs.Shape.{Shape, IsRestOf}
+use Rattle.spg_forest.specs.Section.{Adds, Cost}
+use Rattle.spg_forest.specs.Follows.{GoesBelow}
+use Rattle.spg_page.specs.Reads.{frame_in}
+use Rattle.spg_tree.specs.Table.{Table, sheets_of, tuple_at, latch_at, with_latch, with_touched}
+use Rattle.spg_tree.specs.Descents.{Descending, in_nulls}
+use Rattle.spg_tree.specs.declared.stand.Stand.{Stand}
+use Rattle.spg_tree.specs.declared.stand.Stand.TheVariants.{Start, Root, At, Empty}
+use Rattle.spg_descend.specs.Carried.{carried, root_of, IsCarried}
+use Rattle.spg_descend.specs.Leaves.{released, stand_block, parent_block, is_held}
+use Rattle.spg_descend.specs.Follows.{IsAtInner, tuple_place, link_of, stand_below, latched, left_behind, table_below, FollowsNode, CarriesBelow}
+use Rattle.spg_descend.specs.Puts.{IsAtLeaves, IsAtEmpty, Fits, IsQuiet, PutsCarried, cost_at}
+use Rattle.spg_descend.specs.Rules.{IsThere, IsAtNoInner}
+use Rattle.spg_descend.specs.declared.enter.Entered.TheVariants.{In, Busy}
+use Rattle.spg_descend.proofs.Starts.{spots_are_there}
+use Rattle.spg_split.specs.Splits.{IsAtRoot, IsCalm, PartsWith, split_cost}
+use Rattle.spg_core.specs.declared.answer.InsertOut.TheVariants as outs
+use Rattle.spg_core.specs.Stepping.{HasInnerRoot, StandsAt, Stands, SamePages, GoesOn, IsRootFull, IsOutgrown, RootsGrow, IsStepOut}
+use Rattle.spg_core.proofs.Stands.{root_range, stand_put, stands_same, child_stands, released_same, latched_same, same_trans, root_leaf}
+
+pub released_touched : (t : Table) (b : Option ℕ) (seat : ℕ) → (released t b seat).touched ≡ t.touched
+released_touched t None seat = refl
+released_touched t (Some b) seat = elim (is_held (latch_at t b) seat) as (λ h. (cond h (with_latch t b None) t).touched ≡ t.touched) [ true ↦ refl | false ↦ refl ]
+
+-- with the same pages an insert that stays goes on
+pub goes_same : {Key Recon Cond : Type 0} (m : Meaning Key Recon Cond) (t t2 : Table) (d d2 : Descending Recon) → SamePages t t2 → d2 ≡ d → Stands t d → GoesOn m t t2 d d2
+goes_same {Key} m t t2 d d2 same e at = subst (λ (z : Descending _). GoesOn m t t2 d z) (sym e)
+    (refl, refl, stands_same t t2 (in_nulls d) d.stand d.parent same at, λ key C. subst (λ (S : Sheets). IsCarried m S d key) (sym same.0) C)
+
+below_same : {Recon : Type 0} (t : Table) (d : Descending Recon) (x : Place) (st : Stand) (seat : ℕ) → SamePages t (table_below t d x st seat)
+below_same t d x st seat = same_trans t (latched t (stand_block st) seat) (table_below t d x st seat) (latched_same t (stand_block st) seat)
+    (released_same (latched t (stand_block st) seat) (left_behind (parent_block d.parent) x.block (stand_block st)) seat)
+
+-- an insert that has followed a node
+pub down_out : {Key Recon Cond : Type 0} (m : Meaning Key Recon Cond) (t t1 t2 : Table) (d d2 : Descending Recon) (seat node : ℕ) (rest : List ℕ) → Shape m (sheets_of t) → IsAtInner t d.stand → Stands t d → node < length (links (tuple_at t (tuple_place d.stand))) →
+    IsRestOf m (in_nulls d) rest → ((key : Option Key) → IsCarried m (sheets_of t) d key → GoesBelow m d.recon (frame_in (tuple_at t (tuple_place d.stand))) node rest key) →
+    FollowsNode m t t1 d d2 seat node rest In → CarriesBelow m t t1 d d2 node rest In → SamePages t1 t2 → IsStepOut m t t2 d d2 seat outs.Descended
+down_out {Key} {Recon} m t t1 t2 d d2 seat node rest H i at n R G (free, et, ed) carries same =
+    let x : Place = tuple_place d.stand in
+    let s1 : SamePages t t1 = subst (λ (z : Table). SamePages t z) (sym et) (below_same t d x (stand_below (link_of t x node)) seat) in
+    let s2 : SamePages t t2 = same_trans t t1 t2 s1 same in
+    let stands : StandsAt t (in_nulls d) (stand_below (link_of t x node)) (Some (x, node)) = child_stands m t (in_nulls d) d.stand d.parent node H at i n in
+    (inr i, s2, (ap (λ (z : Descending Recon). z.row) ed, ap (λ (z : Descending Recon). in_nulls z) ed,
+    subst (λ (z : Descending Recon). Stands t2 z) (sym ed) (stands_same t t2 (in_nulls d) (stand_below (link_of t x node)) (Some (x, node)) s2 stands),
+    λ key C. subst (λ (S : Sheets). IsCarried m S d2 key) (sym same.0) (carries key R (G key C) C)))
+
+-- what the insert stands on is there
+pub there_of : {Key Recon Cond : Type 0} (m : Meaning Key Recon Cond) (t : Table) (d : Descending Recon) → Shape m (sheets_of t) → Stands t d → IsThere t d.stand
+there_of {Key} {Recon} m t d H at = go d.stand d.parent refl refl at
+  where
+    go : (st : Stand) (p : Option (Place × ℕ)) → d.stand ≡ st → d.parent ≡ p → StandsAt t (in_nulls d) st p → IsThere t st
+    go Start p e q a = tt
+    go (Root b) p e q (f, g) = subst (λ (c : ℕ). c < 3) (sym f) (root_range (in_nulls d)).1
+    go (At x) None e q a = absurd a
+    go (At x) (Some (p, j)) e q (a, b, c, k) = subst (λ (s : Stand). IsThere t s) e (spots_are_there m t d H
+        (⊎_elim (λ z. inl (subst (λ (s : Stand). IsAtInner t s) (sym e) z)) (λ z. inr (inl (subst (λ (s : Stand). IsAtLeaves (sheets_of t) (in_nulls d) s) (sym e) z))) k))
+    go Empty p e q a = tt
+
+-- at an empty downlink the root is an inner tuple
+pub empty_outgrown : {Recon : Type 0} (t : Table) (d : Descending Recon) → Stands t d → d.stand ≡ Empty → IsOutgrown t d
+empty_outgrown t d at e = inl (subst (λ (s : Stand). StandsAt t (in_nulls d) s d.parent) e at).0
+
+-- below the root it is one too
+pub below_outgrown : {Recon : Type 0} (t : Table) (d : Descending Recon) → Stands t d → IsAtNoInner t d.stand → (IsAtRoot d.stand → ⊥) → IsOutgrown t d
+below_outgrown t d at off low = inl (go d.stand d.parent at off.0 low)
+  where
+    go : (st : Stand) (p : Option (Place × ℕ)) → StandsAt t (in_nulls d) st p → (st ≡ Start → ⊥) → (IsAtRoot st → ⊥) → HasInnerRoot t (in_nulls d)
+    go Start p a n l = absurd (n refl)
+    go (Root b) p a n l = absurd (l tt)
+    go (At x) None a n l = absurd a
+    go (At x) (Some (p, j)) a n l = a.0
+    go Empty p a n l = a.0
+
+-- at a root leaf page on which the leaf has no room
+pub root_full : {Key Recon Cond : Type 0} (m : Meaning Key Recon Cond) (t : Table) (d : Descending Recon) → Shape m (sheets_of t) → Stands t d → IsAtNoInner t d.stand → (Fits t d.stand (Live (carried d) 0) → ⊥) → IsAtRoot d.stand → IsRootFull t d
+root_full {Key} {Recon} m t d H at off room low = go d.stand refl d.parent at low
+  where
+    go : (st : Stand) → d.stand ≡ st → (p : Option (Place × ℕ)) → StandsAt t (in_nulls d) st p → IsAtRoot st → IsRootFull t d
+    go Start q p a l = absurd l
+    go (Root b) q p (e, f) l =
+        let q2 : d.stand ≡ Root (root_of (in_nulls d)) = q ∙ ap Root e in
+        let no_inner : IsAtInner t (Root (root_of (in_nulls d))) → ⊥ = subst (λ (s : Stand). IsAtInner t s → ⊥) q2 off.1 in
+        (q2, root_leaf m t (root_of (in_nulls d)) H (root_range (in_nulls d)).0 (root_range (in_nulls d)).1 no_inner, subst (λ (s : Stand). Fits t s (Live (carried d) 0) → ⊥) q2 room)
+    go (At x) q p a l = absurd l
+    go Empty q p a l = absurd l
+
+-- an insert at a root leaf page
+pub root_leaves : {Key Recon Cond : Type 0} (m : Meaning Key Recon Cond) (t : Table) (d : Descending Recon) → Shape m (sheets_of t) → Stands t d → IsAtNoInner t d.stand → IsAtRoot d.stand → IsAtLeaves (sheets_of t) (in_nulls d) d.stand
+root_leaves {Key} {Recon} m t d H at off low = ⊎_elim (λ a. a) (λ a. absurd (go d.stand low a)) (stand_put m t d H at off)
+  where
+    go : (st : Stand) → IsAtRoot st → IsAtEmpty (sheets_of t) (in_nulls d) st d.parent → ⊥
+    go Start l a = l
+    go (Root b) l a = a
+    go (At x) l a = l
+    go Empty l a = l
+
+-- an insert whose leaf was put where it fits
+pub put_out : {Key Recon Cond : Type 0} (m : Meaning Key Recon Cond) (t t1 t2 : Table) (d d2 : Descending Recon) (seat : ℕ) → IsAtNoInner t d.stand → PutsCarried m t t1 d → IsQuiet t t1 → SamePages t1 t2 → t2.touched ≡ t1.touched → IsStepOut m t t2 d d2 seat outs.Put
+put_out {Key} {Recon} m t t1 t2 d d2 seat off puts quiet (eS, el) et = (off,
+    (λ key C. (cost_at d.stand, subst (λ (bs : List ℕ). Adds m (sheets_of t) (sheets_of t2) bs (cost_at d.stand) d.row key (λ x. x)) (sym et)
+    (subst (λ (S : Sheets). Adds m (sheets_of t) S t1.touched (cost_at d.stand) d.row key (λ x. x)) (sym eS) (puts key C)))),
+    el ∙ quiet.limit,
+    λ nulls h. inl (sym (quiet.roots (root_of nulls) (root_range nulls).1) ∙ ap (λ (S : Sheets). (sheet_at S (root_of nulls)).inner) (sym eS) ∙ h))
+
+root_other : (a b : Bool) → (root_of a ≡ root_of b) → a ≡ b
+root_other true true e = refl
+root_other true false e = absurd (omega arith)
+root_other false true e = absurd (omega arith)
+root_other false false e = refl
+
+-- which roots a division makes inner tuples
+pub calm_grow : {Recon : Type 0} (t t1 t2 : Table) (d : Descending Recon) → IsCalm t t1 d.stand → SamePages t1 t2 → IsRootFull t d → RootsGrow t t2 d
+calm_grow t t1 t2 d calm (eS, el) full nulls h = go nulls (in_nulls d) refl
+  where
+    same_kind : (Root (root_of (in_nulls d)) ≡ Root (root_of nulls) → ⊥) → HasInnerRoot t nulls
+    same_kind n = sym (calm.roots (root_of nulls) (root_range nulls).1 (λ e. n (sym full.0 ∙ e))) ∙ ap (λ (S : Sheets). (sheet_at S (root_of nulls)).inner) (sym eS) ∙ h
+
+    root_same : (a b : ℕ) → Root a ≡ Root b → a ≡ b
+    root_same a b e = cc
+
+    go : (a b : Bool) → in_nulls d ≡ b → HasInnerRoot t nulls ⊎ ((nulls ≡ in_nulls d) × IsRootFull t d)
+    go a b e = pick (same_bool nulls (in_nulls d))
+      where
+        same_bool : (u v : Bool) → (u ≡ v) ⊎ (u ≡ v → ⊥)
+        same_bool true true = inl refl
+        same_bool true false = inr (λ q. cc)
+        same_bool false true = inr (λ q. cc)
+        same_bool false false = inl refl
+
+        pick : (nulls ≡ in_nulls d) ⊎ (nulls ≡ in_nulls d → ⊥) → HasInnerRoot t nulls ⊎ ((nulls ≡ in_nulls d) × IsRootFull t d)
+        pick (inl q) = inr (q, full)
+        pick (inr n) = inl (same_kind (λ e. n (sym (root_other (in_nulls d) nulls (root_same (root_of (in_nulls d)) (root_of nulls) e)))))
+
+-- an insert whose leaf was put by a division
+pub part_out : {Key Recon Cond : Type 0} (m : Meaning Key Recon Cond) (t t1 t2 : Table) (d d2 : Descending Recon) (seat : ℕ) → IsAtNoInner t d.stand → PartsWith m t t1 d → IsCalm t t1 d.stand → IsRootFull t d → SamePages t1 t2 → t2.touched ≡ t1.touched →
+    IsStepOut m t t2 d d2 seat outs.Put
+part_out {Key} {Recon} m t t1 t2 d d2 seat off parts calm full (eS, el) et = (off,
+    (λ key C. (split_cost d.stand 1, subst (λ (bs : List ℕ). Adds m (sheets_of t) (sheets_of t2) bs (split_cost d.stand 1) d.row key (λ x. x)) (sym et)
+    (subst (λ (S : Sheets). Adds m (sheets_of t) S t1.touched (split_cost d.stand 1) d.row key (λ x. x)) (sym eS) (parts key C)))),
+    el ∙ calm.limit,
+    calm_grow t t1 t2 d calm (eS, el) full)
+
+-- latches given free leave the pages and what was touched as they are
+pub freed_same : (t : Table) (a b : Option ℕ) (seat : ℕ) → SamePages t (released (released t a seat) b seat)
+freed_same t a b seat = same_trans t (released t a seat) (released (released t a seat) b seat) (released_same t a seat) (released_same (released t a seat) b seat)
+
+pub freed_touched : (t : Table) (a b : Option ℕ) (seat : ℕ) → (released (released t a seat) b seat).touched ≡ t.touched
+freed_touched t a b seat = released_touched (released t a seat) b seat ∙ released_touched t a seat
