@@ -1,3 +1,4 @@
 pub mod Stands
 pub mod Chooses
 pub mod Weights
+pub mod Founds
