@@ -1,0 +1,30 @@
+use Rattle.std.proofs.Common.{rules, ◌≡◌, ◌≢◌, ◌<◌, ◌≤◌, ◌+◌, ◌↔◌, ◌⊎◌, [], ℕ, true, false, Option, Some, None, IfOk, OnOk, OnErr, IsErrOf, IsTrue, ◌-◌, ◌*◌, length, ◌/◌, ◌%◌, Bool, nat_eq, nat_lt, List, ◌∷◌, ◌++◌, slice_index_or, slice_set, bit_and, bit_or, Fits, w8, w32, w64, Bor, MutBor}
+use Rattle.spg_base.specs.declared.recorded.Origin.{Origin}
+use Rattle.spg_forest.specs.Shape.{Represents}
+use Rattle.spg_forest.specs.Walk.{weight_of}
+use Rattle.spg_rows.specs.Rows.{is_claimed}
+use Rattle.spg_rows.specs.Right.{Right}
+use Rattle.spg_rows.specs.declared.table.RowState.TheVariants as row_state
+use Rattle.spg_rows.specs.declared.event.Event.TheVariants as event
+use Rattle.spg_rows.specs.History.{open_of}
+use Rattle.spg_tree.specs.Table.{Table, sheets_of, start_table}
+use Rattle.spg_core.specs.Stage.{free, IsInserting, IsRead, IsStageOf, held_count, given_up, kind_of}
+use Rattle.spg_core.specs.Seen.{stage_at, past_of, IsPresentWith}
+use Rattle.spg_core.specs.Sections.{IsNew, OpensInsert, IsInsertOut, IsHeavy, OpensScan, ReadsItem, ClosesScan, GivesUp}
+use Rattle.spg_core.proofs.state.State.abandon.Goals as goal
+
+-- src/state.rt:246:9
+pub release_slot-requires-after_bounds : goal.release_slot-requires-after_bounds
+release_slot-requires-after_bounds g c κs within = ?
+
+-- src/state.rt:247:9
+pub append-requires-after_bounds : goal.append-requires-after_bounds
+append-requires-after_bounds g c κs within = ?
+
+-- src/state.rt:240:5
+pub invariant_of-self : goal.invariant_of-self
+invariant_of-self g c = ?
+
+-- src/state.rt:240:5
+pub returns : goal.returns
+returns g c = ?
