@@ -5,3 +5,4 @@ pub mod Weights
 pub mod Founds
 pub mod Slots
 pub mod Steps
+pub mod Inserts

@@ -152,6 +152,22 @@ module _ {O Key Recon Cond : Type 0} (m : Meaning Key Recon Cond) where
     limit = kept.limit;
   })
 
+  -- the same table and slots
+  pub kept_still : (s : Inside O Key Recon Cond) → IsKept m s → (table : pages.Table) (slots : Vec (Slot O Key Recon Cond) Global) → table ≡ s.table → slots.items ≡ s.slots.items → IsKept m (with_fields s table s.rows slots s.journal)
+  kept_still s kept table slots same items = rw same (record {
+    right = kept.right;
+    holds = kept.holds;
+    heavy = kept.heavy;
+    seats = rw items kept.seats;
+    slots = rw items kept.slots;
+    alone = rw items kept.alone;
+    states = kept.states;
+    keys = kept.keys;
+    room = rw items kept.room;
+    plain = kept.plain;
+    limit = kept.limit;
+  })
+
   -- room is left for the event that ends an operation
   pub room_left : (s : Inside O Key Recon Cond) → IsKept m s → (seat : ℕ) → is_open (get_or s.slots.items seat Free) ≡ true → 0 < s.journal.spare
   room_left s kept seat was = omega (arith, kept.room, open_count-closed s.slots.items seat was)

@@ -13,7 +13,7 @@ ghost use Rattle.spg_core.specs.Seen.{stage_at, past_of, IsPresentWith};
 ghost use Rattle.spg_core.specs.Sections.{IsNew, OpensInsert, IsInsertOut, IsHeavy, OpensScan, ReadsItem, ClosesScan, GivesUp};
 
 use crate::answer::{InsertOut, OpenKind, OpenRefused};
-use crate::operations::{close_slot, read_slot, release_slot, step_slot};
+use crate::operations::{close_slot, end_insert, read_slot, release_slot, step_slot};
 use crate::slot::{SEATS, Slot, free_slots, give_up, kind, set_slot, slot_at};
 use spg_base::{Memory, Origin, Recorded, Row, Same, SeatNo, Stamp};
 use spg_descend::open_descent;
@@ -175,13 +175,10 @@ impl<O: OpClass> State<O> {
             &mut self.slots,
             seat,
         )?;
-        if out == InsertOut::Put {
-            let slot = set_slot(&mut self.slots, seat, Slot::Free);
-            if let Slot::Insert { descent, .. } = &slot {
-                let row = descent.row();
-                self.rows.put(row);
-                self.journal.append(Event::Put { seat, row });
-            }
+        if has_ended(&out) {
+            let row = end_insert(&mut self.slots, seat);
+            self.rows.put(row);
+            self.journal.append(Event::Put { seat, row });
         }
         Ok(out)
     }
@@ -256,6 +253,13 @@ fn copy_key<O: OpClass>(key: &Option<O::Key>) -> Result<Option<O::Key>, Memory>
         None => Ok(None),
         Some(key) => Ok(Some(key.copy()?)),
     }
+}
+
+/// Whether the row was put, so that the insert has ended.
+fn has_ended(out: &InsertOut) -> bool
+    ensures { IsTrue result ↔ (out.now ≡ InsertOut.Put) }
+{
+    matches!(out, InsertOut::Put)
 }
 
 fn is_free(state: RowState) -> bool
