@@ -6,3 +6,4 @@ pub mod Founds
 pub mod Slots
 pub mod Steps
 pub mod Inserts
+pub mod Opens
