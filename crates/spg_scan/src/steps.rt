@@ -1,5 +1,5 @@
 // What a read does, by what stands at the item's place.
-ghost use Rattle.std.specs.Prelude.{◌≡◌, ◌<◌, ◌++◌, ◌∷◌, ◌+◌, [], length, map, take, drop, OnOk, OnErr};
+ghost use Rattle.std.specs.Prelude.{◌≡◌, ◌<◌, ◌++◌, ◌∷◌, ◌+◌, [], length, take, drop, Option, OnOk, OnErr};
 ghost use Rattle.spg_forest.specs.Links.{leaves_on};
 ghost use Rattle.spg_forest.specs.Pages.{tuple_on};
 ghost use Rattle.spg_forest.specs.Shape.{Shape};
