@@ -1,1 +1,3 @@
 mod Gathers
+mod Ascending
+mod Replacing

@@ -34,7 +34,7 @@ pub struct Scan<O: OpClass> {
 }
 
 impl<O: OpClass> Model for Scan<O> {
-    ghost use Rattle.std.specs.Prelude.{map};
+    ghost use Rattle.std.specs.Prelude.{map, ◌<◌, ◌^◌};
     ghost use Rattle.spg_scan.specs.Scanning.{Scanning};
     ghost use Rattle.spg_scan.specs.Held.{item_of};
 
@@ -48,6 +48,8 @@ impl<O: OpClass> Model for Scan<O> {
       rows = s.rows.items;
       met = s.met;
     } };
+
+    ghost invariant = { λ s. s.met < 2 ^ 64 };
 }
 
 /// The root on a block.
