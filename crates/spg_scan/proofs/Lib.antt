@@ -1,3 +1,5 @@
 mod Gathers
 mod Ascending
 mod Replacing
+mod Stands
+mod Readings

@@ -1,7 +1,7 @@
 -- Items in the place of one.
 use Rattle.std.proofs.Common.{◌≡◌, ℕ, zero, suc, ◌+◌, ◌-◌, ◌<◌, ◌≤◌, min, List, [], ◌∷◌, ◌++◌, Option, Some, map, set, get_or, take, drop, length, length-append, length-take-le, length-drop, refl, sym, ap, ap₂, ◌∙◌, arith, subst}
 use Rattle.std.proofs.lemmas.List.{map-append, take-map, drop-map, take_all, take_at, take-append-le, drop_at, drop-append-le, drop_all, append-nil, length-map}
-use Rattle.std.proofs.lemmas.Option.{get_or_from_slice_get}
+use Rattle.std.proofs.lemmas.Option.{get_or_from_slice_get, slice_get_read}
 use borrow.Rule.Slice.PartMut.{post_of}
 use Rattle.spg_opclass.specs.declared.query.Query.{Query}
 use Rattle.spg_base.specs.Row.{RowAt}
@@ -64,3 +64,10 @@ module _ {O Key Recon Cond : Type 0} where
   item_is query at stamp items rows met i s h e g x r a =
       let b : IsItem (map item_of items) i x r = subst (λ (z : Scanning O Key Recon Cond). IsItem z.items i x r) (sym e) a in
       ap item_of g ∙ sym (get_or-map item_of items i h) ∙ get_or_from_slice_get (map item_of items) i (x, r) (item_of h) b
+
+  pub item_here : (query : Query O Key Recon Cond) (at stamp : ℕ) (items : List (Held O Key Recon Cond)) (rows : List RowAt) (met i : ℕ) (s : Scanning O Key Recon Cond) (h : Held O Key Recon Cond) → scan_as query at stamp items rows met ≡ s → h ≡ get_or items i h →
+      i < length s.items → IsItem s.items i h.place h.recon
+  item_here query at stamp items rows met i s h e g b =
+      let n : length s.items ≡ length (map item_of items) = ap (λ (z : Scanning O Key Recon Cond). length z.items) (sym e) in
+      subst (λ (z : Scanning O Key Recon Cond). IsItem z.items i h.place h.recon) e
+      (slice_get_read (map item_of items) (length s.items) i (item_of h) n b (ap item_of g ∙ sym (get_or-map item_of items i h)))

@@ -1,12 +1,12 @@
 -- Words of the parts of a read.
-use Rattle.std.specs.Prelude.{◌≡◌, ℕ, ◌≤◌, ◌<◌, true, List, [], ◌∷◌, Option, Some, None, IsSome, All}
+use Rattle.std.specs.Prelude.{◌≡◌, ℕ, ◌≤◌, ◌<◌, Bool, true, false, List, [], ◌∷◌, Option, Some, None, IsSome, All}
 use Rattle.spg_opclass.specs.Meaning.{Meaning, is_tuple}
 use Rattle.spg_opclass.specs.declared.query.Query.{Query}
 use Rattle.spg_forest.specs.View.{Place, Leaf}
 use Rattle.spg_forest.specs.Spot.{Frame}
 use Rattle.spg_forest.specs.Classes.{key_of, down_of}
 use Rattle.spg_forest.specs.Shape.{AreNodes}
-use Rattle.spg_forest.specs.Tuples.{Tuple}
+use Rattle.spg_forest.specs.Tuples.{Tuple, Inner, Live, Dead, Redirect, Placeholder}
 use Rattle.spg_forest.specs.Pages.{tuple_on}
 use Rattle.spg_forest.specs.Sheets.{links}
 use Rattle.spg_forest.specs.Walk.{children_at, followed, met_at}
@@ -42,3 +42,12 @@ ReadsLeaves {O} {Key} {Recon} m table s s2 i ls = (x : Place) (r : Option Recon)
 
 abbrev pub ReadsForward : {O Key Recon Cond : Type 0} → Scanning O Key Recon Cond → Scanning O Key Recon Cond → ℕ → Place → Type 0
 ReadsForward {O} {Key} {Recon} s s2 i y = (x : Place) (r : Option Recon) → IsItem s.items i x r → s2 ≡ replaced s i ((y, r) ∷ []) [] 0
+
+-- the first tuple of the page is an inner one
+abbrev pub starts_inner : List Tuple → Bool
+starts_inner [] = false
+starts_inner (Inner w ns ∷ ts) = true
+starts_inner (Live l n ∷ ts) = false
+starts_inner (Dead ∷ ts) = false
+starts_inner (Redirect y u ∷ ts) = false
+starts_inner (Placeholder ∷ ts) = false

@@ -11,7 +11,7 @@ ghost use Rattle.spg_chain.specs.Chains.{chain_members, leaves_of};
 ghost use Rattle.spg_tree.specs.Table.{sheets_of};
 ghost use Rattle.spg_scan.specs.Held.{item_of};
 ghost use Rattle.spg_scan.specs.Scanning.{IsItem, IsHeld, Reads, replaced};
-ghost use Rattle.spg_scan.specs.Reading.{CanFollow, HaveKeys, AreLive, ReadsInner, ReadsLeaves, ReadsForward};
+ghost use Rattle.spg_scan.specs.Reading.{starts_inner, CanFollow, HaveKeys, AreLive, ReadsInner, ReadsLeaves, ReadsForward};
 
 use crate::children::children_of;
 use crate::leaves::{take_chain, take_page};
@@ -38,6 +38,16 @@ fn put_in_place<O: OpClass>(
     items.remove(at);
     items[at..].rotate_left(behind);
     Ok(())
+}
+
+/// Whether the first tuple of a page is an inner one.
+fn starts_inner(page: &Page) -> bool
+    ensures { result ≡ starts_inner page.now.tuples }
+{
+    if page.count() == 0 {
+        return false;
+    }
+    page.kind_at(Offset(1)) == TupleKind::Inner
 }
 
 impl<O: OpClass> Scan<O> {
@@ -145,12 +155,11 @@ impl<O: OpClass> Scan<O> {
         ensures err { OnErr result (self.new ≡ self.old) }
     {
         let page = table.page(place.block);
-        let first = Offset(1);
-        let some = page.count() != 0;
-        if some && page.kind_at(first) == TupleKind::Inner {
-            return self.read_inner(alloc, class, page, first, item);
+        if starts_inner(page) {
+            self.read_inner(alloc, class, page, Offset(1), item)
+        } else {
+            self.read_leaf_root(alloc, class, rows, page, item)
         }
-        self.read_leaf_root(alloc, class, rows, page, item)
     }
 
     /// Reads the item of a place that is no root.
