@@ -19,4 +19,7 @@ returns-clause-ok g c =
     let h = c.index.result.now in
     let now = c.args.self.now in
     let ls = leaves_of (chain_members c.args.page.now.tuples c.args.head) in
-    ?
+    IfOk-weaker c.take.result (λ _. c.take.new.self ≡ replaced now c.args.item [] c.as_slice.result.now c.in_ok-taken.taken.met) (λ _. ReadsLeaves g.O.OpClass.meaning c.args.table.now now c.take.new.self c.args.item ls)
+    (λ _ after. chain_taken g.O.OpClass.meaning c.args.table.now now c.take.new.self c.args.item ls c.as_slice.result.now c.in_ok-taken.taken.rows c.in_ok-taken.taken.met s.query h.recon
+    (ap (λ v. v.query) c.self.view_is) c.in_ok-taken.ensures.rows c.as_slice.ensures c.in_ok-taken.ensures.met
+    (λ x r a. ap (λ v. v.1) (item_is s.query s.at s.stamp s.items.items s.rows.items s.met c.args.item now h c.self.view_is c.index.ensures x r a)) after c.requires.some) c.take.ensures.ok

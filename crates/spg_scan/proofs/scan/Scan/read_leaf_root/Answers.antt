@@ -14,4 +14,12 @@ take_page-requires-clause-keys g c κs within =
     c.requires.keys h.place h.recon (item_here s.query s.at s.stamp s.items.items s.rows.items s.met c.args.item c.args.self.now h c.self.view_is c.index.ensures c.requires.item)
 
 pub returns-clause-ok : goal.returns-clause-ok
-returns-clause-ok g c = ?
+returns-clause-ok g c =
+    let s = c.self.inside in
+    let h = c.index.result.now in
+    let now = c.args.self.now in
+    let ls = leaves_on c.args.page.now.tuples in
+    IfOk-weaker c.take.result (λ _. c.take.new.self ≡ replaced now c.args.item [] c.as_slice.result.now c.in_ok-taken.taken.met) (λ _. ReadsLeaves g.O.OpClass.meaning c.args.table.now now c.take.new.self c.args.item ls)
+    (λ _ after. root_taken g.O.OpClass.meaning c.args.table.now now c.take.new.self c.args.item ls c.as_slice.result.now c.in_ok-taken.taken.rows c.in_ok-taken.taken.met s.query h.recon
+    (ap (λ v. v.query) c.self.view_is) c.in_ok-taken.ensures.rows c.as_slice.ensures c.in_ok-taken.ensures.met
+    (λ x r a. ap (λ v. v.1) (item_is s.query s.at s.stamp s.items.items s.rows.items s.met c.args.item now h c.self.view_is c.index.ensures x r a)) after c.requires.root) c.take.ensures.ok
