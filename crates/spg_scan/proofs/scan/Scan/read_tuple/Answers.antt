@@ -1,4 +1,5 @@
-use Rattle.std.proofs.Common.{◌≡◌, [], List, Option, refl, sym, ap, ◌∙◌}
+use Rattle.std.proofs.Common.{◌≡◌, [], List, Option, refl, sym, ap, ◌∙◌, subst}
+use Rattle.spg_forest.specs.View.{Place}
 use Rattle.std.proofs.lemmas.Result.{IfOk-weaker}
 use Rattle.spg_forest.specs.Pages.{tuple_on}
 use Rattle.spg_chain.specs.Chains.{chain_members, leaves_of}
@@ -55,7 +56,18 @@ returns-in-Leaf-clause-ok g c =
     (sym c.kind_at.ensures.value ∙ c.in-Leaf.is) R) c.read_chain.ensures.ok
 
 pub returns-in-Dead-clause-ok : goal.returns-in-Dead-clause-ok
-returns-in-Dead-clause-ok g c = ?
+returns-in-Dead-clause-ok g c =
+    let m = g.O.OpClass.meaning in
+    let now = c.args.self.now in
+    let new = c.take.new.self in
+    IfOk-weaker c.take.result (λ _. new ≡ replaced now c.args.item [] [] 1) (λ _. Reads m (sheets_of c.args.table.now) c.args.rows.now now new c.args.item)
+    (λ _ after. dead_read m (sheets_of c.args.table.now) c.requires.shape now c.args.item c.requires.held c.requires.item c.args.place c.requires.place c.page-page.result.now c.page-page.ensures c.requires.high c.args.rows.now new
+    (sym c.kind_at.ensures.value ∙ c.in-Dead.is) [] refl after) c.take.ensures.ok
 
 pub returns-in-Redirect-clause-ok : goal.returns-in-Redirect-clause-ok
-returns-in-Redirect-clause-ok g c = ?
+returns-in-Redirect-clause-ok g c =
+    let m = g.O.OpClass.meaning in
+    let now = c.args.self.now in
+    let new = c.go_on.new.self in
+    forward_read m (sheets_of c.args.table.now) c.requires.shape now c.args.item c.requires.held c.requires.item c.args.place c.requires.place c.page-page.result.now c.page-page.ensures c.requires.high c.args.rows.now new
+    (sym c.kind_at.ensures.value ∙ c.in-Redirect.is) (subst (λ (y : Place). ReadsForward now new c.args.item y) c.target_at.ensures.value c.go_on.ensures)
