@@ -65,9 +65,9 @@ at_most_one r (x ∷ xs) (n, d) = ⊎_elim
 distinct_from : (xs : List RowAt) → ((r : RowAt) → sum_by (one r) xs ≤ 1) → AreDistinct xs
 distinct_from [] h = tt
 distinct_from (x ∷ xs) h = (
-      λ k. let a = one_same x x refl in let b = some_there x xs k in let c = sum_by-cons (one x) x xs in let d = h x in absurd (omega arith),
-      distinct_from xs (λ r. let c = sum_by-cons (one r) x xs in let d = h r in omega arith),
-    )
+  λ k. let a = one_same x x refl in let b = some_there x xs k in let c = sum_by-cons (one x) x xs in let d = h x in absurd (omega arith),
+  distinct_from xs (λ r. let c = sum_by-cons (one r) x xs in let d = h r in omega arith),
+)
 
 distinct_moved : (xs ys : List RowAt) → IsPermutation xs ys → AreDistinct xs → AreDistinct ys
 distinct_moved xs ys p d = distinct_from ys (λ r. let a = at_most_one r xs d in let b = sum_by-IsPermutation (one r) xs ys p in omega arith)
@@ -85,9 +85,9 @@ equal_is o e = ap is_eq e
 below_all : (x : RowAt) (ys : List RowAt) → ((k : ℕ) (d : RowAt) → k < length ys → is_lt (row_cmp (get_or ys k d) x) ≡ false) → (HasRow ys x → ⊥) → AllByRecursion (λ y. row_cmp x y ≡ Less) ys
 below_all x [] h n = tt
 below_all x (y ∷ ys) h n = (
-      less_of (row_cmp x y) (sym (ap is_lt (row_total.antisymm y x)) ∙ h 0 y (omega arith)) (λ e. n (inl (row-equal x y (equal_is (row_cmp x y) e)))),
-      below_all x ys (λ k d l. h (suc k) d (omega arith)) (λ k. n (inr k)),
-    )
+  less_of (row_cmp x y) (sym (ap is_lt (row_total.antisymm y x)) ∙ h 0 y (omega arith)) (λ e. n (inl (row-equal x y (equal_is (row_cmp x y) e)))),
+  below_all x ys (λ k d l. h (suc k) d (omega arith)) (λ k. n (inr k)),
+)
 
 sorted_behind : (x : RowAt) (xs : List RowAt) → IsSorted row_cmp (x ∷ xs) → IsSorted row_cmp xs
 sorted_behind x xs h = λ k d a b. let e : k + 1 ≡ suc k = omega arith in
@@ -98,9 +98,9 @@ pub ascending : (ys : List RowAt) → AreDistinct ys → IsSorted row_cmp ys →
 unfolding IsStrictlySortedBy
 ascending [] d h = tt
 ascending (x ∷ xs) (n, d) h = (
-      below_all x xs (λ k e l. sorted_far (λ a b. is_lt (row_cmp a b)) (ranks_by row_total (λ r. r)) (x ∷ xs) h 0 (suc k) e (omega arith) (omega arith)) n,
-      ascending xs d (sorted_behind x xs h),
-    )
+  below_all x xs (λ k e l. sorted_far (λ a b. is_lt (row_cmp a b)) (ranks_by row_total (λ r. r)) (x ∷ xs) h 0 (suc k) e (omega arith) (omega arith)) n,
+  ascending xs d (sorted_behind x xs h),
+)
 
 pub sorted_rows : (xs ys : List RowAt) → IsPermutation xs ys → IsSorted row_cmp ys → AreDistinct xs → IsStrictlySortedBy row_cmp ys
 sorted_rows xs ys p h d = ascending ys (distinct_moved xs ys p d) h
@@ -110,6 +110,7 @@ pub closing : (rows was sorted given : List RowAt) → was ≡ rows → given �
     ((row : RowAt) → Contains given row ↔ Contains rows row) × (AreDistinct rows → IsStrictlySortedBy row_cmp given)
 closing rows was sorted given e f p h =
     let q : IsPermutation rows sorted = subst (λ (l : List RowAt). IsPermutation l sorted) e p in
-    let r : IsPermutation rows given = subst (λ (l : List RowAt). IsPermutation rows l) (sym f) q in
-    (λ row. (Contains-permutation given rows row (IsPermutation-sym rows given r), Contains-permutation rows given row r),
-     λ d. sorted_rows rows given r (subst (λ (l : List RowAt). IsSorted row_cmp l) (sym f) h) d)
+    let r : IsPermutation rows given = subst (λ (l : List RowAt). IsPermutation rows l) (sym f) q in (
+      λ row. (Contains-permutation given rows row (IsPermutation-sym rows given r), Contains-permutation rows given row r),
+      λ d. sorted_rows rows given r (subst (λ (l : List RowAt). IsSorted row_cmp l) (sym f) h) d,
+    )

@@ -110,7 +110,16 @@ pub(crate) fn children_of<O: OpClass>(
     let nodes = nodes_of(alloc, class, query, recon, page, offset, &tuple)?;
     let mut children = Vec::new(alloc);
     for node in nodes.as_slice() {
-        add_child(alloc, class, recon, page, offset, &tuple, *node, &mut children)?;
+        add_child(
+            alloc,
+            class,
+            recon,
+            page,
+            offset,
+            &tuple,
+            *node,
+            &mut children,
+        )?;
     }
     Ok(children)
 }

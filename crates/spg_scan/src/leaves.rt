@@ -51,12 +51,7 @@ fn is_key_asked<O: OpClass>(class: &O, query: &Query<O>, recon: &O::Recon, rest:
 }
 
 /// Whether a query asks for the key of a leaf.
-fn is_asked<O: OpClass>(
-    class: &O,
-    query: &Query<O>,
-    recon: &Option<O::Recon>,
-    rest: &[u8],
-) -> bool
+fn is_asked<O: OpClass>(class: &O, query: &Query<O>, recon: &Option<O::Recon>, rest: &[u8]) -> bool
     requires { IsSome (key_of O.meaning recon.now rest.now) }
     ensures { result ≡ asks_for O.meaning query.now (key_of O.meaning recon.now rest.now) }
 {
@@ -125,7 +120,15 @@ pub(crate) fn take_page<O: OpClass>(
     let mut rows = Rows::new(alloc);
     for index in 0..page.count() {
         let at = Offset(index + 1);
-        take_leaf(class, query, table, recon, page.row_at(at), page.rest_at(at), &mut rows)?;
+        take_leaf(
+            class,
+            query,
+            table,
+            recon,
+            page.row_at(at),
+            page.rest_at(at),
+            &mut rows,
+        )?;
     }
     let met = u64::from(page.count());
     Ok(Taken { rows, met })

@@ -103,7 +103,14 @@ impl<O: OpClass> Scan<O> {
         let items = roots_of(alloc, &query, start)?;
         let rows = Vec::new(alloc);
         let met = 0;
-        Ok(Scan { query, at, stamp, items, rows, met })
+        Ok(Scan {
+            query,
+            at,
+            stamp,
+            items,
+            rows,
+            met,
+        })
     }
 }
 
@@ -133,7 +140,10 @@ impl<O: OpClass> Walk<O> for Scan<O> {
     {
         let place = self.items[item].place;
         match table.latch_of(place.block) {
-            Some(by) if by != seat => Ok(ReadOut::Latched { block: place.block, by }),
+            Some(by) if by != seat => Ok(ReadOut::Latched {
+                block: place.block,
+                by,
+            }),
             _ => {
                 self.read_at(alloc, class, table, rows, item, place)?;
                 Ok(ReadOut::Read)

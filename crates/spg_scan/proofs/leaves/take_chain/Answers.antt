@@ -28,12 +28,11 @@ loop-leaf-preserved g c =
     let m = g.O.OpClass.meaning in
     let ys = c.loop-leaf.yielded in
     let l : Leaf = record { row = c.in-Some.leaf.row; rest = c.in-Some.leaf.rest.now } in
-    let ls = leaves_of (map member_of ys) in
-    (
+    let ls = leaves_of (map member_of ys) in (
       omega (arith, c.loop-leaf.invariant.0, length-append ys (c.in-Some.leaf ∷ [])),
       c.in_ok-take_leaf.ensures ∙ ap (λ z. z ++ taken_of m c.args.table.now c.args.query.now c.args.recon.now (l ∷ [])) c.loop-leaf.invariant.1
-      ∙ sym (taken_of-append m c.args.table.now c.args.query.now c.args.recon.now ls (l ∷ []))
-      ∙ ap (taken_of m c.args.table.now c.args.query.now c.args.recon.now) (sym (leaves_more ys c.in-Some.leaf)),
+          ∙ sym (taken_of-append m c.args.table.now c.args.query.now c.args.recon.now ls (l ∷ []))
+          ∙ ap (taken_of m c.args.table.now c.args.query.now c.args.recon.now) (sym (leaves_more ys c.in-Some.leaf)),
     )
 
 pub returns-clause-met : goal.returns-clause-met
