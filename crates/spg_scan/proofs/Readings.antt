@@ -1,5 +1,5 @@
 -- What a read of a held item is, by what stands at its place.
-use Rattle.std.proofs.Common.{◌≡◌, ℕ, zero, suc, ◌<◌, ◌≤◌, ◌⊎◌, ⊎_elim, List, [], ◌∷◌, Option, Some, length, refl, sym, ap, ◌∙◌, arith, subst, inl, inr, nat_eq, true, false}
+use Rattle.std.proofs.Common.{◌≡◌, ℕ, zero, suc, ◌<◌, ◌≤◌, ◌⊎◌, ⊎_elim, List, [], ◌∷◌, Option, Some, None, length, refl, sym, ap, ◌∙◌, arith, subst, inl, inr, nat_eq, true, false}
 use Rattle.spg_opclass.specs.Meaning.{Meaning}
 use Rattle.spg_opclass.specs.Laws.{CodeLaw}
 use Rattle.spg_forest.specs.View.{Place, Leaf}
@@ -20,9 +20,9 @@ use Rattle.spg_page.specs.Reads.{frame_in, target_in}
 use Rattle.spg_rows.specs.Table as rows
 use Rattle.spg_base.specs.Row.{RowAt}
 use Rattle.spg_opclass.specs.declared.query.Query.{Query}
-use Rattle.std.proofs.lemmas.Bool.{cond-true, cond-false, eq-eqb, ne_eqb, false≢true}
+use Rattle.std.proofs.lemmas.Bool.{cond-true, cond-false, eq-eqb, ne_eqb, false≢true, cases_eq}
 use Rattle.spg_scan.specs.Scanning.{Scanning, Item, IsItem, IsHeld, Reads, ReadsSpot, taken_of, replaced}
-use Rattle.spg_scan.specs.Reading.{starts_inner, CanFollow, HaveKeys, AreLive, ReadsInner, ReadsLeaves, ReadsForward}
+use Rattle.spg_scan.specs.Reading.{starts_inner, other_than, CanFollow, HaveKeys, AreLive, ReadsInner, ReadsLeaves, ReadsForward}
 use Rattle.spg_scan.proofs.Stands.{sheltered_there, standing_recon, can_follow, have_keys, place_cases, high_offset, block_there, root_cases, inner_spot, chain_spot, dead_spot, forward_spot}
 
 -- an item within the list
@@ -221,3 +221,14 @@ module _ {O Key Recon Cond : Type 0} (m : Meaning Key Recon Cond) (S : Sheets) (
 
       pub root_leaf_read : starts_inner P.tuples ≡ false → ReadsLeaves m table s s2 i (leaves_on P.tuples) → Reads m S table s s2 i
       root_leaf_read k R = let (x, r, a) = item_there s.items i b in reads_leaves m S H s i held x r a table s2 (leaves_on P.tuples) (root_spot_is x r a (Bucket (leaves_on P.tuples)) (root_bucket k)) R
+
+-- the seat that holds a block
+pub other_some : (seat by : ℕ) (o : Option ℕ) → other_than seat o ≡ Some by → (o ≡ Some by) × (by ≡ seat → ⊥)
+other_some seat by None e = cc
+other_some seat by (Some at) e = ⊎_elim
+    (λ q. let a = sym (cond-true (nat_eq at seat) None (Some at) (eq-eqb at seat q)) ∙ e in cc)
+    (λ n. let a : Some at ≡ Some by = sym (cond-false (nat_eq at seat) None (Some at) (ne_eqb at seat n)) ∙ e in let b : at ≡ by = cc in (a, λ q. n (b ∙ q))) (cases_eq at seat)
+
+pub other_none : (seat by : ℕ) (o : Option ℕ) → other_than seat o ≡ None → o ≡ Some by → by ≡ seat
+other_none seat by None e f = cc
+other_none seat by (Some at) e f = ⊎_elim (λ q. let b : at ≡ by = cc in sym b ∙ q) (λ n. let a = sym (cond-false (nat_eq at seat) None (Some at) (ne_eqb at seat n)) ∙ e in cc) (cases_eq at seat)

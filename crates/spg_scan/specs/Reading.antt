@@ -1,5 +1,5 @@
 -- Words of the parts of a read.
-use Rattle.std.specs.Prelude.{◌≡◌, ℕ, ◌≤◌, ◌<◌, Bool, true, false, List, [], ◌∷◌, Option, Some, None, IsSome, All}
+use Rattle.std.specs.Prelude.{◌≡◌, ℕ, ◌≤◌, ◌<◌, Bool, true, false, List, [], ◌∷◌, Option, Some, None, IsSome, All, nat_eq, if◌then◌else◌}
 use Rattle.spg_opclass.specs.Meaning.{Meaning, is_tuple}
 use Rattle.spg_opclass.specs.declared.query.Query.{Query}
 use Rattle.spg_forest.specs.View.{Place, Leaf}
@@ -51,3 +51,8 @@ starts_inner (Live l n ∷ ts) = false
 starts_inner (Dead ∷ ts) = false
 starts_inner (Redirect y u ∷ ts) = false
 starts_inner (Placeholder ∷ ts) = false
+
+-- the seat, where it is another than this one
+abbrev pub other_than : ℕ → Option ℕ → Option ℕ
+other_than seat None = None
+other_than seat (Some by) = if nat_eq by seat then None else Some by

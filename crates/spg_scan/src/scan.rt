@@ -138,17 +138,7 @@ impl<O: OpClass> Walk<O> for Scan<O> {
         ensures ok { IfOk result (λ out. IsReadOut O.meaning table.now rows.now self.old self.new item seat out) }
         ensures err { OnErr result (self.new ≡ self.old) }
     {
-        let place = self.items[item].place;
-        match table.latch_of(place.block) {
-            Some(by) if by != seat => Ok(ReadOut::Latched {
-                block: place.block,
-                by,
-            }),
-            _ => {
-                self.read_at(alloc, class, table, rows, item, place)?;
-                Ok(ReadOut::Read)
-            }
-        }
+        self.read_item(alloc, class, table, rows, item, seat)
     }
 
     fn close(&mut self) -> Result<Closed, Memory>

@@ -1,5 +1,5 @@
 // What a read does, by what stands at the item's place.
-ghost use Rattle.std.specs.Prelude.{◌≡◌, ◌<◌, ◌++◌, ◌∷◌, ◌+◌, [], length, take, drop, Option, OnOk, OnErr};
+ghost use Rattle.std.specs.Prelude.{◌≡◌, ◌<◌, ◌++◌, ◌∷◌, ◌+◌, [], length, take, drop, Option, IfOk, OnOk, OnErr};
 ghost use Rattle.spg_forest.specs.Links.{leaves_on};
 ghost use Rattle.spg_forest.specs.Pages.{tuple_on};
 ghost use Rattle.spg_forest.specs.Shape.{Shape};
@@ -8,15 +8,16 @@ ghost use Rattle.spg_forest.specs.View.{Place};
 ghost use Rattle.spg_page.specs.Kinds.{IsOffset, IsInner};
 ghost use Rattle.spg_page.specs.Reads.{frame_in};
 ghost use Rattle.spg_chain.specs.Chains.{chain_members, leaves_of};
-ghost use Rattle.spg_tree.specs.Table.{sheets_of};
+ghost use Rattle.spg_tree.specs.Table.{sheets_of, latch_at};
 ghost use Rattle.spg_scan.specs.Held.{item_of};
-ghost use Rattle.spg_scan.specs.Scanning.{IsItem, IsHeld, Reads, replaced};
-ghost use Rattle.spg_scan.specs.Reading.{starts_inner, CanFollow, HaveKeys, AreLive, ReadsInner, ReadsLeaves, ReadsForward};
+ghost use Rattle.spg_scan.specs.Scanning.{IsItem, IsHeld, IsReadOut, Reads, replaced};
+ghost use Rattle.spg_scan.specs.Reading.{starts_inner, other_than, CanFollow, HaveKeys, AreLive, ReadsInner, ReadsLeaves, ReadsForward};
 
 use crate::children::children_of;
 use crate::leaves::{take_chain, take_page};
 use crate::scan::{Held, Scan};
-use spg_base::{Memory, Offset, Place, Row};
+use crate::walk::ReadOut;
+use spg_base::{Block, Memory, Offset, Place, Row, SeatNo};
 use spg_opclass::OpClass;
 use spg_page::{Page, TupleKind};
 use spg_rows::RowTable;
@@ -38,6 +39,17 @@ fn put_in_place<O: OpClass>(
     items.remove(at);
     items[at..].rotate_left(behind);
     Ok(())
+}
+
+/// The seat that holds a block, where it is another than this one.
+fn held_by_other(table: &PageTable, block: Block, seat: SeatNo) -> Option<SeatNo>
+    requires { block < length table.now.pages }
+    ensures { result ≡ other_than seat (latch_at table.now block) }
+{
+    match table.latch_of(block) {
+        Some(by) if by != seat => Some(by),
+        _ => None,
+    }
 }
 
 /// Whether the first tuple of a page is an inner one.
@@ -195,7 +207,7 @@ impl<O: OpClass> Scan<O> {
     }
 
     /// Reads an item whose block no other seat holds.
-    pub(crate) fn read_at(
+    fn read_at(
         &mut self,
         alloc: Global,
         class: &O,
@@ -215,6 +227,33 @@ impl<O: OpClass> Scan<O> {
             self.read_root(alloc, class, table, rows, item, place)
         } else {
             self.read_tuple(alloc, class, table, rows, item, place)
+        }
+    }
+
+    /// Reads an item, unless another seat holds its block.
+    pub(crate) fn read_item(
+        &mut self,
+        alloc: Global,
+        class: &O,
+        table: &PageTable,
+        rows: &RowTable<O>,
+        item: usize,
+        seat: SeatNo,
+    ) -> Result<ReadOut, Memory>
+        requires shape { Shape O.meaning (sheets_of table.now) }
+        requires item { item < length self.old.items }
+        requires held { IsHeld O.meaning (sheets_of table.now) self.old item }
+        ensures ok { IfOk result (λ out. IsReadOut O.meaning table.now rows.now self.old self.new item seat out) }
+        ensures err { OnErr result (self.new ≡ self.old) }
+    {
+        let place = self.items[item].place;
+        let block = place.block;
+        match held_by_other(table, block, seat) {
+            Some(by) => Ok(ReadOut::Latched { block, by }),
+            None => {
+                self.read_at(alloc, class, table, rows, item, place)?;
+                Ok(ReadOut::Read)
+            }
         }
     }
 }
