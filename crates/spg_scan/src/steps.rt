@@ -1,5 +1,5 @@
 // What a read does, by what stands at the item's place.
-ghost use Rattle.std.specs.Prelude.{◌≡◌, ◌<◌, ◌++◌, ◌∷◌, ◌+◌, [], length, take, drop, Option, IfOk, OnOk, OnErr};
+ghost use Rattle.std.specs.Prelude.{◌≡◌, ◌<◌, ◌++◌, ◌+◌, [], length, take, drop, Option, IfOk, OnOk, OnErr};
 ghost use Rattle.spg_forest.specs.Links.{leaves_on};
 ghost use Rattle.spg_forest.specs.Pages.{tuple_on};
 ghost use Rattle.spg_forest.specs.Shape.{Shape};
@@ -9,7 +9,6 @@ ghost use Rattle.spg_page.specs.Kinds.{IsOffset, IsInner};
 ghost use Rattle.spg_page.specs.Reads.{frame_in};
 ghost use Rattle.spg_chain.specs.Chains.{chain_members, leaves_of};
 ghost use Rattle.spg_tree.specs.Table.{sheets_of, latch_at};
-ghost use Rattle.spg_scan.specs.Held.{item_of};
 ghost use Rattle.spg_scan.specs.Scanning.{IsItem, IsHeld, IsReadOut, Reads, replaced};
 ghost use Rattle.spg_scan.specs.Reading.{starts_inner, other_than, CanFollow, HaveKeys, AreLive, ReadsInner, ReadsLeaves, ReadsForward};
 
