@@ -2,8 +2,11 @@
 //! (`src/backend/access/spgist/README`).
 #![tactic(auto)]
 
+mod children;
 mod laws;
+mod leaves;
 mod scan;
+mod steps;
 mod walk;
 
 pub use laws::{cover, rest};

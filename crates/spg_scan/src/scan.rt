@@ -1,10 +1,13 @@
-ghost use Rattle.std.specs.Prelude.{◌≡◌, ◌<◌, [], length, IfOk, OnErr};
+ghost use Rattle.std.specs.Prelude.{◌≡◌, ◌<◌, [], length, map, IfOk, OnErr};
 ghost use Rattle.spg_forest.specs.Shape.{Shape};
+ghost use Rattle.spg_forest.specs.Walk.{roots_of};
+ghost use Rattle.spg_forest.specs.Pages.{place};
 ghost use Rattle.spg_tree.specs.Table.{sheets_of};
 ghost use Rattle.spg_scan.specs.Scanning.{opened, IsHeld, IsReadOut, IsClosing, emptied};
+ghost use Rattle.spg_scan.specs.Held.{item_of};
 
 use crate::walk::{Closed, ReadOut, Walk};
-use spg_base::{Memory, Place, Row, SeatNo, Stamp};
+use spg_base::{Block, List, Memory, Offset, Place, Row, SeatNo, Stamp};
 use spg_opclass::{OpClass, Query};
 use spg_rows::RowTable;
 use spg_tree::PageTable;
@@ -22,16 +25,16 @@ pub(crate) struct Held<O: OpClass> {
 /// A scan of a query.
 #[derive(Drop)]
 pub struct Scan<O: OpClass> {
-    query: Query<O>,
-    at: u64,
-    stamp: Stamp,
-    items: Vec<Held<O>>,
-    rows: Vec<Row>,
-    met: u64,
+    pub(crate) query: Query<O>,
+    pub(crate) at: u64,
+    pub(crate) stamp: Stamp,
+    pub(crate) items: Vec<Held<O>>,
+    pub(crate) rows: Vec<Row>,
+    pub(crate) met: u64,
 }
 
 impl<O: OpClass> Model for Scan<O> {
-    ghost use Rattle.std.specs.Prelude.{map};
+    ghost use Rattle.std.specs.Prelude.{map, ◌<◌, ◌^◌};
     ghost use Rattle.spg_scan.specs.Scanning.{Scanning};
     ghost use Rattle.spg_scan.specs.Held.{item_of};
 
@@ -45,6 +48,42 @@ impl<O: OpClass> Model for Scan<O> {
       rows = s.rows.items;
       met = s.met;
     } };
+
+    ghost invariant = { λ s. s.met < 2 ^ 64 };
+}
+
+/// The root on a block.
+fn root_at<O: OpClass>(block: u32, recon: Option<O::Recon>) -> Held<O>
+    ensures { item_of result ≡ (place block 0, recon) }
+{
+    Held {
+        place: Place {
+            block: Block(block),
+            offset: Offset(0),
+        },
+        recon,
+    }
+}
+
+/// The roots that a query begins at, that of the main tree with its rebuilt value.
+fn roots_of<O: OpClass>(
+    alloc: Global,
+    query: &Query<O>,
+    start: O::Recon,
+) -> Result<Vec<Held<O>>, Memory>
+    requires { start ≡ O.meaning.start }
+    ensures { IfOk result (λ roots. map item_of roots.items ≡ roots_of O.meaning query.now) }
+{
+    let mut roots = Vec::new(alloc);
+    match query {
+        Query::All => {
+            roots.push(root_at(1, Some(start)))?;
+            roots.push(root_at(2, None))?;
+        }
+        Query::Null => roots.push(root_at(2, None))?,
+        Query::Where(_) => roots.push(root_at(1, Some(start)))?,
+    }
+    Ok(roots)
 }
 
 impl<O: OpClass> Scan<O> {
@@ -61,7 +100,17 @@ impl<O: OpClass> Scan<O> {
         requires { start ≡ O.meaning.start }
         ensures { IfOk result (λ scan. scan ≡ opened O.meaning query at stamp) }
     {
-        Err(Memory)
+        let items = roots_of(alloc, &query, start)?;
+        let rows = Vec::new(alloc);
+        let met = 0;
+        Ok(Scan {
+            query,
+            at,
+            stamp,
+            items,
+            rows,
+            met,
+        })
     }
 }
 
@@ -98,7 +147,7 @@ impl<O: OpClass> Walk<O> for Scan<O> {
         ensures ok { IfOk result (λ out. IsReadOut O.meaning table.now rows.now self.old self.new item seat out) }
         ensures err { OnErr result (self.new ≡ self.old) }
     {
-        Err(Memory)
+        self.read_item(alloc, class, table, rows, item, seat)
     }
 
     fn close(&mut self) -> Result<Closed, Memory>
@@ -107,6 +156,12 @@ impl<O: OpClass> Walk<O> for Scan<O> {
         ensures after { IfOk result (λ closed. self.new ≡ emptied self.old) }
         ensures err { OnErr result (self.new ≡ self.old) }
     {
-        Err(Memory)
+        let alloc = *self.rows.allocator();
+        let mut rows = std::mem::replace(&mut self.rows, Vec::new(alloc));
+        rows.sort_unstable();
+        Ok(Closed {
+            rows: List::from_vec(rows),
+            met: self.met,
+        })
     }
 }

@@ -1,0 +1,58 @@
+-- Words of the parts of a read.
+use Rattle.std.specs.Prelude.{◌≡◌, ℕ, ◌≤◌, ◌<◌, Bool, true, false, List, [], ◌∷◌, Option, Some, None, IsSome, All, nat_eq, if◌then◌else◌}
+use Rattle.spg_opclass.specs.Meaning.{Meaning, is_tuple}
+use Rattle.spg_opclass.specs.declared.query.Query.{Query}
+use Rattle.spg_forest.specs.View.{Place, Leaf}
+use Rattle.spg_forest.specs.Spot.{Frame}
+use Rattle.spg_forest.specs.Classes.{key_of, down_of}
+use Rattle.spg_forest.specs.Shape.{AreNodes}
+use Rattle.spg_forest.specs.Tuples.{Tuple, Inner, Live, Dead, Redirect, Placeholder}
+use Rattle.spg_forest.specs.Pages.{tuple_on}
+use Rattle.spg_forest.specs.Sheets.{links}
+use Rattle.spg_forest.specs.Walk.{children_at, followed, met_at}
+use Rattle.spg_page.specs.Kinds.{IsOffset, IsLive}
+use Rattle.spg_page.specs.Reads.{frame_in}
+use Rattle.spg_rows.specs.Table as rows
+use Rattle.spg_scan.specs.Scanning.{Scanning, IsItem, taken_of, replaced}
+
+-- the class may be asked at an inner tuple where it has this rebuilt value: both are well formed
+abbrev pub AreKnown : {Key Recon Cond : Type 0} → Meaning Key Recon Cond → Option Recon → Frame → Type 0
+AreKnown m None w = Unit {0}
+AreKnown m (Some recon) w = (m.is_recon recon ≡ true) × (is_tuple m w ≡ true)
+
+pub record CanFollow {Key Recon Cond : Type 0} (m : Meaning Key Recon Cond) (r : Option Recon) (w : Frame) (ns : List (Option Place)) : Type 0 where
+  pub nodes : AreNodes w ns
+  pub known : AreKnown m r w
+
+-- each leaf has a key with this rebuilt value
+abbrev pub HaveKeys : {Key Recon Cond : Type 0} → Meaning Key Recon Cond → Option Recon → List Leaf → Type 0
+HaveKeys m r ls = All (λ (l : Leaf). IsSome (key_of m r l.rest)) ls
+
+-- only live leaf tuples stand on the page
+abbrev pub AreLive : List Tuple → Type 0
+AreLive ts = (o : ℕ) → IsOffset ts o → IsLive (tuple_on ts o)
+
+-- the item was read as one at which this inner tuple, these leaves, or a redirect to y stands
+abbrev pub ReadsInner : {O Key Recon Cond : Type 0} → Meaning Key Recon Cond → Scanning O Key Recon Cond → Scanning O Key Recon Cond → ℕ → Tuple → Type 0
+ReadsInner {O} {Key} {Recon} m s s2 i t = (x : Place) (r : Option Recon) → IsItem s.items i x r →
+    s2 ≡ replaced s i (children_at (down_of m) r (frame_in t) (links t) (followed m s.query r (frame_in t) (links t))) [] 1
+
+abbrev pub ReadsLeaves : {O Key Recon Cond : Type 0} → Meaning Key Recon Cond → rows.Table O Key Recon Cond → Scanning O Key Recon Cond → Scanning O Key Recon Cond → ℕ → List Leaf → Type 0
+ReadsLeaves {O} {Key} {Recon} m table s s2 i ls = (x : Place) (r : Option Recon) → IsItem s.items i x r → s2 ≡ replaced s i [] (taken_of m table s.query r ls) (met_at x ls)
+
+abbrev pub ReadsForward : {O Key Recon Cond : Type 0} → Scanning O Key Recon Cond → Scanning O Key Recon Cond → ℕ → Place → Type 0
+ReadsForward {O} {Key} {Recon} s s2 i y = (x : Place) (r : Option Recon) → IsItem s.items i x r → s2 ≡ replaced s i ((y, r) ∷ []) [] 0
+
+-- the first tuple of the page is an inner one
+abbrev pub starts_inner : List Tuple → Bool
+starts_inner [] = false
+starts_inner (Inner w ns ∷ ts) = true
+starts_inner (Live l n ∷ ts) = false
+starts_inner (Dead ∷ ts) = false
+starts_inner (Redirect y u ∷ ts) = false
+starts_inner (Placeholder ∷ ts) = false
+
+-- the seat, where it is another than this one
+abbrev pub other_than : ℕ → Option ℕ → Option ℕ
+other_than seat None = None
+other_than seat (Some by) = if nat_eq by seat then None else Some by
