@@ -8,7 +8,7 @@ use Rattle.std.specs.Cmp.{IsTotalOrder}
 use Rattle.std.specs.List.{sum_by, AllByRecursion}
 use Rattle.std.specs.List.Sorted.{IsPermutation, IsSorted, IsStrictlySortedBy}
 use Rattle.std.proofs.lemmas.Cmp.{nat_cmp_total, on_total, then_total}
-use Rattle.std.proofs.lemmas.List.Sorted.{ranks_by, sorted_far, sum_by-IsPermutation, Contains-permutation, IsPermutation-sym}
+use Rattle.std.proofs.lemmas.List.Sorted.{ranks_by, sorted_far, sum_by-IsPermutation, length_permutation, Contains-permutation, IsPermutation-sym}
 use Rattle.std.proofs.lemmas.List.Sums.{sum_by-cons}
 use Rattle.std.proofs.lemmas.Bool.{false≢true}
 use Rattle.spg_base.specs.Row.{RowAt, row_cmp, same_row}
@@ -107,10 +107,11 @@ sorted_rows xs ys p h d = ascending ys (distinct_moved xs ys p d) h
 
 -- what a close gives of the rows that were taken
 pub closing : (rows was sorted given : List RowAt) → was ≡ rows → given ≡ sorted → IsPermutation was sorted → IsSorted row_cmp sorted →
-    ((row : RowAt) → Contains given row ↔ Contains rows row) × (AreDistinct rows → IsStrictlySortedBy row_cmp given)
+    (length given ≡ length rows) × ((row : RowAt) → Contains given row ↔ Contains rows row) × (AreDistinct rows → IsStrictlySortedBy row_cmp given)
 closing rows was sorted given e f p h =
     let q : IsPermutation rows sorted = subst (λ (l : List RowAt). IsPermutation l sorted) e p in
     let r : IsPermutation rows given = subst (λ (l : List RowAt). IsPermutation rows l) (sym f) q in (
+      length_permutation rows given r,
       λ row. (Contains-permutation given rows row (IsPermutation-sym rows given r), Contains-permutation rows given row r),
       λ d. sorted_rows rows given r (subst (λ (l : List RowAt). IsSorted row_cmp l) (sym f) h) d,
     )

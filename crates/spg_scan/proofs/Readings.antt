@@ -21,7 +21,7 @@ use Rattle.spg_rows.specs.Table as rows
 use Rattle.spg_base.specs.Row.{RowAt}
 use Rattle.spg_opclass.specs.declared.query.Query.{Query}
 use Rattle.std.proofs.lemmas.Bool.{cond-true, cond-false, eq-eqb, ne_eqb, false≢true, cases_eq}
-use Rattle.spg_scan.specs.Scanning.{Scanning, Item, IsItem, IsHeld, Reads, ReadsSpot, taken_of, replaced}
+use Rattle.spg_scan.specs.Scanning.{Scanning, Item, IsItem, IsHeld, IsAskedAt, Reads, ReadsSpot, taken_of, replaced}
 use Rattle.spg_scan.specs.Reading.{starts_inner, other_than, CanFollow, HaveKeys, AreLive, ReadsInner, ReadsLeaves, ReadsForward}
 use Rattle.spg_scan.proofs.Stands.{sheltered_there, standing_recon, can_follow, have_keys, place_cases, high_offset, block_there, root_cases, inner_spot, chain_spot, dead_spot, forward_spot}
 
@@ -95,16 +95,16 @@ module _ {O Key Recon Cond : Type 0} (m : Meaning Key Recon Cond) (S : Sheets) (
     pub reads_inner : (t : Tuple) → spots S x ≡ Branch (frame_in t) (links t) → ReadsInner m s s2 i t → Reads m S table s s2 i
     reads_inner t e R =
         let kids : List (Item Recon) = children_at (down_of m) r (frame_in t) (links t) (followed m s.query r (frame_in t) (links t)) in
-        record { place = x; recon = r; items = kids; found = []; met = 1; item = item; spot = subst (λ (v : Spot). ReadsSpot m table s.query x r v kids [] 1) (sym e) (refl, refl, refl); after = R x r item }
+        record { place = x; recon = r; items = kids; found = []; met = 1; item = item; spot = subst (λ (v : Spot). ReadsSpot m table s.query x r v kids [] 1) (sym e) (refl, refl, refl); asked = subst (λ (v : Spot). IsAskedAt m v s.query r) (sym e) (R x r item).0; after = (R x r item).1 }
 
     pub reads_leaves : (ls : List Leaf) → spots S x ≡ Bucket ls → ReadsLeaves m table s s2 i ls → Reads m S table s s2 i
     reads_leaves ls e R =
         let found = taken_of m table s.query r ls in
-        record { place = x; recon = r; items = []; found = found; met = met_at x ls; item = item; spot = subst (λ (v : Spot). ReadsSpot m table s.query x r v [] found (met_at x ls)) (sym e) (refl, refl, refl); after = R x r item }
+        record { place = x; recon = r; items = []; found = found; met = met_at x ls; item = item; spot = subst (λ (v : Spot). ReadsSpot m table s.query x r v [] found (met_at x ls)) (sym e) (refl, refl, refl); asked = subst (λ (v : Spot). IsAskedAt m v s.query r) (sym e) tt; after = R x r item }
 
     pub reads_forward : (y : Place) (u : ℕ) → spots S x ≡ Forward y u → ReadsForward s s2 i y → Reads m S table s s2 i
     reads_forward y u e R =
-        record { place = x; recon = r; items = (y, r) ∷ []; found = []; met = 0; item = item; spot = subst (λ (v : Spot). ReadsSpot m table s.query x r v ((y, r) ∷ []) [] 0) (sym e) (refl, refl, refl); after = R x r item }
+        record { place = x; recon = r; items = (y, r) ∷ []; found = []; met = 0; item = item; spot = subst (λ (v : Spot). ReadsSpot m table s.query x r v ((y, r) ∷ []) [] 0) (sym e) (refl, refl, refl); asked = subst (λ (v : Spot). IsAskedAt m v s.query r) (sym e) tt; after = R x r item }
 
 -- where an item's place is no root, and P is its page
 module _ {O Key Recon Cond : Type 0} (m : Meaning Key Recon Cond) (S : Sheets) (H : Shape m S) (s : Scanning O Key Recon Cond) (i : ℕ) (held : IsHeld m S s i) (b : i < length s.items) (place : Place) (at : (x : Place) (r : Option Recon) → IsItem s.items i x r → x ≡ place) where

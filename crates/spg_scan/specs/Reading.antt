@@ -3,7 +3,7 @@ use Rattle.std.specs.Prelude.{◌≡◌, ℕ, ◌≤◌, ◌<◌, Bool, true, fa
 use Rattle.spg_opclass.specs.Meaning.{Meaning, is_tuple}
 use Rattle.spg_opclass.specs.declared.query.Query.{Query}
 use Rattle.spg_forest.specs.View.{Place, Leaf}
-use Rattle.spg_forest.specs.Spot.{Frame}
+use Rattle.spg_forest.specs.Spot.{Frame, Branch}
 use Rattle.spg_forest.specs.Classes.{key_of, down_of}
 use Rattle.spg_forest.specs.Shape.{AreNodes}
 use Rattle.spg_forest.specs.Tuples.{Tuple, Inner, Live, Dead, Redirect, Placeholder}
@@ -13,7 +13,7 @@ use Rattle.spg_forest.specs.Walk.{children_at, followed, met_at}
 use Rattle.spg_page.specs.Kinds.{IsOffset, IsLive}
 use Rattle.spg_page.specs.Reads.{frame_in}
 use Rattle.spg_rows.specs.Table as rows
-use Rattle.spg_scan.specs.Scanning.{Scanning, IsItem, taken_of, replaced}
+use Rattle.spg_scan.specs.Scanning.{Scanning, IsItem, IsAskedAt, taken_of, replaced}
 
 -- the class may be asked at an inner tuple where it has this rebuilt value: both are well formed
 abbrev pub AreKnown : {Key Recon Cond : Type 0} → Meaning Key Recon Cond → Option Recon → Frame → Type 0
@@ -34,8 +34,8 @@ AreLive ts = (o : ℕ) → IsOffset ts o → IsLive (tuple_on ts o)
 
 -- the item was read as one at which this inner tuple, these leaves, or a redirect to y stands
 abbrev pub ReadsInner : {O Key Recon Cond : Type 0} → Meaning Key Recon Cond → Scanning O Key Recon Cond → Scanning O Key Recon Cond → ℕ → Tuple → Type 0
-ReadsInner {O} {Key} {Recon} m s s2 i t = (x : Place) (r : Option Recon) → IsItem s.items i x r →
-    s2 ≡ replaced s i (children_at (down_of m) r (frame_in t) (links t) (followed m s.query r (frame_in t) (links t))) [] 1
+ReadsInner {O} {Key} {Recon} m s s2 i t = (x : Place) (r : Option Recon) → IsItem s.items i x r → IsAskedAt m (Branch (frame_in t) (links t)) s.query r ×
+    (s2 ≡ replaced s i (children_at (down_of m) r (frame_in t) (links t) (followed m s.query r (frame_in t) (links t))) [] 1)
 
 abbrev pub ReadsLeaves : {O Key Recon Cond : Type 0} → Meaning Key Recon Cond → rows.Table O Key Recon Cond → Scanning O Key Recon Cond → Scanning O Key Recon Cond → ℕ → List Leaf → Type 0
 ReadsLeaves {O} {Key} {Recon} m table s s2 i ls = (x : Place) (r : Option Recon) → IsItem s.items i x r → s2 ≡ replaced s i [] (taken_of m table s.query r ls) (met_at x ls)
