@@ -2,6 +2,11 @@
 //! "picksplit").
 #![tactic(auto)]
 
+mod division;
+mod parts;
+mod placing;
+mod root;
 mod split;
+mod values;
 
 pub use split::{SplitOut, split_leaf};
