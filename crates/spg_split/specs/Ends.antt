@@ -8,6 +8,6 @@ last_of None = None
 last_of (Some e) = Some e.last
 
 -- its head, or another where there is none
-abbrev pub head_or : Option Ends → ℕ → ℕ
+abbrev pub head_or : Option Ends → Option ℕ → Option ℕ
 head_or None o = o
-head_or (Some e) o = e.head
+head_or (Some e) o = Some e.head

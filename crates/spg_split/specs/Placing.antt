@@ -28,15 +28,15 @@ abbrev pub chained : List Tuple → ℕ → List Leaf → List Tuple
 chained ts last [] = ts
 chained ts last (l ∷ ls) = chained (added ts last (suc (free_place ts)) l) (suc (free_place ts)) ls
 
--- where such a chain begins, 0 where it has no leaf
-abbrev pub head_of : List Tuple → List Leaf → ℕ
-head_of ts [] = 0
-head_of ts (l ∷ ls) = suc (free_place ts)
+-- where such a chain begins
+abbrev pub head_of : List Tuple → List Leaf → Option ℕ
+head_of ts [] = None
+head_of ts (l ∷ ls) = Some (suc (free_place ts))
 
 -- the downlink to it
-abbrev pub downlink : ℕ → ℕ → Option Place
-downlink b zero = None
-downlink b (suc o) = Some (place b (suc o))
+abbrev pub downlink : ℕ → Option ℕ → Option Place
+downlink b None = None
+downlink b (Some o) = Some (place b o)
 
 -- the lists of so many nodes from node k on, one after another, and the downlinks to them
 abbrev pub placed : List Tuple → (ℕ → List Leaf) → ℕ → ℕ → List Tuple
@@ -51,6 +51,11 @@ downlinks b ts L k (suc n) = downlink b (head_of ts (L k)) ∷ downlinks b (chai
 pub record HaveRoom (ts : List Tuple) (ls : List Leaf) : Type 0 where
   pub fits : weight ts ≤ 8160
   pub room : weight (all_live ls) ≤ room_of ts (length ls)
+
+-- so do the lists of so many nodes from node k on, put one after another
+abbrev pub HaveRooms : List Tuple → (ℕ → List Leaf) → ℕ → ℕ → Type 0
+HaveRooms ts L k zero = Unit {0}
+HaveRooms ts L k (suc n) = HaveRoom ts (L k) × HaveRooms (chained ts 0 (L k)) L (suc k) n
 
 -- the leaves of the tuples
 abbrev pub leaves_in : List Tuple → List Leaf

@@ -7,7 +7,7 @@ ghost use Rattle.spg_page.specs.Told.{number_of};
 ghost use Rattle.spg_page.specs.Changes.{room_of};
 ghost use Rattle.spg_page.specs.Reads.{leaf_in};
 ghost use Rattle.spg_chain.specs.Added.{IsLeafIn};
-ghost use Rattle.spg_split.specs.Placing.{taken_by, chained, head_of, placed, downlinks, downlink, leaves_in, HaveRoom};
+ghost use Rattle.spg_split.specs.Placing.{taken_by, chained, head_of, placed, downlinks, downlink, leaves_in, HaveRoom, HaveRooms};
 ghost use Rattle.spg_split.specs.Ends.{last_of, head_or};
 
 use spg_base::{Block, List, Offset, Place};
@@ -27,7 +27,7 @@ fn add_at_end(page: &mut Page, ends: Option<Ends>, leaf: &TupleBytes) -> Ends
     requires leaf { leaf.now ≡ Live (leaf_in leaf.now) 0 }
     requires room { size_of leaf.now + 4 ≤ room_of page.old.tuples 1 }
     ensures last { result.last ≡ suc (free_place page.old.tuples) }
-    ensures head { result.head ≡ head_or ends (suc (free_place page.old.tuples)) }
+    ensures head { Just result.head ≡ head_or ends (Just (suc (free_place page.old.tuples))) }
     ensures tuples { page.new ≡ with_tuples page.old (added page.old.tuples (number_of (last_of ends)) (suc (free_place page.old.tuples)) (leaf_in leaf.now)) }
 {
     match ends {
@@ -52,7 +52,7 @@ fn put_list(
     requires each { length leaves.now ≤ length node_of.now }
     requires leaves { leaves.now ≡ all_live (leaves_in leaves.now) }
     requires room { HaveRoom page.old.tuples (taken_by node leaves.now node_of.now) }
-    ensures head { number_of result ≡ head_of page.old.tuples (taken_by node leaves.now node_of.now) }
+    ensures head { result ≡ head_of page.old.tuples (taken_by node leaves.now node_of.now) }
     ensures tuples { page.new ≡ with_tuples page.old (chained page.old.tuples 0 (taken_by node leaves.now node_of.now)) }
 {
     let mut ends = None;
@@ -66,7 +66,7 @@ fn put_list(
 
 /// Where a chain begins.
 fn head_in(ends: Option<Ends>) -> Option<Offset>
-    ensures { number_of result ≡ head_or ends 0 }
+    ensures { result ≡ head_or ends Nil }
 {
     match ends {
         None => None,
@@ -82,7 +82,14 @@ pub(crate) fn put_lists(
     leaves: &[TupleBytes],
     node_of: &[u16],
     links: &mut List<Option<Place>>,
-) {
+)
+    requires each { length leaves.now ≤ length node_of.now }
+    requires leaves { leaves.now ≡ all_live (leaves_in leaves.now) }
+    requires count { length links.old < 65536 }
+    requires room { HaveRooms page.old.tuples (λ j. taken_by j leaves.now node_of.now) 0 (length links.old) }
+    ensures tuples { page.new ≡ with_tuples page.old (placed page.old.tuples (λ j. taken_by j leaves.now node_of.now) 0 (length links.old)) }
+    ensures links { links.new ≡ downlinks block page.old.tuples (λ j. taken_by j leaves.now node_of.now) 0 (length links.old) }
+{
     for node in 0..links.len() {
         let head = put_list(page, leaves, node_of, node as u16);
         links.set(node, link_to(block, head));
@@ -91,7 +98,7 @@ pub(crate) fn put_lists(
 
 /// The downlink to a chain.
 fn link_to(block: Block, head: Option<Offset>) -> Option<Place>
-    ensures { result ≡ downlink block (number_of head) }
+    ensures { result ≡ downlink block head }
 {
     match head {
         None => None,
