@@ -1,6 +1,14 @@
 -- Lists of leaves, read and made one after another.
 use Rattle.std.proofs.Common.{◌≡◌, ℕ, zero, suc, ◌+◌, ◌≤◌, ◌<◌, List, [], ◌∷◌, ◌++◌, length, take, get_or, refl, sym, ap, ap₂, ◌∙◌, subst, arith}
-use Rattle.std.proofs.lemmas.List.{take_more, length-take-le}
+use Rattle.std.proofs.lemmas.List.{take_more, length-take-le, map_more}
+use Rattle.std.proofs.Math.Seq.{take-length}
+use Rattle.std.specs.List.{AllByRecursion}
+use Rattle.std.specs.Prelude.{IfSome, ℤ, None}
+use Rattle.spg_forest.specs.Divisions.{rests_of}
+use Rattle.spg_page.specs.Kinds.{IsLive}
+use Rattle.spg_page.specs.Told.{labels_of, links_of}
+use Rattle.spg_page.specs.declared.tuple.Node.{Node}
+use Rattle.spg_split.specs.Parts.{nodes_of, bare}
 use Rattle.spg_base.specs.Row.{RowAt}
 use Rattle.spg_forest.specs.View.{Leaf}
 use Rattle.spg_forest.specs.Tuples.{Tuple, Live, Placeholder}
@@ -10,7 +18,7 @@ use Rattle.spg_forest.specs.Sheets.{weight, size_of}
 use Rattle.spg_page.specs.Reads.{no_leaf, leaf_in}
 use Rattle.spg_page.proofs.SheetFacts.{weight-append}
 use Rattle.spg_descend.proofs.Rooms.{all_live-append}
-use Rattle.spg_split.specs.Dividing.{AreAllLive}
+use Rattle.spg_split.specs.Dividing.{AreAllLive, rows_of}
 use Rattle.spg_split.specs.Placing.{leaves_with, leaves_in}
 
 pub length-all_live : (ls : List Leaf) → length (all_live ls) ≡ length ls
@@ -61,3 +69,42 @@ unlinked_at ts k d e h = rw e (go (leaves_in ts) k (let n = ap length e in omega
     go [] k h = absurd (omega arith)
     go (l ∷ ls) zero h = refl
     go (l ∷ ls) (suc k) h = go ls k (omega arith)
+
+-- one leaf more is read
+pub rows_more : (ts : List Tuple) (k : ℕ) → AreAllLive ts → k < length ts → rows_of (take (k + 1) (leaves_on ts)) ≡ rows_of (take k (leaves_on ts)) ++ (leaf_in (tuple_on ts (k + 1))).row ∷ []
+rows_more ts k e h =
+    let (n, a) = live_at ts k e h in
+    let s : k + 1 ≡ suc k = omega arith in
+    let b : (leaf_in (tuple_on ts (k + 1))).row ≡ (get_or (leaves_on ts) k no_leaf).row = ap (λ i. (leaf_in (tuple_on ts i)).row) s ∙ ap (λ (t : Tuple). (leaf_in t).row) a in
+    map_more (λ (l : Leaf). l.row) (leaves_on ts) k no_leaf (omega arith) ∙ ap (λ r. rows_of (take k (leaves_on ts)) ++ r ∷ []) (sym b)
+
+pub rests_more : (ts : List Tuple) (k : ℕ) → AreAllLive ts → k < length ts → rests_of (take (k + 1) (leaves_on ts)) ≡ rests_of (take k (leaves_on ts)) ++ (leaf_in (tuple_on ts (k + 1))).rest ∷ []
+rests_more ts k e h =
+    let (n, a) = live_at ts k e h in
+    let s : k + 1 ≡ suc k = omega arith in
+    let b : (leaf_in (tuple_on ts (k + 1))).rest ≡ (get_or (leaves_on ts) k no_leaf).rest = ap (λ i. (leaf_in (tuple_on ts i)).rest) s ∙ ap (λ (t : Tuple). (leaf_in t).rest) a in
+    map_more (λ (l : Leaf). l.rest) (leaves_on ts) k no_leaf (omega arith) ∙ ap (λ r. rests_of (take k (leaves_on ts)) ++ r ∷ []) (sym b)
+
+pub live_there : (ts : List Tuple) (k : ℕ) → AreAllLive ts → k < length ts → IsLive (tuple_on ts (k + 1))
+live_there ts k e h = let (n, a) = live_at ts k e h in let s : k + 1 ≡ suc k = omega arith in let b : tuple_on ts (k + 1) ≡ Live (get_or (leaves_on ts) k no_leaf) 0 = ap (tuple_on ts) s ∙ a in rw b refl
+
+-- all are read
+pub all_read : (ts : List Tuple) (k : ℕ) → AreAllLive ts → k ≡ length ts → take k (leaves_on ts) ≡ leaves_on ts
+all_read ts k e h = let n : length ts ≡ length (leaves_on ts) = ap length e ∙ length-all_live (leaves_on ts) in let q : k ≡ length (leaves_on ts) = omega arith in ap (λ i. take i (leaves_on ts)) q ∙ take-length (leaves_on ts)
+
+-- the nodes of an inner tuple that leads nowhere
+pub bare_labels : (ls : List ℤ) → labels_of (nodes_of ls) ≡ ls
+bare_labels [] = refl
+bare_labels (l ∷ ls) = ap (λ zs. l ∷ zs) (bare_labels ls)
+
+pub bare_links : (ls : List ℤ) → links_of (nodes_of ls) ≡ bare (length ls)
+bare_links [] = refl
+bare_links (l ∷ ls) = ap (λ zs. None ∷ zs) (bare_links ls)
+
+pub bare_length : (ls : List ℤ) → length (nodes_of ls) ≡ length ls
+bare_length [] = refl
+bare_length (l ∷ ls) = ap suc (bare_length ls)
+
+pub bare_all : (ls : List ℤ) → AllByRecursion (λ (n : Node). IfSome n.link (λ to. (0 < to.block) × (0 < to.offset))) (nodes_of ls)
+bare_all [] = tt
+bare_all (l ∷ ls) = (tt, bare_all ls)

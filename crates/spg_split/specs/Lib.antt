@@ -4,3 +4,4 @@ pub mod Nodes
 pub mod Placing
 pub mod Ends
 pub mod Parts
+pub mod Ways

@@ -1,7 +1,6 @@
-ghost use Rattle.std.specs.Prelude.{◌≡◌, ◌<◌, ◌≤◌, ◌%◌, ◌↔◌, ℕ, [], length, map, replicate, option_copied, IfOk, IfSome, IsNone, slice_get, All};
-ghost use Rattle.std.specs.List.{range_with_len};
+ghost use Rattle.std.specs.Prelude.{◌≡◌, ◌<◌, ◌≤◌, ℕ, [], length, map, replicate, option_copied, IfOk, Some as Just};
 ghost use Rattle.spg_opclass.specs.Meaning.{eightfold};
-ghost use Rattle.spg_split.specs.Dividing.{IsDivided, GiveKeys};
+ghost use Rattle.spg_split.specs.Dividing.{IsDivided, GiveKeys, nulls_divided};
 ghost use Rattle.spg_split.specs.Nodes.{turns, IsOnlyNode};
 
 use spg_base::{Bytes, Labels, List, Memory};
@@ -68,7 +67,9 @@ fn empty_rests(alloc: Global, count: usize) -> Result<List<Bytes>, Memory>
 }
 
 /// Divides nulls: all are in one node, of label 0.
-fn divide_nulls(alloc: Global, count: usize) -> Result<Division, Memory> {
+fn divide_nulls(alloc: Global, count: usize) -> Result<Division, Memory>
+    ensures { IfOk result (λ division. division ≡ nulls_divided count) }
+{
     Ok(Division {
         frame: all_the_same(alloc, Bytes::new(alloc), 0)?,
         node_of: nodes_in_turn(alloc, count)?,
@@ -82,7 +83,11 @@ fn divide_values<O: OpClass>(
     class: &O,
     recon: &O::Recon,
     rests: &[Bytes],
-) -> Result<Division, Memory> {
+) -> Result<Division, Memory>
+    requires several { 2 ≤ length rests.now }
+    requires keys { GiveKeys O.meaning (Just recon.now) rests.now }
+    ensures { IfOk result (λ division. IsDivided O.meaning (Just recon.now) rests.now division) }
+{
     let picked = class.picksplit(alloc, recon, rests)?;
     match only_node(picked.node_of.as_slice()) {
         None => Ok(Division {
@@ -111,7 +116,11 @@ pub(crate) fn divide<O: OpClass>(
     class: &O,
     recon: Option<&O::Recon>,
     rests: &[Bytes],
-) -> Result<Division, Memory> {
+) -> Result<Division, Memory>
+    requires several { 2 ≤ length rests.now }
+    requires keys { GiveKeys O.meaning (option_copied recon) rests.now }
+    ensures { IfOk result (λ division. IsDivided O.meaning (option_copied recon.entry) rests.now division) }
+{
     match recon {
         None => divide_nulls(alloc, rests.len()),
         Some(recon) => divide_values(alloc, class, recon, rests),

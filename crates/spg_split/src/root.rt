@@ -44,6 +44,7 @@ pub(crate) fn make_inner_root(page: &mut Page, inner: &TupleBytes, links: &[Opti
     ensures { page.new ≡ inner_root page.old.nulls inner.now links.now }
 {
     let nulls = page.is_nulls();
+    let _size = inner.size();
     clear_leaves(page);
     page.reset(PageKind::Inner, nulls);
     let _ = page.add(inner);

@@ -1,12 +1,21 @@
-ghost use Rattle.std.specs.Prelude.{◌≡◌, Option, IfOk, OnErr, IsErrOf};
-ghost use Rattle.spg_forest.specs.Tuples.{Live};
+ghost use Rattle.std.specs.Prelude.{◌≡◌, ◌<◌, ◌≤◌, ◌-◌, ℕ, Option, length, take, IfOk, OnOk, OnErr, IsErrOf};
+ghost use Rattle.spg_forest.specs.Tuples.{Inner, Live};
+ghost use Rattle.spg_forest.specs.Pages.{all_live};
+ghost use Rattle.spg_forest.specs.Sheets.{weight};
 ghost use Rattle.spg_forest.specs.Shape.{Shape};
-ghost use Rattle.spg_tree.specs.Table.{sheets_of};
+ghost use Rattle.spg_page.specs.Reads.{frame_in};
+ghost use Rattle.spg_tree.specs.Pick.{IsFull};
+ghost use Rattle.spg_tree.specs.Table.{sheets_of, sheet_at, tuples_at};
 ghost use Rattle.spg_tree.specs.Descents.{in_nulls};
+ghost use Rattle.spg_tree.specs.declared.stand.Stand.TheVariants.{Root};
 ghost use Rattle.spg_tree.specs.declared.stand.StepRefused.TheVariants.{IndexFull};
 ghost use Rattle.spg_descend.specs.Carried.{carried, IsCarried};
 ghost use Rattle.spg_descend.specs.Puts.{IsAtLeaves, Fits};
 ghost use Rattle.spg_split.specs.Splits.{IsAtRoot, IsSplitOut, IsSplitFull};
+ghost use Rattle.spg_split.specs.Dividing.{AreAllLive};
+ghost use Rattle.spg_split.specs.Placing.{taken_by, leaves_in, HaveRooms};
+ghost use Rattle.spg_split.specs.Parts.{bare, divided_table, lists_want, PutsLists, AreReady, IsWay, going};
+ghost use Rattle.spg_split.specs.Ways.{IsSplitWay, Notes};
 
 use crate::division::{divide, only_node};
 use crate::parts::{Parts, bytes_of};
@@ -38,7 +47,17 @@ fn write_parts(
     node_of: &[u16],
     inner: &TupleBytes,
     links: &mut List<Option<Place>>,
-) {
+)
+    requires root { (0 < root) × (root < length table.old.pages) }
+    requires block { (0 < block) × (block < length table.old.pages) × (block ≡ root → ⊥) }
+    requires live { AreAllLive (tuples_at table.old root) }
+    requires each { length leaves.now ≤ length node_of.now }
+    requires leaves { leaves.now ≡ all_live (leaves_in leaves.now) }
+    requires inner { inner.now ≡ Inner (frame_in inner.now) (bare (length links.old)) }
+    requires count { length links.old < 65536 }
+    requires room { HaveRooms (tuples_at table.old block) (λ j. taken_by j leaves.now node_of.now) 0 (length links.old) }
+    ensures { table.new ≡ divided_table table.old root block leaves.now node_of.now inner.now (length links.old) }
+{
     put_lists(table.page_mut(block), block, leaves, node_of, links);
     make_inner_root(table.page_mut(root), inner, links.as_slice());
     let mut touched = Touched::new();
@@ -56,7 +75,17 @@ fn put_parts(
     parts: Parts,
     count: usize,
     seat: SeatNo,
-) -> Result<(), StepRefused> {
+) -> Result<(), StepRefused>
+    requires root { (0 < root) × (root < 3) × (root < length table.old.pages) }
+    requires live { AreAllLive (tuples_at table.old root) }
+    requires fits { (b : ℕ) → weight (tuples_at table.old b) ≤ 8160 }
+    requires parts { AreReady parts }
+    requires count { count ≤ length parts.leaves }
+    requires need { weight (take count parts.leaves) ≤ 8160 }
+    ensures ok { OnOk result (PutsLists table.old table.new root seat parts (take count parts.leaves)) }
+    ensures full { IsErrOf result IndexFull → IsFull table.old (lists_want (sheet_at table.old root).nulls (take count parts.leaves) seat) }
+    ensures err { OnErr result (table.new ≡ table.old) }
+{
     let Parts {
         leaves,
         node_of,
@@ -90,7 +119,11 @@ enum Parted {
 }
 
 /// Whether all go, or all but the last.
-fn way_of(parts: &Parts) -> Parted {
+fn way_of(parts: &Parts) -> Parted
+    requires ready { AreReady parts.now }
+    requires some { 0 < length parts.now.leaves }
+    ensures { IsWay parts.now result }
+{
     let count = parts.leaves.len();
     if bytes_of(parts.leaves.as_slice()) <= 8160 {
         Parted::With
@@ -102,6 +135,43 @@ fn way_of(parts: &Parts) -> Parted {
     }
 }
 
+/// How many go.
+fn count_of(parts: &Parts, way: Parted) -> usize
+    requires { 0 < length parts.now.leaves }
+    ensures within { result ≤ length parts.now.leaves }
+    ensures value { take result parts.now.leaves ≡ going parts.now way }
+{
+    match way {
+        Parted::With => parts.leaves.len(),
+        Parted::Without { .. } => parts.leaves.len() - 1,
+    }
+}
+
+/// Puts the tuples of a division on the root's page and on a page that is picked.
+fn put_division(
+    alloc: Global,
+    table: &mut PageTable,
+    root: Block,
+    parts: Parts,
+    seat: SeatNo,
+) -> Result<Parted, StepRefused>
+    requires root { (0 < root) × (root < 3) × (root < length table.old.pages) }
+    requires live { AreAllLive (tuples_at table.old root) }
+    requires fits { (b : ℕ) → weight (tuples_at table.old b) ≤ 8160 }
+    requires parts { AreReady parts }
+    requires some { 0 < length parts.leaves }
+    requires others { weight (take (length parts.leaves - 1) parts.leaves) ≤ 8160 }
+    ensures way { IfOk result (λ way. IsWay parts way) }
+    ensures ok { IfOk result (λ way. PutsLists table.old table.new root seat parts (going parts way)) }
+    ensures full { IsErrOf result IndexFull → IsSplitFull table.old }
+    ensures err { OnErr result (table.new ≡ table.old) }
+{
+    let way = way_of(&parts);
+    let count = count_of(&parts, way);
+    put_parts(alloc, table, root, parts, count, seat)?;
+    Ok(way)
+}
+
 /// Divides the leaves of the root leaf page at which an insert stands.
 fn split_root<O: OpClass>(
     alloc: Global,
@@ -110,22 +180,27 @@ fn split_root<O: OpClass>(
     descent: &Descent<O>,
     root: Block,
     seat: SeatNo,
-) -> Result<Parted, StepRefused> {
+) -> Result<Parted, StepRefused>
+    requires shape { Shape O.meaning (sheets_of table.old) }
+    requires stands { descent.now.stand ≡ Root root }
+    requires spot { IsAtLeaves (sheets_of table.old) (in_nulls descent.now) descent.now.stand }
+    requires of_key { (key : Option O.Key) × IsCarried O.meaning (sheets_of table.old) descent.now key }
+    requires no_room { Fits table.old descent.now.stand (Live (carried descent.now) 0) → ⊥ }
+    ensures ok { IfOk result (λ way. IsSplitWay O.meaning table.old table.new descent.now way) }
+    ensures full { IsErrOf result IndexFull → IsSplitFull table.old }
+    ensures err { OnErr result (table.new ≡ table.old) }
+{
     let values = values_at_root(alloc, table.page(root), descent)?;
     let division = divide(alloc, class, descent.recon(), values.rests.as_slice())?;
     let parts = Parts::of(alloc, values.rows.as_slice(), division)?;
-    let parted = way_of(&parts);
-    let count = match parted {
-        Parted::With => parts.leaves.len(),
-        Parted::Without { .. } => parts.leaves.len() - 1,
-    };
-    put_parts(alloc, table, root, parts, count, seat)?;
-    Ok(parted)
+    put_division(alloc, table, root, parts, seat)
 }
 
 /// Notes in the insert what a division did.
-fn note<O: OpClass>(descent: &mut Descent<O>, parted: Parted) -> SplitOut {
-    match parted {
+fn note<O: OpClass>(descent: &mut Descent<O>, way: Parted) -> SplitOut
+    ensures { Notes descent.old descent.new way result }
+{
+    match way {
         Parted::With => SplitOut::Put,
         Parted::Without { in_one: false } => SplitOut::LeftOut,
         Parted::Without { in_one: true } => {
@@ -160,8 +235,8 @@ pub fn split_leaf<O: OpClass>(
 {
     match descent.stand() {
         Stand::Root(root) => {
-            let parted = split_root(alloc, class, table, descent, root, seat)?;
-            Ok(note(descent, parted))
+            let way = split_root(alloc, class, table, descent, root, seat)?;
+            Ok(note(descent, way))
         }
         Stand::Start | Stand::At(_) | Stand::Empty => unreachable!(),
     }
