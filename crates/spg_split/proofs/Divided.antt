@@ -5,6 +5,7 @@ use Rattle.std.proofs.lemmas.List.Elements.{All-cons, All-get_or, All-from_get_o
 use Rattle.std.proofs.lemmas.List.FromFn.{length-map-range_with_len, get_or-map-range_with_len}
 use Rattle.std.proofs.lemmas.Option.{slice_get_within, slice_get-get_or}
 use Rattle.std.specs.List.{range_with_len}
+use Rattle.std.specs.Prelude.{Result, Ok, Err, IfOk}
 use Rattle.spg_opclass.specs.Meaning.{Meaning, is_tuple, divided, eightfold}
 use Rattle.spg_opclass.specs.Laws.{PickLaw, IsDivision, InOneNode}
 use Rattle.spg_opclass.specs.declared.view.Picked.{Picked}
@@ -165,3 +166,8 @@ nulls_are_divided {Key} {Recon} {Cond} m rests two = record {
     length-rests : (ls : List Leaf) → length (rests_of ls) ≡ length ls
     length-rests [] = refl
     length-rests (l ∷ ls) = ap suc (length-rests ls)
+
+-- of an outcome that is a known one where there is one
+pub if_ok_same : {A E : Type 0} (r : Result A E) (x : A) (P : A → Type 0) → IfOk r (λ a. a ≡ x) → P x → IfOk r P
+if_ok_same (Ok a) x P e p = subst P (sym e) p
+if_ok_same (Err b) x P e p = tt

@@ -5,3 +5,6 @@ pub mod Lists
 pub mod Clearing
 pub mod Divided
 pub mod Totals
+pub mod Chaining
+pub mod Taken
+pub mod RootLaw

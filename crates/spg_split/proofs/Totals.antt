@@ -10,7 +10,7 @@ use Rattle.spg_page.specs.Changes.{room_of}
 use Rattle.spg_page.specs.Reads.{leaf_in}
 use Rattle.spg_page.specs.Told.{number_of}
 use Rattle.spg_chain.specs.Added.{IsLeafIn}
-use Rattle.spg_split.specs.Placing.{taken_by, leaves_in, chained, HaveRoom, HaveRooms}
+use Rattle.spg_split.specs.Placing.{taken_by, leaves_in, chained, placed, HaveRoom, HaveRooms}
 use Rattle.spg_split.proofs.Room.{Change, added_change, added_live, least_weight}
 use Rattle.spg_split.proofs.Reading.{leaves_in_live}
 
@@ -77,7 +77,7 @@ least_total L k (suc n) = let a = least_weight (L k) in let b = least_total L (s
 
 -- a chain leaves the room that others want
 chain_room : (ts : List Tuple) (last : Option ℕ) (ls : List Leaf) (w c : ℕ) → IsLeafIn ts last → weight ts ≤ 8160 → 20 * c ≤ w → bytes ls + w ≤ room_of ts (count ls + c) → (weight (chained ts (number_of last) ls) ≤ 8160) × (w ≤ room_of (chained ts (number_of last) ls) c)
-chain_room ts last [] w c a f m r = (f, r)
+chain_room ts last [] w c a f m r = (f, omega arith)
 chain_room ts last (l ∷ ls) w c a f m r =
     let us : List Tuple = added ts (number_of last) (suc (free_place ts)) l in
     let s = least_weight ls in
@@ -119,3 +119,12 @@ lists_room ts leaves nodes n f live each small r =
     len : (us : List Tuple) → length us ≡ length (leaves_in us)
     len [] = refl
     len (u ∷ us) = ap suc (len us)
+
+-- lists that have room fit
+pub placed_fits : (ts : List Tuple) (L : ℕ → List Leaf) (k n : ℕ) → weight ts ≤ 8160 → HaveRooms ts L k n → weight (placed ts L k n) ≤ 8160
+placed_fits ts L k zero f r = f
+placed_fits ts L k (suc n) f (r, rs) =
+    let q = r.room in
+    let e : count (L k) + 0 ≡ length (L k) = omega arith in
+    let (x, y) = chain_room ts None (L k) 0 0 tt f (omega arith) (rw e (omega arith)) in
+    placed_fits (chained ts 0 (L k)) L (suc k) n x rs

@@ -38,7 +38,7 @@ pub record ArePartsOf (rows : List RowAt) (d : Division) (p : Parts) : Type 0 wh
 abbrev pub divided_table : Table → ℕ → ℕ → List Tuple → List ℕ → Tuple → ℕ → Table
 divided_table t root b leaves nodes inner n =
     let L : ℕ → List Leaf = λ j. taken_by j leaves nodes in
-    with_touched (with_sheet (with_tuples_at t b (placed (tuples_at t b) L 0 n)) root (inner_root (sheet_at t root).nulls inner (downlinks b (tuples_at t b) L 0 n))) (root ∷ b ∷ [])
+    with_touched (with_sheet (with_tuples_at t b (placed (tuples_at t b) L 0 n)) root (inner_root (sheet_at t root).nulls inner (downlinks b (tuples_at t b) L 0 n))) (b ∷ root ∷ [])
 
 -- the pick of a page for leaf tuples
 abbrev pub lists_want : Bool → List Tuple → ℕ → Want

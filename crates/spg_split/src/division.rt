@@ -1,4 +1,6 @@
-ghost use Rattle.std.specs.Prelude.{◌≡◌, ◌<◌, ◌≤◌, ℕ, [], length, map, replicate, option_copied, IfOk, Some as Just};
+ghost use Rattle.std.specs.Prelude.{◌≡◌, ◌<◌, ◌≤◌, ℕ, [], length, map, replicate, option_copied, IfOk, slice_get, Some as Just};
+ghost use Rattle.std.specs.Int.RustNames.{FitsSigned};
+ghost use Rattle.std.specs.Int.{w16};
 ghost use Rattle.spg_opclass.specs.Meaning.{eightfold};
 ghost use Rattle.spg_split.specs.Dividing.{IsDivided, GiveKeys, nulls_divided};
 ghost use Rattle.spg_split.specs.Nodes.{turns, IsOnlyNode};
@@ -77,6 +79,15 @@ fn divide_nulls(alloc: Global, count: usize) -> Result<Division, Memory>
     })
 }
 
+/// The label of a node.
+fn label_at(labels: &Labels, node: u16) -> i16
+    requires { node < length labels.now }
+    ensures value { slice_get labels.now node ≡ Just result }
+    ensures in_range { FitsSigned w16 result }
+{
+    labels.as_slice()[node as usize]
+}
+
 /// Divides values as the class says. Where it puts all in one node, they fill an all-the-same tuple.
 fn divide_values<O: OpClass>(
     alloc: Global,
@@ -100,7 +111,7 @@ fn divide_values<O: OpClass>(
             rests: picked.rests,
         }),
         Some(node) => {
-            let label = picked.labels.as_slice()[node as usize];
+            let label = label_at(&picked.labels, node);
             Ok(Division {
                 frame: all_the_same(alloc, picked.prefix, label)?,
                 node_of: nodes_in_turn(alloc, rests.len())?,

@@ -61,8 +61,8 @@ fn write_parts(
     put_lists(table.page_mut(block), block, leaves, node_of, links);
     make_inner_root(table.page_mut(root), inner, links.as_slice());
     let mut touched = Touched::new();
-    touched.push(root);
     touched.push(block);
+    touched.push(root);
     table.set_touched(touched);
 }
 
