@@ -8,3 +8,5 @@ pub mod Totals
 pub mod Chaining
 pub mod Taken
 pub mod RootLaw
+pub mod Picking
+pub mod Standing

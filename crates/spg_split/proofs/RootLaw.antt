@@ -86,7 +86,7 @@ module _ {Key Recon Cond : Type 0} (m : Meaning Key Recon Cond) (S : Sheets) (b 
   lists = record {
     at = put_at_same (with_block (spots S) b T.spots) (place root 0) (Branch w ds) (place root 0) refl;
     lists = λ j y e. let (p, q, r, z) = T.lists j y e in
-        (off_root y p ∙ q, ap (spots S) (at_block y p) ∙ r, z);
+        (off_root y p ∙ q ∙ ap (λ i. Bucket (L i)) (zero_plus j), ap (spots S) (at_block y p) ∙ r, z);
     apart = T.apart;
     cases = λ x. ⊎_elim (λ e. inl (inl e)) (λ k. ⊎_elim
         (λ e. ⊎_elim
@@ -98,6 +98,9 @@ module _ {Key Recon Cond : Type 0} (m : Meaning Key Recon Cond) (S : Sheets) (b 
     where
       at_block : (x : Place) → x.block ≡ b → x ≡ place b x.offset
       at_block x e i = record { block = e i; offset = x.offset }
+
+      zero_plus : (j : ℕ) → 0 + j ≡ j
+      zero_plus j = omega arith
 
       -- where nothing has changed, no downlink leads
       decided : (x : Place) → V2 x ≡ spots S x → ((j : ℕ) × (get_or ds j None ≡ Some x)) ⊎ ((j : ℕ) × (get_or ds j None ≡ Some x) → ⊥)

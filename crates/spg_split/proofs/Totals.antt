@@ -2,9 +2,14 @@
 use Rattle.std.proofs.Common.{◌≡◌, ℕ, zero, suc, ◌+◌, ◌-◌, ◌*◌, ◌≤◌, ◌<◌, List, [], ◌∷◌, ◌++◌, ⊎_elim, Option, Some, None, length, take, get_or, cond, nat_eq, min, refl, sym, ap, ap₂, ◌∙◌, subst, arith}
 use Rattle.std.proofs.lemmas.Bool.{cases_eq, cases_lt, cond-true, cond-false, eq-eqb, ne_eqb}
 use Rattle.spg_forest.specs.View.{Leaf}
-use Rattle.spg_forest.specs.Tuples.{Tuple, Live}
-use Rattle.spg_forest.specs.Pages.{all_live}
-use Rattle.spg_forest.specs.Sheets.{weight, gaps, size_of, free_place}
+use Rattle.spg_forest.specs.Tuples.{Tuple, Live, put_on, next_of}
+use Rattle.spg_forest.specs.Walk.{spread_on, spread_at, lives_on}
+use Rattle.spg_forest.proofs.Stock.{spread_with}
+use Rattle.spg_forest.proofs.Chain.{put_on_same}
+use Rattle.spg_page.proofs.SheetFacts.{free_place_free, free_place_length}
+use Rattle.spg_chain.proofs.Laid.{head_there, added_behind, with_tuple_at}
+use Rattle.spg_forest.specs.Pages.{all_live, tuple_on, with_tuple}
+use Rattle.spg_forest.specs.Sheets.{weight, gaps, size_of, free_place, relinked}
 use Rattle.spg_forest.specs.Edits.{added}
 use Rattle.spg_page.specs.Changes.{room_of}
 use Rattle.spg_page.specs.Reads.{leaf_in}
@@ -128,3 +133,83 @@ placed_fits ts L k (suc n) f (r, rs) =
     let e : count (L k) + 0 ≡ length (L k) = omega arith in
     let (x, y) = chain_room ts None (L k) 0 0 tt f (omega arith) (rw e (omega arith)) in
     placed_fits (chained ts 0 (L k)) L (suc k) n x rs
+
+-- ---- of a chain all leaves but the first
+
+abbrev pub but_first : List Leaf → ℕ
+but_first ls = length ls - 1
+
+but_first_le : (L : ℕ → List Leaf) (k n : ℕ) → total but_first L k n ≤ total count L k n
+unfolding total
+but_first_le L k zero = omega arith
+but_first_le L k (suc n) = let a = but_first_le L (suc k) n in omega arith
+
+-- one list has a leaf
+pub but_first_one : (L : ℕ → List Leaf) (k n i : ℕ) → i < n → 0 < length (L (k + i)) → total but_first L k n + 1 ≤ total count L k n
+unfolding total
+but_first_one L k zero i h a = absurd (omega arith)
+but_first_one L k (suc n) zero h a = let e : k + 0 ≡ k = omega arith in let b : length (L (k + 0)) ≡ length (L k) = ap (λ j. length (L j)) e in let c = but_first_le L (suc k) n in omega arith
+but_first_one L k (suc n) (suc i) h a = let e : k + suc i ≡ suc k + i = omega arith in let b : length (L (k + suc i)) ≡ length (L (suc k + i)) = ap (λ j. length (L j)) e in let c = but_first_one L (suc k) n i (omega arith) (omega arith) in omega arith
+
+-- two lists have leaves
+pub but_first_two : (L : ℕ → List Leaf) (k n i j : ℕ) → i < j → j < n → 0 < length (L (k + i)) → 0 < length (L (k + j)) → total but_first L k n + 2 ≤ total count L k n
+unfolding total
+but_first_two L k zero i j q h a b = absurd (omega arith)
+but_first_two L k (suc n) i zero q h a b = absurd (omega arith)
+but_first_two L k (suc n) zero (suc j) q h a b =
+    let e : k + 0 ≡ k = omega arith in let f : length (L (k + 0)) ≡ length (L k) = ap (λ j. length (L j)) e in
+    let u : k + suc j ≡ suc k + j = omega arith in let v : length (L (k + suc j)) ≡ length (L (suc k + j)) = ap (λ j. length (L j)) u in
+    let c = but_first_one L (suc k) n j (omega arith) (omega arith) in omega arith
+but_first_two L k (suc n) (suc i) (suc j) q h a b =
+    let e : k + suc i ≡ suc k + i = omega arith in let f : length (L (k + suc i)) ≡ length (L (suc k + i)) = ap (λ j. length (L j)) e in
+    let u : k + suc j ≡ suc k + j = omega arith in let v : length (L (k + suc j)) ≡ length (L (suc k + j)) = ap (λ j. length (L j)) u in
+    let c = but_first_two L (suc k) n i j (omega arith) (omega arith) (omega arith) (omega arith) in omega arith
+
+-- a tuple of the node is in its list
+pub taken_some : (j : ℕ) (ts : List Tuple) (nodes : List ℕ) (i : ℕ) → i < length ts → i < length nodes → get_or nodes i 0 ≡ j → 0 < length (taken_by j ts nodes)
+taken_some j [] nodes i a b e = absurd (omega arith)
+taken_some j (t ∷ ts) [] i a b e = absurd (omega arith)
+taken_some j (t ∷ ts) (n ∷ nodes) zero a b e = let c = ap length (cond-true (nat_eq n j) (leaf_in t ∷ taken_by j ts nodes) (taken_by j ts nodes) (eq-eqb n j e)) in omega arith
+taken_some j (t ∷ ts) (n ∷ nodes) (suc i) a b e = let h = taken_some j ts nodes i (omega arith) (omega arith) e in ⊎_elim
+    (λ q. let c = ap length (cond-true (nat_eq n j) (leaf_in t ∷ taken_by j ts nodes) (taken_by j ts nodes) (eq-eqb n j q)) in omega arith)
+    (λ q. let c = ap length (cond-false (nat_eq n j) (leaf_in t ∷ taken_by j ts nodes) (taken_by j ts nodes) (ne_eqb n j q)) in omega arith) (cases_eq n j)
+
+-- how the lists spread on their page
+chain_spread : (ts : List Tuple) (j : ℕ) (k : Leaf) (ls : List Leaf) → tuple_on ts j ≡ Live k 0 → spread_on (chained ts j ls) ≡ spread_on ts + length ls
+chain_spread ts j k [] e = omega arith
+chain_spread ts zero k (l ∷ ls) e = cc
+chain_spread ts (suc i) k (l ∷ ls) e =
+    let o : ℕ = suc (free_place ts) in
+    let f : free_place ts ≤ length ts = free_place_length ts in
+    let t : Tuple = Live l (next_of (tuple_on ts (suc i))) in
+    let us : List Tuple = with_tuple ts o t in
+    let h = head_there ts (suc i) k 0 o t refl e in
+    let a = spread_with ts o t (omega arith) (omega arith) in
+    let q = ap spread_at (free_place_free ts) in
+    let z : spread_at t ≡ 0 = ap (λ u. spread_at (Live l (next_of u))) e in
+    let u : Tuple = relinked (tuple_on us (suc i)) o in
+    let b = spread_with us (suc i) u (omega arith) (let w = h.0.1 in omega arith) in
+    let x : spread_at u ≡ 1 = ap (λ v. spread_at (relinked v o)) h.1 in
+    let y : spread_at (tuple_on us (suc i)) ≡ 0 = ap spread_at h.1 in
+    let at : tuple_on (added ts (suc i) o l) o ≡ Live l 0 = ap (λ (T : ℕ → Tuple). T o) (added_behind ts i k l 0 e) ∙ put_on_same (put_on (tuple_on ts) (suc i) (Live k o)) o (Live l 0) o refl in
+    let c = chain_spread (added ts (suc i) o l) o l ls at in
+    omega arith
+
+pub list_spread : (ts : List Tuple) (ls : List Leaf) → spread_on (chained ts 0 ls) ≡ spread_on ts + but_first ls
+list_spread ts [] = omega arith
+list_spread ts (l ∷ ls) =
+    let o : ℕ = suc (free_place ts) in
+    let f : free_place ts ≤ length ts = free_place_length ts in
+    let a = spread_with ts o (Live l 0) (omega arith) (omega arith) in
+    let q = ap spread_at (free_place_free ts) in
+    let c = chain_spread (added ts 0 o l) o l ls (with_tuple_at ts (free_place ts) (Live l 0) f) in
+    omega arith
+
+pub placed_spread : (ts : List Tuple) (L : ℕ → List Leaf) (k n : ℕ) → spread_on (placed ts L k n) ≡ spread_on ts + total but_first L k n
+unfolding total
+placed_spread ts L k zero = omega arith
+placed_spread ts L k (suc n) = let a = list_spread ts (L k) in let b = placed_spread (chained ts 0 (L k)) L (suc k) n in omega arith
+
+pub root_spread : (ls : List Leaf) → (spread_on (all_live ls) ≡ 0) × (lives_on (all_live ls) ≡ length ls)
+root_spread [] = (refl, refl)
+root_spread (l ∷ ls) = let (a, b) = root_spread ls in (omega arith, omega arith)
