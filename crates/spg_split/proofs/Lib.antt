@@ -10,3 +10,4 @@ pub mod Taken
 pub mod RootLaw
 pub mod Picking
 pub mod Standing
+pub mod Joining

@@ -189,7 +189,7 @@ chain_spread ts (suc i) k (l ∷ ls) e =
     let z : spread_at t ≡ 0 = ap (λ u. spread_at (Live l (next_of u))) e in
     let u : Tuple = relinked (tuple_on us (suc i)) o in
     let b = spread_with us (suc i) u (omega arith) (let w = h.0.1 in omega arith) in
-    let x : spread_at u ≡ 1 = ap (λ v. spread_at (relinked v o)) h.1 in
+    let x : spread_at u ≡ 1 = ap (λ v. spread_at (relinked v o)) h.1 ∙ cond-false (nat_eq o 0) 0 1 (ne_eqb o 0 (λ e. absurd (omega arith))) in
     let y : spread_at (tuple_on us (suc i)) ≡ 0 = ap spread_at h.1 in
     let at : tuple_on (added ts (suc i) o l) o ≡ Live l 0 = ap (λ (T : ℕ → Tuple). T o) (added_behind ts i k l 0 e) ∙ put_on_same (put_on (tuple_on ts) (suc i) (Live k o)) o (Live l 0) o refl in
     let c = chain_spread (added ts (suc i) o l) o l ls at in

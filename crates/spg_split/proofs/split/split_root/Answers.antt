@@ -5,7 +5,7 @@ use Rattle.spg_descend.specs.Carried.{carried}
 use Rattle.spg_forest.specs.Divisions.{rests_of}
 use Rattle.spg_forest.specs.Sheets.{Sheet}
 use Rattle.spg_split.specs.Dividing.{AreAllLive, rows_of}
-use Rattle.spg_split.proofs.RootLaw.{becomes, lists}
+use Rattle.spg_split.proofs.Joining.{if_ok_both}
 use Rattle.spg_split.proofs.Standing.{live_there, several, keys, rest_fits, tuple_fits, ready, leaf_count, count_vs, others_fit, values_are, divided_as, keys_as, parts_as, nulls_recon}
 use Rattle.spg_split.proofs.split.split_root.Goals as goal
 
