@@ -5,7 +5,9 @@ use Rattle.spg_descend.specs.Carried.{carried}
 use Rattle.spg_forest.specs.Divisions.{rests_of}
 use Rattle.spg_forest.specs.Sheets.{Sheet}
 use Rattle.spg_split.specs.Dividing.{AreAllLive, rows_of}
-use Rattle.spg_split.proofs.Joining.{if_ok_both}
+use Rattle.spg_split.proofs.Joining.{if_ok_both, split_law}
+use Rattle.spg_split.specs.Parts.{IsWay, PutsLists, going}
+use Rattle.spg_split.specs.Ways.{IsSplitWay}
 use Rattle.spg_split.proofs.Standing.{live_there, several, keys, rest_fits, tuple_fits, ready, leaf_count, count_vs, others_fit, values_are, divided_as, keys_as, parts_as, nulls_recon}
 use Rattle.spg_split.proofs.split.split_root.Goals as goal
 
@@ -65,4 +67,11 @@ put_division-requires-clause-others g c =
     others_fit g.O.OpClass.meaning g.O.OpClass.codes c.args.table.now c.args.descent.now c.args.root c.requires.shape c.requires.stands c.requires.spot c.requires.of_key c.requires.no_room c.in_ok-division.division D N c.in_ok-parts.parts P
 
 pub returns-clause-ok : goal.returns-clause-ok
-returns-clause-ok g c = ?
+returns-clause-ok g c =
+    let V = values_are c.args.table.now c.args.root c.args.descent.now c.page.result.now c.in_ok-values.values c.page.ensures c.in_ok-values.ensures in
+    let D = divided_as g.O.OpClass.meaning (option_copied c.recon.result) c.args.descent.now.recon c.as_slice.result.now (rests_of (leaves_on (tuples_at c.args.table.now c.args.root) ++ carried c.args.descent.now ∷ [])) c.in_ok-division.division c.recon.ensures.value (c.as_slice.ensures ∙ V.rests) c.in_ok-division.ensures in
+    let N = nulls_recon c.args.descent.now.start c.args.descent.now.recon c.recon.ensures.known in
+    let P = parts_as c.as_slice-2.result.now (rows_of (leaves_on (tuples_at c.args.table.now c.args.root) ++ carried c.args.descent.now ∷ [])) c.in_ok-division.division c.in_ok-parts.parts (c.as_slice-2.ensures ∙ V.rows) c.in_ok-parts.ensures in
+    if_ok_both c.put_division.result (λ way. IsWay c.in_ok-parts.parts way) (λ way. PutsLists c.args.table.now c.put_division.new.table c.args.root c.args.seat c.in_ok-parts.parts (going c.in_ok-parts.parts way))
+    (λ way. IsSplitWay g.O.OpClass.meaning c.args.table.now c.put_division.new.table c.args.descent.now way)
+    (λ way a b. split_law g.O.OpClass.meaning g.O.OpClass.codes c.args.table.now c.args.descent.now c.args.root c.requires.shape c.requires.stands c.requires.spot c.requires.of_key c.requires.no_room c.in_ok-division.division D N c.in_ok-parts.parts P c.args.seat c.put_division.new.table way a b) c.put_division.ensures.way c.put_division.ensures.ok
