@@ -1,5 +1,5 @@
 -- What a page shows once lists of leaves were added to it.
-use Rattle.std.proofs.Common.{◌≡◌, ℕ, zero, suc, ◌+◌, ◌≤◌, ◌<◌, List, [], ◌∷◌, ◌++◌, append_assoc, append-nil, length, length-append, ◌⊎◌, ⊎_elim, Option, Some, None, get_or, slice_get, refl, sym, ap, ap₂, ◌∙◌, subst, inl, inr, arith}
+use Rattle.std.proofs.Common.{◌≡◌, ℕ, zero, suc, ◌+◌, ◌<◌, List, [], ◌∷◌, ◌++◌, append_assoc, append-nil, length, length-append, ◌⊎◌, ⊎_elim, Some, None, get_or, slice_get, refl, sym, ap, ap₂, ◌∙◌, subst, inl, inr, arith}
 use Rattle.std.proofs.lemmas.Bool.{cases_eq}
 use Rattle.spg_forest.specs.View.{Place, Leaf}
 use Rattle.spg_forest.specs.Spot.{Spot, Bucket, Nothing, IsIn}
@@ -183,7 +183,11 @@ first_shown ts us Y Y1 b L k n e here there R =
 
 pub shows_lists : (ts : List Tuple) (Y : ℕ → Spot) (b : ℕ) (L : ℕ → List Leaf) (k n : ℕ) → IsLaidOut (tuple_on ts) Y → ShowsLists ts Y b L k n
 shows_lists ts Y b L k zero H = record {
-  spots = Y; laid = H; lists = λ i y e. cc; apart = λ i j y e f. cc; cases = λ o. inr refl;
+  spots = Y;
+  laid = H;
+  lists = λ i y e. cc;
+  apart = λ i j y e f. cc;
+  cases = λ o. inr refl;
 }
 shows_lists ts Y b L k (suc n) H = go (λ us Y1 N. shows_lists us Y1 b L (suc k) n N) (L k) refl
   where

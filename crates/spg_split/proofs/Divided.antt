@@ -1,23 +1,20 @@
 -- What the class divides goes below the nodes of the new tuple.
-use Rattle.std.proofs.Common.{◌≡◌, ℕ, zero, suc, ◌+◌, ◌≤◌, ◌<◌, ◌%◌, ℤ, pos, true, false, List, [], ◌∷◌, Option, Some, None, IsSome, All, length, map, get_or, option_map, slice_get, slice_index, replicate, refl, sym, ap, ◌∙◌, subst, inl, inr, arith}
+use Rattle.std.proofs.Common.{◌≡◌, ℕ, zero, suc, ◌≤◌, ◌<◌, ◌%◌, ℤ, pos, true, List, [], ◌∷◌, Option, Some, None, IsSome, All, length, get_or, option_map, slice_get, slice_index, replicate, refl, sym, ap, ◌∙◌, subst, inl, inr, arith}
 use Rattle.std.proofs.lemmas.List.{length-replicate}
 use Rattle.std.proofs.lemmas.List.Elements.{All-cons, All-get_or, All-from_get_or}
 use Rattle.std.proofs.lemmas.List.FromFn.{length-map-range_with_len, get_or-map-range_with_len}
 use Rattle.std.proofs.lemmas.Option.{slice_get_within, slice_get-get_or}
-use Rattle.std.specs.List.{range_with_len}
 use Rattle.std.specs.Prelude.{Result, Ok, Err, IfOk}
-use Rattle.spg_opclass.specs.Meaning.{Meaning, is_tuple, divided, eightfold}
+use Rattle.spg_opclass.specs.Meaning.{Meaning, divided, eightfold}
 use Rattle.spg_opclass.specs.Laws.{PickLaw, IsDivision, InOneNode}
 use Rattle.spg_opclass.specs.declared.view.Picked.{Picked}
 use Rattle.spg_forest.specs.View.{Leaf}
-use Rattle.spg_forest.specs.Spot.{IsIn, Frame}
-use Rattle.spg_forest.specs.Classes.{class_of, key_of}
-use Rattle.spg_forest.specs.Shape.{IsRestOf}
+use Rattle.spg_forest.specs.Spot.{Frame}
+use Rattle.spg_forest.specs.Classes.{class_of}
 use Rattle.spg_forest.specs.Divisions.{EachGoes, rests_of, HaveKeys}
 use Rattle.spg_forest.proofs.Divisions.{pick_goes, one_node_goes, nulls_go}
 use Rattle.spg_split.specs.Nodes.{turns, IsOnlyNode}
 use Rattle.spg_split.specs.Dividing.{GiveKeys, IsDivided, nulls_divided}
-use Rattle.spg_split.specs.declared.division.Division.{Division}
 
 -- a rest that gives a key
 gives : {Key : Type 0} (o : Option Key) → IsSome (option_map Some o) → (key : Key) × (o ≡ Some key)

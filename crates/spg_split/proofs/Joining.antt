@@ -1,8 +1,8 @@
 -- The division at a root, joined to the law: with the leaf of the insert and without it.
-use Rattle.std.proofs.Common.{◌≡◌, ℕ, zero, suc, ◌+◌, ◌-◌, ◌≤◌, ◌<◌, Bool, true, false, List, [], ◌∷◌, ◌++◌, ◌⊎◌, ⊎_elim, Option, Some, None, is_none, is_some, get_or, slice_get, slice_index, set, length, length-set, take, refl, sym, ap, ap₂, ◌∙◌, subst, inl, inr, arith}
+use Rattle.std.proofs.Common.{◌≡◌, ℕ, suc, ◌+◌, ◌-◌, ◌≤◌, ◌<◌, Bool, true, false, List, [], ◌∷◌, ◌++◌, ⊎_elim, Option, Some, None, is_none, is_some, get_or, slice_index, set, length, length-set, take, refl, sym, ap, ◌∙◌, subst, inl, inr, arith}
 use mathlib.Core.Path.{fun_ext}
-use Rattle.std.specs.Prelude.{Result, Ok, Err, IfOk, cond, nat_le}
-use Rattle.std.proofs.lemmas.Bool.{cases_eq, cases_lt, cond-true, cond-false, le-leb, lt-leb}
+use Rattle.std.specs.Prelude.{Result, Ok, Err, IfOk, nat_le}
+use Rattle.std.proofs.lemmas.Bool.{cases_lt, cond-true, cond-false, le-leb, lt-leb}
 use Rattle.std.proofs.lemmas.List.{get_or-take, length-take-le}
 use Rattle.spg_base.specs.Row.{RowAt}
 use Rattle.spg_opclass.specs.Meaning.{Meaning}
@@ -12,12 +12,12 @@ use Rattle.spg_forest.specs.Spot.{Frame, Spot, Bucket, IsIn, IsStanding}
 use Rattle.spg_forest.specs.Tuples.{Tuple, Inner, Live, IsAmong}
 use Rattle.spg_forest.specs.Pages.{place, tuple_on, all_live, IsFresh}
 use Rattle.spg_forest.specs.Links.{leaves_on}
-use Rattle.spg_forest.specs.Classes.{class_of, key_of, start_of, down_of, HasEntry}
+use Rattle.spg_forest.specs.Classes.{class_of, HasEntry}
 use Rattle.spg_forest.specs.Fit.{FitAt}
 use Rattle.spg_forest.specs.Sheets.{Sheet, Sheets, sheet_at, weight, size_of}
 use Rattle.spg_forest.specs.Shape.{Shape, spots, IsTupleOf, IsRestOf}
-use Rattle.spg_forest.specs.Section.{Adds, Leaves, Cost}
-use Rattle.spg_forest.specs.Walk.{page_spread, spread_on, lives_on}
+use Rattle.spg_forest.specs.Section.{Adds, Leaves}
+use Rattle.spg_forest.specs.Walk.{page_spread, lives_on}
 use Rattle.spg_forest.specs.Divisions.{EachGoes, list_of, rests_of}
 use Rattle.spg_forest.specs.Edits.{with_sheet}
 use Rattle.spg_forest.specs.Sheets.{with_tuples}
@@ -30,7 +30,6 @@ use Rattle.spg_forest.proofs.Keeping.{entry_of, no_entry}
 use Rattle.spg_page.specs.Kinds.{IsInner}
 use Rattle.spg_forest.proofs.FitWay.{recon_of_fit}
 use Rattle.spg_page.specs.Reads.{frame_in}
-use Rattle.spg_page.specs.Changes.{room_of}
 use Rattle.spg_tree.specs.Table.{Table, sheets_of, tuples_at, latch_at}
 use Rattle.spg_tree.specs.Table as table
 use Rattle.spg_tree.specs.Descents.{Descending, in_nulls, risen}
@@ -49,9 +48,9 @@ use Rattle.spg_split.specs.Ways.{IsSplitWay}
 use Rattle.spg_split.specs.Nodes.{IsOnlyNode}
 use Rattle.spg_split.specs.Dividing.{IsDivided, rows_of}
 use Rattle.spg_split.specs.Placing.{taken_by, placed, downlinks, leaves_with, leaves_in, HaveRooms}
-use Rattle.spg_split.specs.Parts.{ArePartsOf, AreReady, PutsLists, lists_want, divided_table, IsWay, going}
+use Rattle.spg_split.specs.Parts.{ArePartsOf, AreReady, PutsLists, lists_want, IsWay, going}
 use Rattle.spg_split.proofs.Reading.{leaves_in_live, length-all_live}
-use Rattle.spg_split.proofs.Taken.{taken_list, taken_node, taken_rest, with_length, goes_without}
+use Rattle.spg_split.proofs.Taken.{taken_list, taken_node, taken_rest, goes_without}
 use Rattle.spg_split.proofs.Totals.{total, but_first, count, count_sum, total_all, lists_room, placed_spread, root_spread, but_first_one, but_first_two, taken_some}
 use Rattle.spg_split.proofs.Chaining.{downlink_there, downlinks_length}
 use Rattle.spg_split.proofs.RootLaw.{V2, becomes, lists}
@@ -314,7 +313,7 @@ module _ {Key Recon Cond : Type 0} (m : Meaning Key Recon Cond) (codes : CodeLaw
         let l3 = ap (λ (z : Sheets). length z.sheets) after_is in
         let r = low in
         let e : tuple_on (sheet_at (sheets_of t2) root).tuples 1 ≡ Inner w ds = ap (λ (z : Sheets). tuple_on (sheet_at z root).tuples 1) after_is
-          ∙ ap (λ (s : Sheet). tuple_on s.tuples 1) (sheet_same (with_sheet S1 b (with_tuples (sheet_at S1 b) (placed (sheet_at S1 b).tuples L 0 n))) root (record { inner = true; nulls = (sheet_at S1 root).nulls; tuples = Inner w ds ∷ [] }) (omega arith)) in
+        ∙ ap (λ (s : Sheet). tuple_on s.tuples 1) (sheet_same (with_sheet S1 b (with_tuples (sheet_at S1 b) (placed (sheet_at S1 b).tuples L 0 n))) root (record { inner = true; nulls = (sheet_at S1 root).nulls; tuples = Inner w ds ∷ [] }) (omega arith)) in
         subst (λ (s : Stand). IsAtInner t2 s) (sym st) (r, omega arith, subst IsInner (sym e) refl)
 
     carries : (more : ℕ) → Leaves m S (sheets_of t2) t2.touched (split_cost d.stand more) 0 (λ x. x) → (key : Option Key) → IsCarried m S d key → IsCarried m (sheets_of t2) d key
@@ -331,14 +330,18 @@ module _ {Key Recon Cond : Type 0} (m : Meaning Key Recon Cond) (codes : CodeLaw
     parts_without ex more le = let X = leaves ex more le in record { leaves = X; inner = at_inner; carries = carries more X }
 
     parts_risen : xs ≡ ls → (more : ℕ) → Bounded more → PartsWithout m t t2 d (risen d) more
-    parts_risen ex more le = let X = leaves ex more le in record { leaves = X; inner = at_inner; carries = λ key C. let C2 = carries more X key C in record {
-      of = record { start = C2.of.start; whole = C2.of.whole; gives = C2.of.gives };
-      begins = C2.begins;
-      fresh = C2.fresh;
-      rest = C2.rest;
-      rebuilt = C2.rebuilt;
-      way = C2.way;
-    } }
+    parts_risen ex more le = let X = leaves ex more le in record {
+      leaves = X;
+      inner = at_inner;
+      carries = λ key C. let C2 = carries more X key C in record {
+        of = record { start = C2.of.start; whole = C2.of.whole; gives = C2.of.gives };
+        begins = C2.begins;
+        fresh = C2.fresh;
+        rest = C2.rest;
+        rebuilt = C2.rebuilt;
+        way = C2.way;
+      };
+    }
 
   first_nodes : (k : ℕ) (ns : List ℕ) (i : ℕ) → i < k → slice_index (take k ns) i ≡ slice_index ns i
   first_nodes k ns i h = get_or-take k ns i 0 h
@@ -360,20 +363,20 @@ module _ {Key Recon Cond : Type 0} (m : Meaning Key Recon Cond) (codes : CodeLaw
 
   without_law : (seat : ℕ) (t2 : Table) → PutsLists t t2 root seat p all_but_last → (in_one : Bool) (node : Option ℕ) → IsOnlyNode (take (length p.leaves - 1) p.node_of) node → in_one ≡ is_some node → IsSplitWay m t t2 d (Without in_one)
   without_law seat t2 W true node only e =
-          let c = count_old in let o = one_there m codes t d root H st A K no_room in let l = length_old in
-          let one = bound_one seat t2 all_but_last ls few_old are_old (omega arith) W (omega arith) in
-          (calm seat t2 all_but_last ls few_old are_old (omega arith) W, parts_risen seat t2 all_but_last ls few_old are_old (omega arith) W refl 1 (bounded seat t2 all_but_last ls few_old are_old (omega arith) W 1 1 one (omega arith)))
+      let c = count_old in let o = one_there m codes t d root H st A K no_room in let l = length_old in
+      let one = bound_one seat t2 all_but_last ls few_old are_old (omega arith) W (omega arith) in
+      (calm seat t2 all_but_last ls few_old are_old (omega arith) W, parts_risen seat t2 all_but_last ls few_old are_old (omega arith) W refl 1 (bounded seat t2 all_but_last ls few_old are_old (omega arith) W 1 1 one (omega arith)))
   without_law seat t2 W false (Some k) only e = cc
   without_law seat t2 W false None only e =
-          let c = count_old in let o = one_there m codes t d root H st A K no_room in let l = length_old in
-          let nc = node_count m codes t d root H st A K no_room dv D same p P in
-          let lc = leaf_count m codes t d root H st A K no_room dv D same p P in
-          let tl = length-take-le (length p.leaves - 1) p.node_of (omega arith) in
-          let (j, h, differ) = only (omega arith) in
-          let fj = first_nodes (length p.leaves - 1) p.node_of j (omega arith) in
-          let f0 = first_nodes (length p.leaves - 1) p.node_of 0 (omega arith) in
-          let two = bound_two seat t2 all_but_last ls few_old are_old (omega arith) W j 0 (omega arith) (omega arith) (λ q. differ (fj ∙ q ∙ sym f0)) in
-          (calm seat t2 all_but_last ls few_old are_old (omega arith) W, parts_without seat t2 all_but_last ls few_old are_old (omega arith) W refl 0 (bounded seat t2 all_but_last ls few_old are_old (omega arith) W 2 0 two (omega arith)))
+      let c = count_old in let o = one_there m codes t d root H st A K no_room in let l = length_old in
+      let nc = node_count m codes t d root H st A K no_room dv D same p P in
+      let lc = leaf_count m codes t d root H st A K no_room dv D same p P in
+      let tl = length-take-le (length p.leaves - 1) p.node_of (omega arith) in
+      let (j, h, differ) = only (omega arith) in
+      let fj = first_nodes (length p.leaves - 1) p.node_of j (omega arith) in
+      let f0 = first_nodes (length p.leaves - 1) p.node_of 0 (omega arith) in
+      let two = bound_two seat t2 all_but_last ls few_old are_old (omega arith) W j 0 (omega arith) (omega arith) (λ q. differ (fj ∙ q ∙ sym f0)) in
+      (calm seat t2 all_but_last ls few_old are_old (omega arith) W, parts_without seat t2 all_but_last ls few_old are_old (omega arith) W refl 0 (bounded seat t2 all_but_last ls few_old are_old (omega arith) W 2 0 two (omega arith)))
 
   -- whichever way it was done
   pub split_law : (seat : ℕ) (t2 : Table) (way : Parted) → IsWay p way → PutsLists t t2 root seat p (going p way) → IsSplitWay m t t2 d way

@@ -1,5 +1,5 @@
 -- The lists of all nodes on their way to a page.
-use Rattle.std.proofs.Common.{◌≡◌, ℕ, suc, ◌+◌, ◌-◌, ◌≤◌, ◌<◌, List, [], ◌∷◌, ◌++◌, Option, length, length-set, set, take, drop, append_assoc, append-nil, refl, sym, ap, ap₂, ◌∙◌, subst, arith}
+use Rattle.std.proofs.Common.{◌≡◌, ℕ, suc, ◌+◌, ◌-◌, ◌≤◌, ◌<◌, List, [], ◌∷◌, ◌++◌, Option, length, length-set, set, take, append_assoc, append-nil, refl, sym, ap, ap₂, ◌∙◌, subst, arith}
 use Rattle.std.proofs.lemmas.List.{take_more_set}
 use Rattle.std.proofs.Math.Seq.{take-length}
 use Rattle.spg_forest.specs.View.{Place, Leaf}
@@ -42,10 +42,10 @@ next_placed p L n b q links k q2 head to P h eh eq et =
       page = eq ∙ ap (λ (z : Sheet). with_tuples z us) P.page ∙ ap (λ vs. with_tuples p vs) (sym t);
       same = P.same ∙ ap (λ i. placed q.tuples L k i) e ∙ ap₂ (λ vs i. placed vs L i (n - (k + 1))) (sym t) s;
       links = P.links ∙ ap (λ i. take k links ++ downlinks b q.tuples L k i) e
-        ∙ ap (λ y. take k links ++ y ∷ downlinks b us L (suc k) (n - (k + 1))) (sym x)
-        ∙ sym (append_assoc (take k links) (to ∷ []) (downlinks b us L (suc k) (n - (k + 1))))
-        ∙ ap (λ zs. zs ++ downlinks b us L (suc k) (n - (k + 1))) (sym m)
-        ∙ ap₂ (λ vs i. take (k + 1) (set links k to) ++ downlinks b vs L i (n - (k + 1))) (sym t) s;
+          ∙ ap (λ y. take k links ++ y ∷ downlinks b us L (suc k) (n - (k + 1))) (sym x)
+          ∙ sym (append_assoc (take k links) (to ∷ []) (downlinks b us L (suc k) (n - (k + 1))))
+          ∙ ap (λ zs. zs ++ downlinks b us L (suc k) (n - (k + 1))) (sym m)
+          ∙ ap₂ (λ vs i. take (k + 1) (set links k to) ++ downlinks b vs L i (n - (k + 1))) (sym t) s;
       room = subst (λ vs. HaveRooms vs L (k + 1) (n - (k + 1))) (sym t) (subst (λ i. HaveRooms us L i (n - (k + 1))) s r.1);
       count = length-set links k to ∙ c;
       within = omega arith;
@@ -56,6 +56,7 @@ pub placing_done : (p : Sheet) (L : ℕ → List Leaf) (n b : ℕ) (q : Sheet) (
 placing_done p L n b q to k P h =
     let w = P.within in
     let e : n - k ≡ 0 = omega arith in
-    let l : k ≡ length to = let c = P.count in omega arith in
-    (P.page ∙ ap (λ vs. with_tuples p vs) (sym (P.same ∙ ap (λ i. placed q.tuples L k i) e)),
-      sym (P.links ∙ ap (λ i. take k to ++ downlinks b q.tuples L k i) e ∙ append-nil (take k to) ∙ ap (λ i. take i to) l ∙ take-length to))
+    let l : k ≡ length to = let c = P.count in omega arith in (
+      P.page ∙ ap (λ vs. with_tuples p vs) (sym (P.same ∙ ap (λ i. placed q.tuples L k i) e)),
+      sym (P.links ∙ ap (λ i. take k to ++ downlinks b q.tuples L k i) e ∙ append-nil (take k to) ∙ ap (λ i. take i to) l ∙ take-length to),
+    )

@@ -1,5 +1,5 @@
 -- The page that is picked for the lists.
-use Rattle.std.proofs.Common.{◌≡◌, ℕ, ◌≤◌, Bool, List, None, length, refl, sym, ap, ap₂, ◌∙◌, subst, arith}
+use Rattle.std.proofs.Common.{◌≡◌, ℕ, ◌≤◌, Bool, List, None, length, sym, ap, ap₂, ◌∙◌, subst, arith}
 use Rattle.spg_forest.specs.Tuples.{Tuple}
 use Rattle.spg_forest.specs.Sheets.{weight}
 use Rattle.spg_page.specs.Changes.{room_of}

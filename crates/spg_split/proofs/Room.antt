@@ -1,13 +1,13 @@
 -- The room that lists of leaves take on a page.
-use Rattle.std.proofs.Common.{◌≡◌, ℕ, zero, suc, ◌+◌, ◌-◌, ◌*◌, ◌≤◌, ◌<◌, List, [], ◌∷◌, ◌++◌, ⊎_elim, Option, Some, None, length, set, get_or, min, refl, sym, ap, ◌∙◌, subst, arith}
+use Rattle.std.proofs.Common.{◌≡◌, ℕ, zero, suc, ◌+◌, ◌-◌, ◌*◌, ◌≤◌, ◌<◌, List, [], ◌∷◌, ◌++◌, ⊎_elim, Option, Some, None, length, set, get_or, refl, sym, ap, ◌∙◌, subst, arith}
 use Rattle.std.proofs.lemmas.Bool.{cases_eq}
 use Rattle.spg_forest.specs.View.{Leaf}
 use Rattle.spg_forest.specs.Tuples.{Tuple, Live, Placeholder, next_of, put_on}
 use Rattle.spg_forest.specs.Pages.{tuple_on, with_tuple, all_live}
 use Rattle.spg_forest.specs.Sheets.{weight, gaps, gap, size_of, free_place, relinked}
 use Rattle.spg_forest.specs.Edits.{added}
-use Rattle.spg_page.specs.Changes.{room_of, free_of}
-use Rattle.spg_page.specs.Kinds.{IsOffset, IsLive}
+use Rattle.spg_page.specs.Changes.{room_of}
+use Rattle.spg_page.specs.Kinds.{IsLive}
 use Rattle.spg_page.specs.Told.{number_of}
 use Rattle.spg_page.proofs.SheetFacts.{free_place_free, free_place_full, free_place_below, free_place_length, weight-append, gaps-append, weight-set, gaps-set, relinked_size, relinked_gap, weight-replaced, gaps-replaced}
 use Rattle.spg_page.proofs.SheetLaws.{with_tuple-set, with_tuple-push}

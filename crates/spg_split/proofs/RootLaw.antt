@@ -1,15 +1,15 @@
 -- A root leaf page whose leaves are divided among lists on another page.
-use Rattle.std.proofs.Common.{◌≡◌, ℕ, zero, suc, ◌+◌, ◌-◌, ◌≤◌, ◌<◌, ℤ, Bool, true, false, List, [], ◌∷◌, ◌++◌, ◌⊎◌, ⊎_elim, Option, Some, None, get_or, set, length, length-set, replicate, refl, sym, ap, ap₂, ◌∙◌, subst, inl, inr, arith}
+use Rattle.std.proofs.Common.{◌≡◌, ℕ, zero, suc, ◌+◌, ◌≤◌, ◌<◌, ℤ, Bool, true, false, List, [], ◌∷◌, ◌⊎◌, ⊎_elim, Option, Some, None, get_or, length, length-set, replicate, refl, sym, ap, ◌∙◌, subst, inl, inr, arith}
 use Rattle.std.proofs.lemmas.Bool.{cases_eq}
 use Rattle.spg_opclass.specs.Meaning.{Meaning}
 use Rattle.spg_forest.specs.View.{Place, Leaf}
 use Rattle.spg_forest.specs.Spot.{Frame, Spot, Branch, Bucket, Nothing, IsIn, put_at}
-use Rattle.spg_forest.specs.Tuples.{Tuple, Inner, Live, IsLaidOut, IsAmong}
+use Rattle.spg_forest.specs.Tuples.{Tuple, Inner}
 use Rattle.spg_forest.specs.Pages.{place, tuple_on, IsShown}
-use Rattle.spg_forest.specs.Sheets.{Sheet, Sheets, sheet_at, with_tuples, pages_of, weight, size_of}
-use Rattle.spg_forest.specs.Shape.{Shape, spots, IsTupleOf, IsRestOf, AreNodes}
-use Rattle.spg_forest.specs.Section.{IsWithin, Cost}
-use Rattle.spg_forest.specs.Walk.{spread, page_spread}
+use Rattle.spg_forest.specs.Sheets.{Sheet, Sheets, sheet_at, with_tuples, pages_of, size_of}
+use Rattle.spg_forest.specs.Shape.{Shape, spots, IsTupleOf, IsRestOf}
+use Rattle.spg_forest.specs.Section.{IsWithin}
+use Rattle.spg_forest.specs.Walk.{page_spread}
 use Rattle.spg_forest.specs.Edits.{with_sheet, tuple_of, MayStand, AreChanged}
 use Rattle.spg_forest.specs.Changes.{HasLists, Becomes}
 use Rattle.spg_forest.proofs.Blocks.{with_block, in_block, off_block}
@@ -92,8 +92,10 @@ module _ {Key Recon Cond : Type 0} (m : Meaning Key Recon Cond) (S : Sheets) (b 
         (λ e. ⊎_elim
         (λ (i, q). inl (inr (i, q ∙ ap Some (sym (at_block x e)))))
         (λ q. ⊎_elim (λ c. inl (inr c)) (λ c. inr ((λ d. ⊎_elim k c d), off_root x e ∙ q ∙ ap (spots S) (sym (at_block x e)))) (decided x (off_root x e ∙ q ∙ ap (spots S) (sym (at_block x e))))) (T.cases x.offset))
-        (λ e. inr ((λ d. ⊎_elim k (λ (i, q). e (T.lists i x q).0) d),
-          put_at_other (with_block (spots S) b T.spots) (place root 0) (Branch w ds) x k ∙ off_block (spots S) b T.spots x e)) (cases_eq x.block b)) (cases_place x (place root 0));
+        (λ e. inr (
+          (λ d. ⊎_elim k (λ (i, q). e (T.lists i x q).0) d),
+          put_at_other (with_block (spots S) b T.spots) (place root 0) (Branch w ds) x k ∙ off_block (spots S) b T.spots x e,
+        )) (cases_eq x.block b)) (cases_place x (place root 0));
   }
     where
       at_block : (x : Place) → x.block ≡ b → x ≡ place b x.offset

@@ -1,24 +1,23 @@
 -- What is known where an insert stands at a root leaf page that has no room.
-use Rattle.std.proofs.Common.{◌≡◌, ℕ, zero, suc, ◌+◌, ◌-◌, ◌*◌, ◌≤◌, ◌<◌, pos, Bool, true, false, List, [], ◌∷◌, ◌++◌, ◌⊎◌, ⊎_elim, Option, Some, None, is_none, IsSome, length, length-append, take, map, slice_get, slice_index, refl, sym, ap, ◌∙◌, subst, inl, inr, arith}
+use Rattle.std.proofs.Common.{◌≡◌, ℕ, zero, suc, ◌+◌, ◌-◌, ◌≤◌, ◌<◌, Bool, true, false, List, [], ◌∷◌, ◌++◌, ◌⊎◌, ⊎_elim, Option, Some, None, is_none, IsSome, length, length-append, take, slice_get, slice_index, refl, sym, ap, ◌∙◌, subst, inl, inr, arith}
 use Rattle.std.proofs.lemmas.List.{length-map, length-replicate}
 use Rattle.spg_base.specs.Row.{RowAt}
-use Rattle.spg_opclass.specs.Meaning.{Meaning, eightfold}
+use Rattle.spg_opclass.specs.Meaning.{Meaning}
 use Rattle.spg_opclass.specs.Laws.{CodeLaw, leaf_size, inner_size}
-use Rattle.spg_forest.specs.View.{Place, Leaf}
+use Rattle.spg_forest.specs.View.{Leaf}
 use Rattle.spg_forest.specs.Spot.{Frame, Spot, Bucket, IsIn, IsStanding, leaves_of, NoRepeat}
 use Rattle.spg_forest.specs.Tuples.{Tuple, Inner, Live}
-use Rattle.spg_forest.specs.Pages.{place, tuple_on, all_live, IsFresh}
+use Rattle.spg_forest.specs.Pages.{place, tuple_on, all_live}
 use Rattle.spg_forest.specs.Links.{leaves_on}
 use Rattle.spg_forest.specs.Classes.{class_of, key_of, start_of}
 use Rattle.spg_forest.specs.Divisions.{rests_of}
-use Rattle.spg_forest.specs.Sheets.{Sheet, Sheets, sheet_at, weight, size_of}
+use Rattle.spg_forest.specs.Sheets.{Sheet, sheet_at, weight}
 use Rattle.spg_forest.specs.Shape.{Shape, spots, IsKindOf, IsTupleOf, IsRestOf}
 use Rattle.spg_forest.proofs.Edits.{page_is}
 use Rattle.spg_forest.proofs.Sections.{shape_shown, shape_tree}
 use Rattle.spg_forest.proofs.Trees.{recon_once}
 use Rattle.spg_forest.proofs.FitWay.{recon_of_fit}
 use Rattle.spg_page.specs.Reads.{frame_in}
-use Rattle.spg_page.specs.Changes.{room_of}
 use Rattle.spg_tree.specs.Table.{Table, sheets_of, tuples_at}
 use Rattle.spg_tree.specs.Descents.{Descending, in_nulls, IsReconFor}
 use Rattle.spg_tree.specs.declared.stand.Stand.{Stand}

@@ -1,5 +1,5 @@
 -- The leaf tuples that go to a node are the leaves of its list.
-use Rattle.std.proofs.Common.{◌≡◌, ℕ, zero, suc, ◌+◌, ◌-◌, ◌≤◌, ◌<◌, List, [], ◌∷◌, ◌++◌, ◌⊎◌, ⊎_elim, Option, Some, length, length-append, take, map, cond, get_or, slice_get, nat_eq, refl, sym, ap, ap₂, ◌∙◌, subst, inl, inr, arith}
+use Rattle.std.proofs.Common.{◌≡◌, ℕ, suc, ◌≤◌, ◌<◌, List, [], ◌∷◌, ◌++◌, ⊎_elim, Option, Some, length, take, cond, get_or, slice_get, nat_eq, refl, ap, subst, arith}
 use Rattle.std.proofs.lemmas.Bool.{cases_eq, cond-true, cond-false, eq-eqb, ne_eqb}
 use Rattle.spg_base.specs.Row.{RowAt}
 use Rattle.spg_forest.specs.View.{Leaf, Class}
@@ -7,7 +7,7 @@ use Rattle.spg_forest.specs.Spot.{Frame, IsIn}
 use Rattle.spg_forest.specs.Tuples.{Tuple, Live}
 use Rattle.spg_forest.specs.Pages.{all_live}
 use Rattle.spg_forest.specs.Sheets.{weight}
-use Rattle.spg_opclass.specs.Laws.{padded_length, leaf_size}
+use Rattle.spg_opclass.specs.Laws.{padded_length}
 use Rattle.spg_forest.specs.Divisions.{list_of, EachGoes}
 use Rattle.spg_page.specs.Reads.{leaf_in}
 use Rattle.spg_split.specs.Dividing.{rows_of}

@@ -1,5 +1,5 @@
 -- Sums over the lists of all nodes.
-use Rattle.std.proofs.Common.{◌≡◌, ℕ, zero, suc, ◌+◌, ◌-◌, ◌*◌, ◌≤◌, ◌<◌, List, [], ◌∷◌, ◌++◌, ⊎_elim, Option, Some, None, length, take, get_or, cond, nat_eq, min, refl, sym, ap, ap₂, ◌∙◌, subst, arith}
+use Rattle.std.proofs.Common.{◌≡◌, ℕ, zero, suc, ◌+◌, ◌-◌, ◌*◌, ◌≤◌, ◌<◌, List, [], ◌∷◌, ⊎_elim, Option, Some, None, length, take, get_or, nat_eq, refl, sym, ap, ◌∙◌, arith}
 use Rattle.std.proofs.lemmas.Bool.{cases_eq, cases_lt, cond-true, cond-false, eq-eqb, ne_eqb}
 use Rattle.spg_forest.specs.View.{Leaf}
 use Rattle.spg_forest.specs.Tuples.{Tuple, Live, put_on, next_of}
@@ -9,13 +9,13 @@ use Rattle.spg_forest.proofs.Chain.{put_on_same}
 use Rattle.spg_page.proofs.SheetFacts.{free_place_free, free_place_length}
 use Rattle.spg_chain.proofs.Laid.{head_there, added_behind, with_tuple_at}
 use Rattle.spg_forest.specs.Pages.{all_live, tuple_on, with_tuple}
-use Rattle.spg_forest.specs.Sheets.{weight, gaps, size_of, free_place, relinked}
+use Rattle.spg_forest.specs.Sheets.{weight, size_of, free_place, relinked}
 use Rattle.spg_forest.specs.Edits.{added}
 use Rattle.spg_page.specs.Changes.{room_of}
 use Rattle.spg_page.specs.Reads.{leaf_in}
 use Rattle.spg_page.specs.Told.{number_of}
 use Rattle.spg_chain.specs.Added.{IsLeafIn}
-use Rattle.spg_split.specs.Placing.{taken_by, leaves_in, chained, placed, HaveRoom, HaveRooms}
+use Rattle.spg_split.specs.Placing.{taken_by, leaves_in, chained, placed, HaveRooms}
 use Rattle.spg_split.proofs.Room.{Change, added_change, added_live, least_weight}
 use Rattle.spg_split.proofs.Reading.{leaves_in_live}
 

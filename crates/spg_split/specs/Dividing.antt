@@ -1,5 +1,5 @@
 -- How the values of a division are read, and what is asked of how they are divided.
-use Rattle.std.specs.Prelude.{◌≡◌, ℕ, ◌<◌, ◌≤◌, Bool, true, ℤ, pos, List, [], ◌∷◌, Option, Some, is_none, IsSome, length, map, slice_get, slice_index, replicate}
+use Rattle.std.specs.Prelude.{◌≡◌, ℕ, ◌<◌, ◌≤◌, true, ℤ, pos, List, [], ◌∷◌, Option, Some, is_none, IsSome, length, map, slice_get, slice_index, replicate}
 use Rattle.spg_base.specs.Row.{RowAt}
 use Rattle.spg_opclass.specs.Meaning.{Meaning, eightfold}
 use Rattle.spg_split.specs.Nodes.{turns}

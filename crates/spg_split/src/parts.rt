@@ -23,11 +23,7 @@ pub(crate) struct Parts {
 }
 
 /// The leaf tuples of rows and rests.
-fn leaf_tuples(
-    alloc: Global,
-    rows: &[Row],
-    rests: &[Bytes],
-) -> Result<List<TupleBytes>, Memory>
+fn leaf_tuples(alloc: Global, rows: &[Row], rests: &[Bytes]) -> Result<List<TupleBytes>, Memory>
     requires each { length rests.now ≡ length rows.now }
     requires small { (i : ℕ) (q : Items ℕ) → slice_get rests.now i ≡ Just q → leaf_size q ≤ 8156 }
     ensures { IfOk result (λ leaves. leaves ≡ all_live (leaves_with rows.now rests.now)) }

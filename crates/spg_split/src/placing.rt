@@ -43,12 +43,7 @@ fn add_at_end(page: &mut Page, ends: Option<Ends>, leaf: &TupleBytes) -> Ends
 }
 
 /// Adds those leaf tuples that go to a node, as a chain in their order, and gives its head.
-fn put_list(
-    page: &mut Page,
-    leaves: &[TupleBytes],
-    node_of: &[u16],
-    node: u16,
-) -> Option<Offset>
+fn put_list(page: &mut Page, leaves: &[TupleBytes], node_of: &[u16], node: u16) -> Option<Offset>
     requires each { length leaves.now ≤ length node_of.now }
     requires leaves { leaves.now ≡ all_live (leaves_in leaves.now) }
     requires room { HaveRoom page.old.tuples (taken_by node leaves.now node_of.now) }

@@ -105,7 +105,15 @@ fn put_parts(
         None,
         seat,
     )?;
-    write_parts(table, root, block, leaves, node_of.as_slice(), &inner, &mut links);
+    write_parts(
+        table,
+        root,
+        block,
+        leaves,
+        node_of.as_slice(),
+        &inner,
+        &mut links,
+    );
     Ok(())
 }
 

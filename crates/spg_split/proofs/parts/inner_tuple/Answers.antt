@@ -1,4 +1,4 @@
-use Rattle.std.proofs.Common.{◌≡◌, IfOk, ap, ap₂, sym, ◌∙◌, subst, arith, length, List, Option, ◌<◌, ◌≤◌, ◌+◌, ◌*◌, ◌/◌, ℤ}
+use Rattle.std.proofs.Common.{◌≡◌, IfOk, ap, ap₂, sym, ◌∙◌, subst, arith, length, List, ◌<◌, ℤ}
 use Rattle.std.specs.List.{AllByRecursion}
 use Rattle.std.specs.Prelude.{IfSome}
 use Rattle.spg_forest.specs.Tuples.{Tuple, Inner}

@@ -1,4 +1,4 @@
-use Rattle.std.proofs.Common.{◌≡◌, refl, ap, sym, ◌∙◌, ap₂, arith, ◌++◌, ◌∷◌, [], ◌<◌, ℕ, List, length, take, get_or}
+use Rattle.std.proofs.Common.{sym, ◌∙◌, ap₂, arith, ◌++◌, ◌∷◌, [], ◌<◌, ℕ, List, length, take}
 use Rattle.std.proofs.lemmas.List.{get_or_read}
 use Rattle.spg_forest.specs.Pages.{all_live}
 use Rattle.spg_split.specs.Placing.{leaves_with}

@@ -1,4 +1,4 @@
-use Rattle.std.proofs.Common.{length, ap, arith, ◌<◌}
+use Rattle.std.proofs.Common.{length, arith}
 use Rattle.spg_split.specs.Placing.{taken_by}
 use Rattle.spg_split.proofs.Lists.{placing_begun, next_room, next_placed, placing_done}
 use Rattle.spg_split.proofs.placing.put_lists.Goals as goal

@@ -1,4 +1,3 @@
-use Rattle.std.proofs.Common.{◌≡◌}
 use Rattle.spg_forest.specs.Pages.{tuple_on}
 use Rattle.spg_page.specs.Reads.{frame_in}
 use Rattle.spg_split.proofs.Clearing.{links_step}

@@ -1,4 +1,4 @@
-use Rattle.std.proofs.Common.{◌≡◌, ◌≤◌, ℕ, List, [], ◌∷◌, ◌++◌, Option, is_none, option_copied, length, ◌+◌, ◌<◌, refl, sym, ap, ◌∙◌, subst, arith}
+use Rattle.std.proofs.Common.{[], ◌∷◌, ◌++◌, is_none, option_copied, length, sym, ap, ◌∙◌, subst, arith}
 use Rattle.spg_forest.specs.Links.{leaves_on}
 use Rattle.spg_tree.specs.Table.{tuples_at}
 use Rattle.spg_descend.specs.Carried.{carried}

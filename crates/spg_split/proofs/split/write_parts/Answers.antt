@@ -1,8 +1,5 @@
-use Rattle.std.proofs.Common.{◌≡◌, ◌<◌, ℕ, length, ap, sym, ◌∙◌, subst, arith}
-use Rattle.spg_forest.specs.View.{Place}
-use Rattle.spg_tree.specs.Table.{tuples_at}
-use Rattle.spg_split.specs.Parts.{bare}
-use Rattle.spg_split.specs.Placing.{taken_by, downlinks}
+use Rattle.std.proofs.Common.{length, ap, ◌∙◌, arith}
+use Rattle.spg_split.specs.Placing.{taken_by}
 use Rattle.spg_split.proofs.Chaining.{downlinks_length, downlinks_positive}
 use Rattle.spg_split.proofs.split.write_parts.Goals as goal
 
