@@ -41,8 +41,8 @@ use Rattle.spg_descend.specs.Puts.{IsAtLeaves, Fits}
 use Rattle.spg_descend.proofs.Picked.{PicksLeaf, picks_leaf}
 use Rattle.spg_split.specs.declared.division.Division.{Division}
 use Rattle.spg_split.specs.declared.parts.Parts.{Parts}
-use Rattle.spg_split.specs.declared.split.Parted.{Parted}
-use Rattle.spg_split.specs.declared.split.Parted.TheVariants.{With, Without}
+use Rattle.spg_split.specs.declared.put.Parted.{Parted}
+use Rattle.spg_split.specs.declared.put.Parted.TheVariants.{With, Without}
 use Rattle.spg_split.specs.Splits.{split_cost, IsCalm, PartsWith, PartsWithout}
 use Rattle.spg_split.specs.Ways.{IsSplitWay}
 use Rattle.spg_split.specs.Nodes.{IsOnlyNode}
@@ -362,7 +362,7 @@ module _ {Key Recon Cond : Type 0} (m : Meaning Key Recon Cond) (codes : CodeLaw
   length_old = let a = leaf_count m codes t d root H st A K no_room dv D same p P in let c = count_old in let l = length-take-le (length p.leaves - 1) p.leaves (omega arith) in omega arith
 
   without_law : (seat : ℕ) (t2 : Table) → PutsLists t t2 root seat p all_but_last → (in_one : Bool) (node : Option ℕ) → IsOnlyNode (take (length p.leaves - 1) p.node_of) node → in_one ≡ is_some node → IsSplitWay m t t2 d (Without in_one)
-  without_law seat t2 W true node only e =
+  without_law seat t2 W true k only e =
       let c = count_old in let o = one_there m codes t d root H st A K no_room in let l = length_old in
       let one = bound_one seat t2 all_but_last ls few_old are_old (omega arith) W (omega arith) in
       (calm seat t2 all_but_last ls few_old are_old (omega arith) W, parts_risen seat t2 all_but_last ls few_old are_old (omega arith) W refl 1 (bounded seat t2 all_but_last ls few_old are_old (omega arith) W 1 1 one (omega arith)))

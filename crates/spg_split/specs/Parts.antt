@@ -14,8 +14,8 @@ use Rattle.spg_tree.specs.Picked.{IsPicked, want_of}
 use Rattle.spg_tree.specs.declared.want.Want.{Want}
 use Rattle.spg_split.specs.declared.division.Division.{Division}
 use Rattle.spg_split.specs.declared.parts.Parts.{Parts}
-use Rattle.spg_split.specs.declared.split.Parted.{Parted}
-use Rattle.spg_split.specs.declared.split.Parted.TheVariants.{With, Without}
+use Rattle.spg_split.specs.declared.put.Parted.{Parted}
+use Rattle.spg_split.specs.declared.put.Parted.TheVariants.{With, Without}
 use Rattle.spg_split.specs.Nodes.{IsOnlyNode}
 use Rattle.spg_split.specs.Placing.{taken_by, placed, downlinks, inner_root, leaves_with, leaves_in}
 

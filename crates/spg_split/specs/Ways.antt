@@ -5,8 +5,8 @@ use Rattle.spg_tree.specs.Table.{Table}
 use Rattle.spg_tree.specs.Descents.{Descending, risen}
 use Rattle.spg_split.specs.declared.split.SplitOut.{SplitOut}
 use Rattle.spg_split.specs.declared.split.SplitOut.TheVariants.{Put, LeftOut}
-use Rattle.spg_split.specs.declared.split.Parted.{Parted}
-use Rattle.spg_split.specs.declared.split.Parted.TheVariants.{With, Without}
+use Rattle.spg_split.specs.declared.put.Parted.{Parted}
+use Rattle.spg_split.specs.declared.put.Parted.TheVariants.{With, Without}
 use Rattle.spg_split.specs.Splits.{PartsWith, PartsWithout, IsCalm}
 
 -- the row is put, or the entries stay as they are

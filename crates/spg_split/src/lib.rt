@@ -5,6 +5,7 @@
 mod division;
 mod parts;
 mod placing;
+mod put;
 mod root;
 mod split;
 mod values;

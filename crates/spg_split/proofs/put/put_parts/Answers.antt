@@ -4,7 +4,7 @@ use Rattle.spg_tree.specs.Table.{tuples_at}
 use Rattle.spg_forest.specs.Sheets.{Sheet}
 use Rattle.spg_split.proofs.Picking.{picked_room, puts_lists}
 use Rattle.spg_split.proofs.Totals.{take_live, lists_room}
-use Rattle.spg_split.proofs.split.put_parts.Goals as goal
+use Rattle.spg_split.proofs.put.put_parts.Goals as goal
 
 pub write_parts-requires-clause-leaves : goal.write_parts-requires-clause-leaves
 write_parts-requires-clause-leaves c = rw c.as_slice.ensures (take_live c.args.parts.leaves c.args.count c.requires.parts.leaves)

@@ -1,7 +1,7 @@
 use Rattle.std.proofs.Common.{length, ap, ◌∙◌, arith}
 use Rattle.spg_split.specs.Placing.{taken_by}
 use Rattle.spg_split.proofs.Chaining.{downlinks_length, downlinks_positive}
-use Rattle.spg_split.proofs.split.write_parts.Goals as goal
+use Rattle.spg_split.proofs.put.write_parts.Goals as goal
 
 pub make_inner_root-requires-clause-inner : goal.make_inner_root-requires-clause-inner
 make_inner_root-requires-clause-inner c =
