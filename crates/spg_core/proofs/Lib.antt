@@ -2,3 +2,4 @@ pub mod Stands
 pub mod Chooses
 pub mod Weights
 pub mod Founds
+pub mod Scans
