@@ -1,10 +1,11 @@
 -- What the fields of a state keep when a scan opens, reads and ends, and what contracts see of it.
-use Rattle.std.proofs.Common.{◌≡◌, ◌<◌, ◌≤◌, ◌+◌, ⊎_elim, ℕ, zero, suc, Bool, true, false, cond, List, [], ◌∷◌, ◌++◌, length, get_or, set, reverse, Vec, map, refl, sym, ap, ap₂, ◌∙◌, subst, arith, get_or-set_same, get_or-set_other, length-set}
+use Rattle.std.proofs.Common.{◌≡◌, ◌<◌, ◌≤◌, ◌+◌, ⊎_elim, ℕ, zero, suc, Bool, true, false, cond, List, [], ◌∷◌, ◌++◌, length, get_or, set, reverse, Vec, map, Result, Ok, Err, IfOk, OnErr, refl, sym, ap, ap₂, ◌∙◌, subst, arith, get_or-set_same, get_or-set_other, length-set}
 use Rattle.std.proofs.lemmas.Bool.{false≢true, cases_eq}
 use Rattle.std.proofs.lemmas.List.{reverse-append, map-set}
 use Rattle.std.specs.declared.alloc.Global.{Global}
 use Rattle.spg_base.specs.Row.{RowAt}
 use Rattle.spg_base.specs.declared.recorded.Origin.{Origin}
+use Rattle.spg_base.specs.declared.memory.Memory.{Memory}
 use Rattle.spg_opclass.specs.Meaning.{Meaning}
 use Rattle.spg_opclass.specs.Laws.{KeptLaw, CodeLaw}
 use Rattle.spg_opclass.specs.declared.query.Query.{Query}
@@ -31,7 +32,7 @@ use Rattle.spg_core.specs.Seen.{Seen, stage_at, moved, logged, IsPresentWith}
 use Rattle.spg_core.specs.Slot.{stage_of, is_open, open_count}
 use Rattle.spg_core.specs.Operations.{CanRead, ReadsFrom, CanClose, ClosesFrom}
 use Rattle.spg_core.specs.Kept.{seen_of, IsScanOf, SlotFits, claimed_key, RootsAreHeavy, IsKept}
-use Rattle.spg_core.specs.Sections.{ReadsFor, HasMet}
+use Rattle.spg_core.specs.Sections.{ReadsFor, ReadsItem, HasMet}
 use Rattle.spg_core.proofs.Founds.{scan_opens, scan_reads, scan_closes}
 
 one_more : (b : Bool) (n k : ℕ) → n ≤ k → cond b (n + 1) n ≤ suc k
@@ -250,6 +251,24 @@ module _ {O Key Recon Cond : Type 0} where
       moved_is s seen view seat (Scan q2) slots items,
       stage_set slots s.slots.items seat (Scan q2) items (subst (λ (n : ℕ). n < length s.slots.items) (sym first) within),
     )
+
+    -- what comes of a read: it is done, or nothing changes
+    pub kept_reads_out : (seat item : ℕ) (result : Result ReadOut Memory) (slots : Vec (Slot O Key Recon Cond) Global) → seat ≡ 0 → KeptLaw m → CodeLaw m → IsAskedIn (get_or s.slots.items seat Free) →
+        IfOk result (λ out. ReadsFrom m s.table s.rows s.slots.items slots.items seat item out (get_or s.slots.items seat Free)) → OnErr result (slots ≡ s.slots) →
+        IsKept m record { alloc = s.alloc; class = s.class; table = s.table; rows = s.rows; slots = slots; journal = s.journal; origin = s.origin }
+    kept_reads_out seat item (Ok out) slots first K L asked ok err = kept_reads seat item out slots first K L (get_or s.slots.items seat Free) refl asked ok
+    kept_reads_out seat item (Err e) slots first K L asked ok err = subst (λ (l : Vec (Slot O Key Recon Cond) Global). IsKept m record { alloc = s.alloc; class = s.class; table = s.table; rows = s.rows; slots = l; journal = s.journal; origin = s.origin }) (sym err) kept
+
+    pub reads_item_out : (seen : Seen O Key Recon Cond) → seen_of s ≡ seen → (seat item : ℕ) (result : Result ReadOut Memory) (slots : List (Slot O Key Recon Cond)) → seat ≡ 0 →
+        IfOk result (λ out. ReadsFrom m s.table s.rows s.slots.items slots seat item out (get_or s.slots.items seat Free)) → IfOk result (λ out. ReadsItem m seen (seen_as s.journal.events (map stage_of slots) s.table s.origin) seat item out)
+    reads_item_out seen view seat item (Ok out) slots first ok =
+        let new : Seen O Key Recon Cond = seen_as s.journal.events (map stage_of slots) s.table s.origin in
+        subst (ReadsFor m seen new seat item out) (sym (stage_is s seen view seat)) (reads_item seen view seat item out slots first (get_or s.slots.items seat Free) ok)
+    reads_item_out seen view seat item (Err e) slots first ok = tt
+
+    pub same_out : (seen : Seen O Key Recon Cond) → seen_of s ≡ seen → (result : Result ReadOut Memory) (slots : Vec (Slot O Key Recon Cond) Global) → OnErr result (slots ≡ s.slots) → OnErr result (seen_as s.journal.events (map stage_of slots.items) s.table s.origin ≡ seen)
+    same_out seen view (Ok out) slots err = tt
+    same_out seen view (Err e) slots err = ap (λ (l : Vec (Slot O Key Recon Cond) Global). seen_as s.journal.events (map stage_of l.items) s.table s.origin) err ∙ view
 
     -- ---- a scan ends
 
