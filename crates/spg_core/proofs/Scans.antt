@@ -127,6 +127,10 @@ module _ {O Key Recon Cond : Type 0} where
       limit = kept.limit;
     }
 
+    -- the same slots again
+    pub kept_still : (slots : Vec (Slot O Key Recon Cond) Global) → slots ≡ s.slots → IsKept m record { alloc = s.alloc; class = s.class; table = s.table; rows = s.rows; slots = slots; journal = s.journal; origin = s.origin }
+    kept_still slots same = subst (λ (l : Vec (Slot O Key Recon Cond) Global). IsKept m record { alloc = s.alloc; class = s.class; table = s.table; rows = s.rows; slots = l; journal = s.journal; origin = s.origin }) (sym same) kept
+
     -- the seats that have nothing open
     others_free : (seat : ℕ) → (seat ≡ 0 → ⊥) → open_of seat past ≡ nothing
     others_free seat other = subst (SlotFits m s.table past seat) (kept.alone seat other) (kept.slots seat)
@@ -257,7 +261,7 @@ module _ {O Key Recon Cond : Type 0} where
         IfOk result (λ out. ReadsFrom m s.table s.rows s.slots.items slots.items seat item out (get_or s.slots.items seat Free)) → OnErr result (slots ≡ s.slots) →
         IsKept m record { alloc = s.alloc; class = s.class; table = s.table; rows = s.rows; slots = slots; journal = s.journal; origin = s.origin }
     kept_reads_out seat item (Ok out) slots first K L asked ok err = kept_reads seat item out slots first K L (get_or s.slots.items seat Free) refl asked ok
-    kept_reads_out seat item (Err e) slots first K L asked ok err = subst (λ (l : Vec (Slot O Key Recon Cond) Global). IsKept m record { alloc = s.alloc; class = s.class; table = s.table; rows = s.rows; slots = l; journal = s.journal; origin = s.origin }) (sym err) kept
+    kept_reads_out seat item (Err e) slots first K L asked ok err = kept_still slots err
 
     pub reads_item_out : (seen : Seen O Key Recon Cond) → seen_of s ≡ seen → (seat item : ℕ) (result : Result ReadOut Memory) (slots : List (Slot O Key Recon Cond)) → seat ≡ 0 →
         IfOk result (λ out. ReadsFrom m s.table s.rows s.slots.items slots seat item out (get_or s.slots.items seat Free)) → IfOk result (λ out. ReadsItem m seen (seen_as s.journal.events (map stage_of slots) s.table s.origin) seat item out)
@@ -279,6 +283,9 @@ module _ {O Key Recon Cond : Type 0} where
 
     pub room_left : (seat : ℕ) → is_open (get_or s.slots.items seat Free) ≡ true → 0 < s.journal.spare
     room_left seat was = let a = kept.room in let b = count_closed s.slots.items seat was in omega arith
+
+    pub told_events : (seat : ℕ) (told given : List RowAt) (events : List (Event O Key Recon Cond)) → events ≡ s.journal.events ++ CloseScan seat told ∷ [] → told ≡ given → events ≡ s.journal.events ++ CloseScan seat given ∷ []
+    told_events seat told given events h e = h ∙ ap (λ l. s.journal.events ++ CloseScan seat l ∷ []) e
 
     closes_right : (seat : ℕ) (q : Scanning O Key Recon Cond) (closed : Closed) → SlotFits m s.table past seat (Scan q) → q.items ≡ [] → IsClosing q closed → IsAllowed past (CloseScan seat closed.rows) × ClosesRight m past (CloseScan seat closed.rows)
     closes_right seat q closed (before, has, D) none C = (
