@@ -287,6 +287,11 @@ module _ {O Key Recon Cond : Type 0} where
     pub told_events : (seat : ℕ) (told given : List RowAt) (events : List (Event O Key Recon Cond)) → events ≡ s.journal.events ++ CloseScan seat told ∷ [] → told ≡ given → events ≡ s.journal.events ++ CloseScan seat given ∷ []
     told_events seat told given events h e = h ∙ ap (λ l. s.journal.events ++ CloseScan seat l ∷ []) e
 
+    pub closes_seats : (seat : ℕ) (closed : Closed) (between : List (Slot O Key Recon Cond)) (slot : Slot O Key Recon Cond) → ClosesFrom s.slots.items between seat closed slot → length between ≡ 64
+    closes_seats seat closed between Free h = absurd h
+    closes_seats seat closed between (Insert key d) h = absurd h
+    closes_seats seat closed between (Scan q) (items, C) = ap length items ∙ length-set s.slots.items seat (Scan (emptied q)) ∙ kept.seats
+
     closes_right : (seat : ℕ) (q : Scanning O Key Recon Cond) (closed : Closed) → SlotFits m s.table past seat (Scan q) → q.items ≡ [] → IsClosing q closed → IsAllowed past (CloseScan seat closed.rows) × ClosesRight m past (CloseScan seat closed.rows)
     closes_right seat q closed (before, has, D) none C = (
       (before, q.query, has),

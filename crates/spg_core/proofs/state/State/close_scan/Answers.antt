@@ -2,7 +2,7 @@ use Rattle.std.proofs.Common.{[], refl, sym, subst, get_or}
 use Rattle.spg_core.specs.declared.slot.Slot.TheVariants.{Free}
 use Rattle.spg_core.specs.Stage.{IsRead}
 use Rattle.spg_core.specs.Sections.{HasMet}
-use Rattle.spg_core.proofs.Scans.{is_read, room_left, told_events, kept_still, kept_closes, closes_scan, stage_is}
+use Rattle.spg_core.proofs.Scans.{is_read, room_left, told_events, closes_seats, kept_still, kept_closes, closes_scan, stage_is}
 use Rattle.spg_core.proofs.state.State.close_scan.Goals as goal
 
 pub close_slot-requires-clause-scan : goal.close_slot-requires-clause-scan
@@ -16,6 +16,11 @@ append-requires-after_bounds g c κs bounds =
     let s = c.self.inside in
     let seat = c.args.seat in
     room_left g.O.OpClass.meaning s c.self.invariant seat (is_read g.O.OpClass.meaning s c.self.invariant (get_or s.slots.items seat Free) (subst IsRead (stage_is s c.args.self.now c.self.view_is seat) c.requires.read)).1
+
+pub set_slot-requires-after_bounds : goal.set_slot-requires-after_bounds
+set_slot-requires-after_bounds g c κs within =
+    let s = c.self.inside in
+    closes_seats g.O.OpClass.meaning s c.self.invariant c.args.seat c.in_ok-told.closed c.close_slot.new.slots.items (get_or s.slots.items c.args.seat Free) c.in_ok-told.ensures.ok
 
 pub invariant_of-self : goal.invariant_of-self
 invariant_of-self g c = kept_still g.O.OpClass.meaning c.self.inside c.self.invariant c.close_slot.new.slots c.in_err-told.ensures.err
