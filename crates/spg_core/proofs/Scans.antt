@@ -42,7 +42,7 @@ one_more false n k h = omega arith
 module _ {O Key Recon Cond : Type 0} where
   -- ---- how many slots are open
 
-  count_most : (slots : List (Slot O Key Recon Cond)) → open_count slots ≤ length slots
+  pub count_most : (slots : List (Slot O Key Recon Cond)) → open_count slots ≤ length slots
   count_most [] = omega arith
   count_most (x ∷ xs) = one_more (is_open x) (open_count xs) (length xs) (count_most xs)
 
@@ -189,7 +189,7 @@ module _ {O Key Recon Cond : Type 0} where
 
     -- ---- a scan opens
 
-    nothing_open : (seat : ℕ) (slot : Slot O Key Recon Cond) → SlotFits m s.table past seat slot → stage_of slot ≡ free → open_of seat past ≡ nothing
+    pub nothing_open : (seat : ℕ) (slot : Slot O Key Recon Cond) → SlotFits m s.table past seat slot → stage_of slot ≡ free → open_of seat past ≡ nothing
     nothing_open seat Free fits is = fits
     nothing_open seat (Insert key d) fits is = absurd (cc is)
     nothing_open seat (Scan q) fits is = absurd (cc is)
