@@ -20,7 +20,6 @@ use Rattle.spg_rows.specs.Table as rows
 use Rattle.spg_rows.proofs.Histories.{Sane, sane_from_legal, itself_opens, other_stays, put_since, killed_since}
 use Rattle.spg_tree.specs.Table.{Table, sheets_of}
 use Rattle.spg_scan.specs.Scanning.{Scanning, IsReadOut, IsClosing, opened, emptied}
-use Rattle.spg_scan.specs.Covers.{IsAskable}
 use Rattle.spg_scan.specs.declared.walk.ReadOut.{ReadOut}
 use Rattle.spg_scan.specs.declared.walk.ReadOut.TheVariants.{Read, Latched}
 use Rattle.spg_scan.specs.declared.walk.Closed.{Closed}
@@ -223,24 +222,18 @@ module _ {O Key Recon Cond : Type 0} where
     can_read (Insert key d) seat item fits h = absurd (omega arith)
     can_read (Scan q) seat item (before, has, D) h = (h, λ x r i. D.covers.sheltered item x r i)
 
-    fits_read : (q q2 : Scanning O Key Recon Cond) (seat item by : ℕ) (out : ReadOut) → KeptLaw m → CodeLaw m → IsAskable m q.query → SlotFits m s.table past seat (Scan q) → IsReadOut m s.table s.rows q q2 item by out → SlotFits m s.table past seat (Scan q2)
-    fits_read q q2 seat item by Read K L asked (before, has, D) (u, R) =
+    fits_read : (q q2 : Scanning O Key Recon Cond) (seat item by : ℕ) (out : ReadOut) → KeptLaw m → CodeLaw m → SlotFits m s.table past seat (Scan q) → IsReadOut m s.table s.rows q q2 item by out → SlotFits m s.table past seat (Scan q2)
+    fits_read q q2 seat item by Read K L (before, has, D) (u, R) =
         let asks : q.query ≡ q2.query = ap (λ (z : Scanning O Key Recon Cond). z.query) (sym R.after) in
-        (before, has ∙ ap (scanning before) asks, scan_reads m (sheets_of s.table) past sane kept.holds before (put_since past seat before q.query has) (killed_since past seat before q.query has) s.rows kept.states K L q D q2 item asked R)
-    fits_read q q2 seat item by (Latched block holder) K L asked fits (a, b, c, is) = subst (λ (z : Scanning O Key Recon Cond). SlotFits m s.table past seat (Scan z)) (sym is) fits
+        (before, has ∙ ap (scanning before) asks, scan_reads m (sheets_of s.table) past sane kept.holds before (put_since past seat before q.query has) (killed_since past seat before q.query has) s.rows kept.states K L q D q2 item R)
+    fits_read q q2 seat item by (Latched block holder) K L fits (a, b, c, is) = subst (λ (z : Scanning O Key Recon Cond). SlotFits m s.table past seat (Scan z)) (sym is) fits
 
-    -- what the slot asks for
-    abbrev pub IsAskedIn : Slot O Key Recon Cond → Type 0
-    IsAskedIn Free = Unit {0}
-    IsAskedIn (Insert key d) = Unit {0}
-    IsAskedIn (Scan q) = IsAskable m q.query
-
-    pub kept_reads : (seat item : ℕ) (out : ReadOut) (slots : Vec (Slot O Key Recon Cond) Global) → seat ≡ 0 → KeptLaw m → CodeLaw m → (slot : Slot O Key Recon Cond) → get_or s.slots.items seat Free ≡ slot → IsAskedIn slot →
+    pub kept_reads : (seat item : ℕ) (out : ReadOut) (slots : Vec (Slot O Key Recon Cond) Global) → seat ≡ 0 → KeptLaw m → CodeLaw m → (slot : Slot O Key Recon Cond) → get_or s.slots.items seat Free ≡ slot →
         ReadsFrom m s.table s.rows s.slots.items slots.items seat item out slot → IsKept m record { alloc = s.alloc; class = s.class; table = s.table; rows = s.rows; slots = slots; journal = s.journal; origin = s.origin }
-    kept_reads seat item out slots first K L Free is asked h = absurd h
-    kept_reads seat item out slots first K L (Insert key d) is asked h = absurd h
-    kept_reads seat item out slots first K L (Scan q) is asked (q2, items, R) =
-        let fits : SlotFits m s.table past seat (Scan q2) = fits_read q q2 seat item seat out K L asked (subst (SlotFits m s.table past seat) is (kept.slots seat)) R in
+    kept_reads seat item out slots first K L Free is h = absurd h
+    kept_reads seat item out slots first K L (Insert key d) is h = absurd h
+    kept_reads seat item out slots first K L (Scan q) is (q2, items, R) =
+        let fits : SlotFits m s.table past seat (Scan q2) = fits_read q q2 seat item seat out K L (subst (SlotFits m s.table past seat) is (kept.slots seat)) R in
         let was : is_open (get_or s.slots.items 0 Free) ≡ true = subst (λ (n : ℕ). is_open (get_or s.slots.items n Free) ≡ true) first (ap is_open is) in
         kept_moved slots (Scan q2) (subst (λ (n : ℕ). slots.items ≡ set s.slots.items n (Scan q2)) first items) was (subst (λ (n : ℕ). SlotFits m s.table past n (Scan q2)) first fits)
 
@@ -257,11 +250,11 @@ module _ {O Key Recon Cond : Type 0} where
     )
 
     -- what comes of a read: it is done, or nothing changes
-    pub kept_reads_out : (seat item : ℕ) (result : Result ReadOut Memory) (slots : Vec (Slot O Key Recon Cond) Global) → seat ≡ 0 → KeptLaw m → CodeLaw m → IsAskedIn (get_or s.slots.items seat Free) →
+    pub kept_reads_out : (seat item : ℕ) (result : Result ReadOut Memory) (slots : Vec (Slot O Key Recon Cond) Global) → seat ≡ 0 → KeptLaw m → CodeLaw m →
         IfOk result (λ out. ReadsFrom m s.table s.rows s.slots.items slots.items seat item out (get_or s.slots.items seat Free)) → OnErr result (slots ≡ s.slots) →
         IsKept m record { alloc = s.alloc; class = s.class; table = s.table; rows = s.rows; slots = slots; journal = s.journal; origin = s.origin }
-    kept_reads_out seat item (Ok out) slots first K L asked ok err = kept_reads seat item out slots first K L (get_or s.slots.items seat Free) refl asked ok
-    kept_reads_out seat item (Err e) slots first K L asked ok err = kept_still slots err
+    kept_reads_out seat item (Ok out) slots first K L ok err = kept_reads seat item out slots first K L (get_or s.slots.items seat Free) refl ok
+    kept_reads_out seat item (Err e) slots first K L ok err = kept_still slots err
 
     pub reads_item_out : (seen : Seen O Key Recon Cond) → seen_of s ≡ seen → (seat item : ℕ) (result : Result ReadOut Memory) (slots : List (Slot O Key Recon Cond)) → seat ≡ 0 →
         IfOk result (λ out. ReadsFrom m s.table s.rows s.slots.items slots seat item out (get_or s.slots.items seat Free)) → IfOk result (λ out. ReadsItem m seen (seen_as s.journal.events (map stage_of slots) s.table s.origin) seat item out)
