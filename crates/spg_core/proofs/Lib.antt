@@ -7,3 +7,4 @@ pub mod Slots
 pub mod Steps
 pub mod Inserts
 pub mod Opens
+pub mod Scans
