@@ -67,9 +67,9 @@ module _ {O Key Recon Cond : Type 0} (m : Meaning Key Recon Cond) (codes : CodeL
   kept_step outs.Descended (Insert key d) t2 slots first e n (d2, items, (stood, same, goes)) =
       let fits = subst (λ (x : Slot O Key Recon Cond). SlotFits m s.table before seat x) e (kept.slots seat) in
       kept_moved m s kept seat (Insert key d2) t2 slots first items (rw e refl) (goes_fits key d d2 t2 fits goes) (pages_moved m s.table t2 before same (pages_are m s kept)) same.1
-  kept_step outs.Restructured (Insert key d) t2 slots first e n (d2, items, (off, (cost, L), lim, grow, goes)) =
+  kept_step outs.Restructured (Insert key d) t2 slots first e n (d2, items, (off, (cost, f, L), lim, grow, goes)) =
       let fits = subst (λ (x : Slot O Key Recon Cond). SlotFits m s.table before seat x) e (kept.slots seat) in
-      kept_moved m s kept seat (Insert key d2) t2 slots first items (rw e refl) (goes_fits key d d2 t2 fits goes) (pages_left m s.table t2 before t2.touched cost (λ x. x) L (grown key d t2 fits grow) (pages_are m s kept)) lim
+      kept_moved m s kept seat (Insert key d2) t2 slots first items (rw e refl) (goes_fits key d d2 t2 fits goes) (pages_left m s.table t2 before t2.touched cost f L (grown key d t2 fits grow) (pages_are m s kept)) lim
   kept_step (outs.Restarted block by) (Insert key d) t2 slots first e n (d2, items, (held, other, start, same, goes)) =
       let fits = subst (λ (x : Slot O Key Recon Cond). SlotFits m s.table before seat x) e (kept.slots seat) in
       kept_moved m s kept seat (Insert key d2) t2 slots first items (rw e refl) (goes_fits key d d2 t2 fits goes) (pages_moved m s.table t2 before same (pages_are m s kept)) same.1
@@ -90,11 +90,11 @@ module _ {O Key Recon Cond : Type 0} (m : Meaning Key Recon Cond) (codes : CodeL
   kept_put (Insert key d) t2 rows between slots journal row first e (d2, made, (off, adds, lim, grow, er)) r items states keys events spare =
       let fits = subst (λ (x : Slot O Key Recon Cond). SlotFits m s.table before seat x) e (kept.slots seat) in
       let here : open_of seat before ≡ inserting row key = fits.0 ∙ ap (λ (x : RowAt). inserting x key) (sym r) in
-      let (cost, A) = adds key fits.1 in
-      let A2 = subst (λ (x : RowAt). Adds m (sheets_of s.table) (sheets_of t2) t2.touched cost x key (λ z. z)) (sym r) A in
+      let (cost, f, A) = adds key fits.1 in
+      let A2 = subst (λ (x : RowAt). Adds m (sheets_of s.table) (sheets_of t2) t2.touched cost x key f) (sym r) A in
       let all = set_twice s.slots.items between.items slots.items seat (Insert key d2) Free made items in
       kept_logged m s kept (Put seat row) Free t2 rows slots journal first all events (key, here) tt (itself_opens (Put seat row) before)
-      (pages_put m s.table t2 before seat row key t2.touched cost (λ x. x) (sane m s kept) here A2 (grown key d t2 fits grow) (pages_are m s kept))
+      (pages_put m s.table t2 before seat row key t2.touched cost f (sane m s kept) here A2 (grown key d t2 fits grow) (pages_are m s kept))
       (put_rows m s.rows rows before seat row (rows_are m s kept) states keys) (room_ended m s kept seat slots.items journal.spare all spare (rw e refl)) lim
   kept_put (Scan x) t2 rows between slots journal row first e h r items states keys events spare = absurd h
 

@@ -15,7 +15,7 @@ ghost use Rattle.spg_core.specs.Sections.{IsNew, OpensInsert, IsInsertOut, IsHea
 use crate::answer::{InsertOut, OpenKind, OpenRefused};
 use crate::operations::{close_slot, end_insert, read_slot, release_slot, step_slot};
 use crate::slot::{SEATS, Slot, free_slots, give_up, kind, set_slot, slot_at};
-use spg_base::{Memory, Origin, Recorded, Row, Same, SeatNo, Stamp};
+use spg_base::{Memory, Origin, Row, Same, SeatNo, Stamp};
 use spg_descend::open_descent;
 use spg_opclass::{OpClass, Query};
 use spg_rows::{Event, Journal, RowState, RowTable, Why};
@@ -51,27 +51,6 @@ impl<O: OpClass> Model for State<O> {
     ghost invariant = { λ s. IsKept O.meaning s };
 }
 
-impl<O: OpClass> Recorded for State<O> {
-    ghost use Rattle.std.specs.Prelude.{◌≡◌};
-    ghost use Rattle.spg_rows.specs.History.{seat_of};
-
-    type Entry = Event<O>;
-
-    ghost entries = { λ s. s.journal };
-
-    ghost seat_of = { seat_of };
-
-    ghost origin_of = { λ s. s.origin };
-
-    fn len(&self) -> u64 {
-        self.journal.len()
-    }
-
-    fn origin(&self) -> Origin {
-        self.origin
-    }
-}
-
 impl<O: OpClass> State<O> {
     /// An empty index of at most `limit` pages, 4 to 131,072. The class has no labels so far.
     pub fn new(alloc: Global, class: O, limit: u32) -> Result<State<O>, Memory>
@@ -99,6 +78,13 @@ impl<O: OpClass> State<O> {
     /// The class of the keys.
     pub fn class(&self) -> &O {
         &self.class
+    }
+
+    /// With what the state was made.
+    pub fn origin(&self) -> Origin
+        ensures { result ≡ self.now.origin }
+    {
+        self.origin
     }
 
     /// The journal. It is legal, and each closed scan is right.
