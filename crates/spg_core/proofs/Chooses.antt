@@ -1,11 +1,10 @@
 -- What the class answers where an insert stands.
-use Rattle.std.proofs.Common.{◌≡◌, ℕ, ◌<◌, Bool, true, false, List, [], ◌∷◌, ◌⊎◌, Option, Some, None, length, refl, sym, ap, ◌∙◌, subst, inl, inr, arith, replicate}
+use Rattle.std.proofs.Common.{◌≡◌, ℕ, ◌<◌, Bool, true, false, List, ◌⊎◌, Option, Some, None, length, refl, sym, ap, ◌∙◌, subst, inl, inr, arith}
 use Rattle.std.specs.Prelude.{option_map}
 use Rattle.std.proofs.lemmas.List.{length-replicate}
 use Rattle.spg_opclass.specs.Meaning.{Meaning, is_tuple}
 use Rattle.spg_opclass.specs.Laws.{MatchLaw, PlainLaw}
-use Rattle.spg_opclass.specs.declared.view.Choice.{Choice}
-use Rattle.spg_opclass.specs.declared.view.Choice.TheVariants.{Match, Add, Split}
+use Rattle.spg_opclass.specs.declared.view.Choice.TheVariants.{Match}
 use Rattle.spg_forest.specs.View.{Place}
 use Rattle.spg_forest.specs.Spot.{Frame}
 use Rattle.spg_forest.specs.Tuples.{Tuple, Inner}

@@ -1,5 +1,5 @@
 -- What a section of an insert leaves of a state.
-use Rattle.std.proofs.Common.{◌≡◌, ◌<◌, ◌+◌, inl, inr, ⊎_elim, ℕ, Bool, true, List, [], ◌∷◌, ◌++◌, length, get_or, set, reverse, Option, Vec, refl, sym, ap, ◌∙◌, subst, get_or-set_same, length-set, arith, map}
+use Rattle.std.proofs.Common.{◌≡◌, ◌<◌, ◌+◌, inr, ⊎_elim, ℕ, Bool, List, [], ◌∷◌, ◌++◌, length, get_or, set, reverse, Option, Vec, refl, sym, ap, ◌∙◌, subst, get_or-set_same, length-set, arith, map}
 use Rattle.std.specs.Prelude.{is_none}
 use Rattle.spg_forest.specs.Section.{Adds}
 use Rattle.std.specs.declared.alloc.Global.{Global}
@@ -15,23 +15,22 @@ use Rattle.spg_rows.proofs.Histories.{itself_opens}
 use Rattle.spg_tree.specs.Table as pages
 use Rattle.spg_tree.specs.Table.{sheets_of}
 use Rattle.spg_tree.specs.Descents.{Descending, in_nulls}
-use Rattle.spg_descend.specs.Carried.{IsCarried}
 use Rattle.spg_core.specs.declared.answer.InsertOut.{InsertOut}
 use Rattle.spg_core.specs.declared.answer.InsertOut.TheVariants as outs
 use Rattle.spg_core.specs.declared.slot.Slot.{Slot}
 use Rattle.spg_core.specs.declared.slot.Slot.TheVariants.{Free, Insert, Scan}
 use Rattle.spg_core.specs.declared.state.State.TheInside.{Inside}
-use Rattle.spg_core.specs.Stepping.{HasInnerRoot, SamePages, GoesOn, RootsGrow, IsRootFull, IsOutgrown, Stands, IsStepOut}
-use Rattle.spg_core.specs.Operations.{CanStep, IsOutgrownBy, StepsFrom, IsInsert, IsRowOf}
-use Rattle.spg_core.specs.Sections.{IsOutOf, IsAfterSection, IsHeavyFor, StoodFor}
+use Rattle.spg_core.specs.Stepping.{HasInnerRoot, SamePages, GoesOn, RootsGrow, IsOutgrown}
+use Rattle.spg_core.specs.Operations.{CanStep, IsOutgrownBy, StepsFrom, IsRowOf}
+use Rattle.spg_core.specs.Sections.{IsOutOf, IsHeavyFor, StoodFor}
 use Rattle.spg_core.specs.Weight.{opened_keys}
-use Rattle.spg_core.specs.Slot.{stage_of, is_open}
-use Rattle.spg_core.specs.Stage.{Stage, free, descending, IsInserting}
-use Rattle.spg_core.specs.Seen.{Seen, past_of, moved, logged, stage_at}
+use Rattle.spg_core.specs.Slot.{stage_of}
+use Rattle.spg_core.specs.Stage.{free, descending, IsInserting}
+use Rattle.spg_core.specs.Seen.{Seen, moved, logged}
 use Rattle.spg_core.specs.Kept.{seen_of, SlotFits, IsKept}
 use Rattle.spg_core.proofs.Weights.{root_heavy, nulls_key}
-use Rattle.spg_core.proofs.Slots.{set_twice, stage_set, stage_is, past_is, table_is, moved_is, logged_is, seen_as}
-use Rattle.spg_core.proofs.Steps.{PagesAre, pages_are, rows_are, with_fields, kept_moved, kept_logged, pages_moved, pages_left, pages_put, put_rows, room_ended, insert_claimed, past, sane}
+use Rattle.spg_core.proofs.Slots.{set_twice, stage_set, past_is, table_is, moved_is, logged_is, seen_as}
+use Rattle.spg_core.proofs.Steps.{pages_are, rows_are, with_fields, kept_moved, kept_logged, pages_moved, pages_left, pages_put, put_rows, room_ended, insert_claimed, sane}
 
 module _ {O Key Recon Cond : Type 0} (m : Meaning Key Recon Cond) (codes : CodeLaw m) (s : Inside O Key Recon Cond) (kept : IsKept m s) (seat : ℕ) where
   abbrev before : History O Key Recon Cond

@@ -1,15 +1,14 @@
 -- What comes of a section of an insert.
-use Rattle.std.proofs.Common.{◌≡◌, ℕ, ◌<◌, Bool, true, false, List, [], ◌∷◌, ◌⊎◌, ⊎_elim, Option, Some, None, get_or, length, refl, sym, ap, ◌∙◌, subst, inl, inr, arith, cond}
+use Rattle.std.proofs.Common.{◌≡◌, ℕ, ◌<◌, Bool, true, false, List, ◌⊎◌, ⊎_elim, Option, Some, None, length, refl, sym, ap, ◌∙◌, subst, inl, inr, arith, cond}
 use Rattle.spg_opclass.specs.Meaning.{Meaning}
 use Rattle.spg_forest.specs.View.{Place}
-use Rattle.spg_forest.specs.Spot.{Frame}
 use Rattle.spg_forest.specs.Tuples.{Live}
 use Rattle.spg_forest.specs.Sheets.{Sheets, sheet_at, links}
 use Rattle.spg_forest.specs.Shape.{Shape, IsRestOf}
-use Rattle.spg_forest.specs.Section.{Adds, Cost}
+use Rattle.spg_forest.specs.Section.{Adds}
 use Rattle.spg_forest.specs.Follows.{GoesBelow}
 use Rattle.spg_page.specs.Reads.{frame_in}
-use Rattle.spg_tree.specs.Table.{Table, sheets_of, tuple_at, latch_at, with_latch, with_touched}
+use Rattle.spg_tree.specs.Table.{Table, sheets_of, tuple_at, latch_at, with_latch}
 use Rattle.spg_tree.specs.Descents.{Descending, in_nulls}
 use Rattle.spg_tree.specs.declared.stand.Stand.{Stand}
 use Rattle.spg_tree.specs.declared.stand.Stand.TheVariants.{Start, Root, At, Empty}
@@ -18,7 +17,7 @@ use Rattle.spg_descend.specs.Leaves.{released, stand_block, parent_block, is_hel
 use Rattle.spg_descend.specs.Follows.{IsAtInner, tuple_place, link_of, stand_below, latched, left_behind, table_below, FollowsNode, CarriesBelow}
 use Rattle.spg_descend.specs.Puts.{IsAtLeaves, IsAtEmpty, Fits, IsQuiet, PutsCarried, cost_at}
 use Rattle.spg_descend.specs.Rules.{IsThere, IsAtNoInner}
-use Rattle.spg_descend.specs.declared.enter.Entered.TheVariants.{In, Busy}
+use Rattle.spg_descend.specs.declared.enter.Entered.TheVariants.{In}
 use Rattle.spg_descend.proofs.Starts.{spots_are_there}
 use Rattle.spg_split.specs.Splits.{IsAtRoot, IsCalm, PartsWith, split_cost}
 use Rattle.spg_core.specs.declared.answer.InsertOut.TheVariants as outs

@@ -2,16 +2,15 @@
 use Rattle.std.proofs.Common.{◌≡◌, ℕ, ◌<◌, ◌≤◌, Bool, true, false, List, [], ◌∷◌, ◌⊎◌, ⊎_elim, Option, Some, None, get_or, length, refl, sym, ap, ◌∙◌, subst, inl, inr, arith, IfSome, cond}
 use Rattle.spg_opclass.specs.Meaning.{Meaning}
 use Rattle.spg_forest.specs.View.{Place, Leaf}
-use Rattle.spg_forest.specs.Spot.{Frame, Bucket}
+use Rattle.spg_forest.specs.Spot.{Frame}
 use Rattle.spg_forest.specs.Tuples.{Tuple, Inner, Live}
 use Rattle.spg_forest.specs.Pages.{tuple_on, place, all_live}
 use Rattle.spg_forest.specs.Sheets.{Sheet, Sheets, sheet_at, links}
-use Rattle.spg_forest.specs.Shape.{Shape, spots, IsKindOf}
-use Rattle.spg_forest.specs.Keeping.{IsChild}
+use Rattle.spg_forest.specs.Shape.{Shape, IsKindOf}
 use Rattle.spg_forest.proofs.Keeping.{has_child}
 use Rattle.spg_forest.proofs.Edits.{page_is}
 use Rattle.spg_page.specs.Kinds.{IsInner}
-use Rattle.spg_tree.specs.Table.{Table, sheets_of, tuples_at, tuple_at, latch_at, with_latch, with_touched}
+use Rattle.spg_tree.specs.Table.{Table, sheets_of, tuple_at, latch_at, with_latch}
 use Rattle.spg_tree.specs.Descents.{Descending, in_nulls}
 use Rattle.spg_tree.specs.declared.stand.Stand.{Stand}
 use Rattle.spg_tree.specs.declared.stand.Stand.TheVariants.{Start, Root, At, Empty}
@@ -20,7 +19,7 @@ use Rattle.spg_descend.specs.Leaves.{released, parent_block, stand_block, is_hel
 use Rattle.spg_descend.specs.Follows.{IsAtInner, tuple_place, link_of, stand_below, latched}
 use Rattle.spg_descend.specs.Puts.{IsAtLeaves, IsAtEmpty, IsPutSpot}
 use Rattle.spg_descend.specs.Rules.{IsAtNoInner}
-use Rattle.spg_core.specs.Stepping.{HasInnerRoot, IsLink, StandsAt, Stands, SamePages}
+use Rattle.spg_core.specs.Stepping.{HasInnerRoot, StandsAt, Stands, SamePages}
 
 pub root_range : (nulls : Bool) → (0 < root_of nulls) × (root_of nulls < 3)
 root_range true = (omega arith, omega arith)

@@ -7,11 +7,10 @@ use Rattle.std.proofs.lemmas.List.{reverse-append}
 use Rattle.std.specs.declared.alloc.Global.{Global}
 use Rattle.spg_base.specs.Row.{RowAt, same_row}
 use Rattle.spg_opclass.specs.Meaning.{Meaning}
-use Rattle.spg_forest.specs.View.{Place, Leaf}
-use Rattle.spg_forest.specs.Spot.{IsIn, leaves_of}
+use Rattle.spg_forest.specs.View.{Place}
 use Rattle.spg_forest.specs.Pages.{IsFresh}
 use Rattle.spg_forest.specs.Sheets.{Sheets, sheet_at}
-use Rattle.spg_forest.specs.Shape.{Shape, Represents, spots}
+use Rattle.spg_forest.specs.Shape.{Represents, spots}
 use Rattle.spg_forest.specs.Classes.{HasEntry}
 use Rattle.spg_forest.specs.Section.{Adds, Leaves, Cost}
 use Rattle.spg_forest.specs.Walk.{weight_of, is_of_tree, key_weight}
@@ -27,16 +26,15 @@ use Rattle.spg_rows.specs.Right.{ClosesRight}
 use Rattle.spg_rows.specs.Table.{Table, state_in, key_in, SetsState, SetsKey, SameKeys}
 use Rattle.spg_rows.specs.States.{StateSays}
 use Rattle.spg_rows.proofs.RowOrder.{row_tells, same_row-refl}
-use Rattle.spg_rows.proofs.Histories.{Sane, itself_opens, other_stays, sane_from_legal, free_says, put_claimed}
+use Rattle.spg_rows.proofs.Histories.{Sane, other_stays, sane_from_legal, free_says, put_claimed}
 use Rattle.spg_tree.specs.Table as pages
 use Rattle.spg_tree.specs.Table.{sheets_of}
-use Rattle.spg_tree.specs.Descents.{Descending, in_nulls}
-use Rattle.spg_descend.specs.Carried.{IsCarried, root_of}
+use Rattle.spg_descend.specs.Carried.{root_of}
 use Rattle.spg_descend.proofs.Starts.{new_table}
 use Rattle.spg_core.specs.declared.slot.Slot.{Slot}
 use Rattle.spg_core.specs.declared.slot.Slot.TheVariants.{Free, Insert, Scan}
 use Rattle.spg_core.specs.declared.state.State.TheInside.{Inside}
-use Rattle.spg_core.specs.Stepping.{HasInnerRoot, SamePages, RootsGrow, IsRootFull, Stands}
+use Rattle.spg_core.specs.Stepping.{HasInnerRoot, SamePages}
 use Rattle.spg_core.specs.Weight.{opened_keys}
 use Rattle.spg_core.specs.Slot.{stage_of, is_open, open_count, GivesBack}
 use Rattle.spg_core.specs.Stage.{Stage, free, descending, reading, given_up}

@@ -1,5 +1,5 @@
 -- What the operation in a seat's slot needs, and what a section of it does.
-use Rattle.std.specs.Prelude.{◌≡◌, ◌<◌, [], ℕ, List, Option, length, slice_set, slice_index_or, IfSome}
+use Rattle.std.specs.Prelude.{◌≡◌, ◌<◌, [], ℕ, List, length, slice_set, slice_index_or, IfSome}
 use Rattle.spg_base.specs.Row.{RowAt}
 use Rattle.spg_opclass.specs.Meaning.{Meaning}
 use Rattle.spg_rows.specs.Table as rows

@@ -1,5 +1,5 @@
 -- What each call of a state does, as its callers see it.
-use Rattle.std.specs.Prelude.{◌≡◌, ◌<◌, ◌⊎◌, [], ℕ, Bool, true, false, is_none, List, Option, length}
+use Rattle.std.specs.Prelude.{◌≡◌, ◌<◌, ◌⊎◌, [], ℕ, false, is_none, Option, length}
 use Rattle.spg_base.specs.Row.{RowAt}
 use Rattle.spg_opclass.specs.Meaning.{Meaning}
 use Rattle.spg_opclass.specs.declared.query.Query.{Query}
@@ -7,8 +7,8 @@ use Rattle.spg_forest.specs.Walk.{weight_of}
 use Rattle.spg_rows.specs.Table as rows
 use Rattle.spg_rows.specs.declared.event.Event.TheVariants.{OpenInsert, Put, OpenScan, CloseScan}
 use Rattle.spg_rows.specs.declared.event.Why.{Why}
-use Rattle.spg_tree.specs.Table.{Table, sheets_of, start_table}
-use Rattle.spg_tree.specs.Descents.{Descending, in_nulls}
+use Rattle.spg_tree.specs.Table.{Table, start_table}
+use Rattle.spg_tree.specs.Descents.{Descending}
 use Rattle.spg_tree.specs.declared.stand.Stand.TheVariants.{Start}
 use Rattle.spg_descend.specs.Enters.{opened_for}
 use Rattle.spg_descend.specs.Follows.{IsAtInner}

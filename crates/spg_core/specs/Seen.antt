@@ -1,5 +1,5 @@
 -- The state as contracts see it.
-use Rattle.std.specs.Prelude.{◌≡◌, ◌<◌, ◌⊎◌, ℕ, Bool, true, List, [], ◌∷◌, ◌++◌, slice_index_or, slice_set, reverse, Option, Some}
+use Rattle.std.specs.Prelude.{◌≡◌, ℕ, true, List, [], ◌∷◌, ◌++◌, slice_index_or, slice_set, reverse, Option, Some}
 use Rattle.spg_base.specs.Row.{RowAt}
 use Rattle.spg_base.specs.declared.recorded.Origin.{Origin}
 use Rattle.spg_rows.specs.declared.event.Event.{Event}

@@ -1,6 +1,5 @@
 -- How far a seat's operation has come.
 use Rattle.std.specs.Prelude.{◌≡◌, ℕ, [], length, Option, ⊤}
-use Rattle.spg_base.specs.Row.{RowAt}
 use Rattle.spg_rows.specs.declared.event.Event.{Event}
 use Rattle.spg_rows.specs.declared.event.Event.TheVariants.{Drop, Leave}
 use Rattle.spg_rows.specs.declared.event.Why.{Why}

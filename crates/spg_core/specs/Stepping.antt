@@ -1,10 +1,10 @@
 -- Where an open insert stands in a table, and what a section of it does.
-use Rattle.std.specs.Prelude.{◌≡◌, ◌⊎◌, ◌<◌, ◌≤◌, ℕ, Bool, true, false, List, length, get_or, Option, Some, None, if◌then◌else◌}
+use Rattle.std.specs.Prelude.{◌≡◌, ◌⊎◌, ◌<◌, ℕ, Bool, true, false, List, length, get_or, Option, Some, None, if◌then◌else◌}
 use Rattle.spg_opclass.specs.Meaning.{Meaning}
 use Rattle.spg_forest.specs.View.{Place}
 use Rattle.spg_forest.specs.Spot.{Frame}
 use Rattle.spg_forest.specs.Tuples.{Inner, Live}
-use Rattle.spg_forest.specs.Sheets.{sheet_at, links}
+use Rattle.spg_forest.specs.Sheets.{sheet_at}
 use Rattle.spg_forest.specs.Section.{Adds, Leaves, Cost}
 use Rattle.spg_tree.specs.Table.{Table, sheets_of, latch_at, tuple_at}
 use Rattle.spg_tree.specs.Descents.{Descending, in_nulls}

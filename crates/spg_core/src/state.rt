@@ -10,6 +10,7 @@ ghost use Rattle.spg_rows.specs.History.{open_of};
 ghost use Rattle.spg_tree.specs.Table.{Table, sheets_of, start_table};
 ghost use Rattle.spg_core.specs.Stage.{free, IsInserting, IsRead, IsStageOf, held_count, given_up, kind_of};
 ghost use Rattle.spg_core.specs.Seen.{stage_at, past_of, IsPresentWith};
+ghost use Rattle.spg_core.specs.Kept.{RootsAreHeavy};
 ghost use Rattle.spg_core.specs.Sections.{IsNew, OpensInsert, IsInsertOut, IsHeavy, OpensScan, ReadsItem, ClosesScan, GivesUp};
 
 use crate::answer::{InsertOut, OpenKind, OpenRefused};
@@ -20,7 +21,7 @@ use spg_descend::open_descent;
 use spg_opclass::{OpClass, Query};
 use spg_rows::{Event, Journal, RowState, RowTable, Why};
 use spg_scan::{Closed, ReadOut, Scan};
-use spg_tree::{PageTable, StepRefused};
+use spg_tree::{PageTable, StepRefused, Touched};
 use std::alloc::Global;
 use std::marker::Model;
 
@@ -95,12 +96,29 @@ impl<O: OpClass> State<O> {
         &self.journal
     }
 
-    /// The pages. They are well formed and hold just the rows that are present, each with its key.
+    /// The pages. They are well formed and hold just the rows that are present, each with its key. A
+    /// root is an inner tuple only where the keys of its tree that were ever inserted take more than
+    /// 8,160 bytes.
     pub fn pages(&self) -> &PageTable
         ensures value { result.now ≡ self.now.table }
         ensures represents { Represents O.meaning (sheets_of self.now.table) (IsPresentWith (past_of self.now)) }
+        ensures heavy { RootsAreHeavy O.meaning self.now.table (past_of self.now) }
     {
         &self.table
+    }
+
+    /// The clock, below 2^48.
+    pub fn clock(&self) -> u64
+        ensures { result ≡ self.now.table.clock }
+    {
+        self.table.clock()
+    }
+
+    /// The blocks that the last section of an insert changed or added.
+    pub fn touched(&self) -> &Touched
+        ensures { result.now ≡ self.now.table.touched }
+    {
+        self.table.touched()
     }
 
     /// What the seat has open. It is what the journal says.

@@ -1,5 +1,5 @@
-use Rattle.std.proofs.Common.{◌≡◌, refl, sym, ap, ◌∙◌, subst}
-use Rattle.spg_tree.specs.Table.{Table, sheets_of, latch_at}
+use Rattle.std.proofs.Common.{ap, ◌∙◌}
+use Rattle.spg_tree.specs.Table.{Table, sheets_of}
 use Rattle.spg_tree.specs.Descents.{Descending}
 use Rattle.spg_core.specs.Stepping.{SamePages}
 use Rattle.spg_core.proofs.Moves.{goes_same}

@@ -1,9 +1,8 @@
-use Rattle.std.proofs.Common.{◌≡◌, refl, sym, ap, ◌∙◌, subst}
+use Rattle.std.proofs.Common.{ap, ◌∙◌, subst}
 use Rattle.spg_tree.specs.Table.{Table, sheets_of}
 use Rattle.spg_descend.specs.declared.enter.Entered.{Entered}
 use Rattle.spg_descend.specs.Follows.{FollowsNode, CarriesBelow}
-use Rattle.spg_core.specs.Stepping.{SamePages, Stands}
-use Rattle.spg_core.proofs.Stands.{above_there}
+use Rattle.spg_core.specs.Stepping.{SamePages}
 use Rattle.spg_core.proofs.Moves.{down_out}
 use Rattle.spg_core.proofs.insert.go_down.Goals as goal
 use Rattle.spg_core.proofs.insert.go_down.Goals.{then-chosen, else-chosen}

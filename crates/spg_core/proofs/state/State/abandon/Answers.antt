@@ -1,15 +1,13 @@
-use Rattle.std.proofs.Common.{◌≡◌, ◌≢◌, ◌++◌, ◌∷◌, [], refl, sym, ap, ◌∙◌, subst, reverse, get_or}
+use Rattle.std.proofs.Common.{◌≢◌, ◌++◌, ◌∷◌, [], sym, ap, ◌∙◌, subst, reverse, get_or}
 use Rattle.spg_tree.specs.Table.{Table}
-use Rattle.spg_rows.proofs.Histories.{itself_opens}
 use Rattle.spg_core.specs.declared.slot.Slot.{Slot}
 use Rattle.spg_core.specs.declared.slot.Slot.TheVariants.{Free}
 use Rattle.spg_core.specs.Stage.{free, given_up}
-use Rattle.spg_core.specs.Seen.{logged}
 use Rattle.spg_core.specs.Slot.{stage_of, GivesBack}
 use Rattle.spg_core.specs.Stepping.{SamePages}
 use Rattle.spg_core.specs.Operations.{CanRelease}
 use Rattle.spg_core.proofs.Slots.{stage_set, stage_is, table_is, logged_is, not_free_open}
-use Rattle.spg_core.proofs.Steps.{kept_logged, given_up_rows, given_up_pages, given_up_seat, given_up_closes, given_up_ends, may_give_up, room_left, room_ended, pages_are, pages_moved, rows_are}
+use Rattle.spg_core.proofs.Steps.{given_up_rows, given_up_seat, may_give_up, room_left, room_ended, rows_are}
 use Rattle.spg_core.proofs.Opens.{can_release, given_up_fits}
 use Rattle.spg_core.proofs.state.State.abandon.Goals as goal
 

@@ -1,4 +1,4 @@
-use Rattle.std.proofs.Common.{[], refl, sym, subst, get_or}
+use Rattle.std.proofs.Common.{refl, sym, subst, get_or}
 use Rattle.spg_core.specs.declared.slot.Slot.TheVariants.{Free}
 use Rattle.spg_core.specs.Stage.{IsRead}
 use Rattle.spg_core.specs.Sections.{HasMet}

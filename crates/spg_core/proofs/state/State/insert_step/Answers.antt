@@ -1,13 +1,12 @@
-use Rattle.std.proofs.Common.{rules, ◌≡◌, ◌<◌, sym, refl, ap, ◌∙◌, subst, reverse, get_or, arith, length}
+use Rattle.std.proofs.Common.{rules, ◌≡◌, ◌<◌, sym, refl, ◌∙◌, subst, get_or, arith, length}
 use Rattle.std.proofs.lemmas.Bool.{false≢true}
 use Rattle.spg_core.specs.declared.answer.InsertOut.{InsertOut}
 use Rattle.spg_core.specs.declared.answer.InsertOut.TheVariants as outs
-use Rattle.spg_core.specs.declared.slot.Slot.{Slot}
 use Rattle.spg_core.specs.declared.slot.Slot.TheVariants.{Free}
 use Rattle.spg_core.specs.Slot.{stage_of}
 use Rattle.spg_core.specs.Stage.{Stage, IsInserting}
 use Rattle.spg_core.specs.Seen.{Seen}
-use Rattle.spg_core.specs.Operations.{StepsFrom, IsRowOf, IsOutgrownBy}
+use Rattle.spg_core.specs.Operations.{StepsFrom, IsOutgrownBy}
 use Rattle.spg_core.specs.Sections.{IsOutOf, IsHeavyFor}
 use Rattle.spg_core.proofs.Slots.{stage_is, inserting_open}
 use Rattle.spg_core.proofs.Steps.{kept_still, room_left}

@@ -1,7 +1,6 @@
-use Rattle.std.proofs.Common.{◌≡◌, refl, arith, sym, ap, subst}
-use Rattle.spg_tree.specs.Table.{Table}
+use Rattle.std.proofs.Common.{refl, arith}
 use Rattle.spg_core.proofs.Slots.{all_free, all_stages_free}
-use Rattle.spg_core.proofs.Steps.{PagesAre, new_pages}
+use Rattle.spg_core.proofs.Steps.{new_pages}
 use Rattle.spg_core.proofs.state.State.new.Goals as goal
 
 pub invariant_of-result : goal.invariant_of-result

@@ -1,18 +1,15 @@
-use Rattle.std.proofs.Common.{rules, Option, ◌<◌, ◌≡◌, ◌++◌, ◌∷◌, [], Some, None, false, refl, sym, ap, ◌∙◌, subst, reverse, get_or, map}
+use Rattle.std.proofs.Common.{rules, Option, ◌<◌, ◌≡◌, ◌++◌, ◌∷◌, [], Some, refl, sym, ap, ◌∙◌, subst, reverse, get_or, map}
 use Rattle.std.proofs.lemmas.Bool.{false≢true}
 use Rattle.std.proofs.lemmas.Result.{err_from_is_err_and}
 use Rattle.spg_forest.specs.Pages.{IsFresh}
 use Rattle.spg_forest.specs.Shape.{spots}
 use Rattle.spg_rows.specs.declared.event.Event.TheVariants.{OpenInsert}
-use Rattle.spg_rows.specs.History.{open_of, inserting}
 use Rattle.spg_rows.specs.Table.{SetsKey}
-use Rattle.spg_rows.proofs.Histories.{itself_opens}
 use Rattle.spg_tree.specs.Table.{Table, sheets_of}
 use Rattle.spg_tree.specs.Descents.{Descending}
 use Rattle.spg_core.specs.Seen.{logged}
 use Rattle.spg_core.specs.Stage.{descending}
 use Rattle.spg_descend.specs.Enters.{opened_for, CarriesNew}
-use Rattle.spg_core.specs.declared.slot.Slot.{Slot}
 use Rattle.spg_core.specs.declared.slot.Slot.TheVariants.{Free, Insert}
 use Rattle.spg_core.specs.Slot.{stage_of}
 use Rattle.spg_core.proofs.Slots.{stage_set, stage_is, logged_is, free_slot, room_for_all, seen_as, table_is}

@@ -1,6 +1,4 @@
-use Rattle.std.proofs.Common.{◌≡◌, sym, subst, reverse}
-use Rattle.spg_rows.specs.History.{History, open_of}
-use Rattle.spg_core.specs.Stage.{Stage, IsStageOf}
+use Rattle.std.proofs.Common.{reverse}
 use Rattle.spg_core.proofs.Slots.{stage_is, past_is, fits_stage}
 use Rattle.spg_core.proofs.state.State.open_of.Goals as goal
 
