@@ -8,3 +8,4 @@ pub mod Steps
 pub mod Inserts
 pub mod Opens
 pub mod Scans
+pub mod Counting

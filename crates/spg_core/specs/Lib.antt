@@ -6,3 +6,4 @@ pub mod Slot
 pub mod Operations
 pub mod Kept
 pub mod Sections
+pub mod Counts

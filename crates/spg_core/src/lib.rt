@@ -5,6 +5,7 @@ mod answer;
 mod insert;
 mod operations;
 mod slot;
+mod stat;
 mod state;
 
 pub use answer::{InsertOut, OpenKind, OpenRefused};

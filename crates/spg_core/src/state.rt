@@ -11,12 +11,14 @@ ghost use Rattle.spg_tree.specs.Table.{Table, sheets_of, start_table};
 ghost use Rattle.spg_core.specs.Stage.{free, IsInserting, IsRead, IsStageOf, held_count, given_up, kind_of};
 ghost use Rattle.spg_core.specs.Seen.{stage_at, past_of, IsPresentWith};
 ghost use Rattle.spg_core.specs.Kept.{RootsAreHeavy};
+ghost use Rattle.spg_core.specs.Counts.{IsStat};
 ghost use Rattle.spg_core.specs.Sections.{IsNew, OpensInsert, IsInsertOut, IsHeavy, OpensScan, ReadsItem, ClosesScan, GivesUp};
 
 use crate::answer::{InsertOut, OpenKind, OpenRefused};
 use crate::operations::{close_slot, end_insert, read_slot, release_slot, step_slot};
 use crate::slot::{SEATS, Slot, free_slots, give_up, kind, set_slot, slot_at};
-use spg_base::{Memory, Origin, Row, Same, SeatNo, Stamp};
+use crate::stat::stat_of;
+use spg_base::{Memory, Origin, Row, Same, SeatNo, Stamp, Stat};
 use spg_descend::open_descent;
 use spg_opclass::{OpClass, Query};
 use spg_rows::{Event, Journal, RowState, RowTable, Why};
@@ -119,6 +121,14 @@ impl<O: OpClass> State<O> {
         ensures { result.now ≡ self.now.table.touched }
     {
         self.table.touched()
+    }
+
+    /// How many pages and how many tuples of each kind there are, and the clock. It looks at all
+    /// tuples, and takes no memory.
+    pub fn stat(&self) -> Stat
+        ensures { IsStat self.now.table result }
+    {
+        stat_of(&self.table)
     }
 
     /// What the seat has open. It is what the journal says.
