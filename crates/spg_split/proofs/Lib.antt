@@ -1,0 +1,13 @@
+pub mod Room
+pub mod Growing
+pub mod Reading
+pub mod Lists
+pub mod Clearing
+pub mod Divided
+pub mod Totals
+pub mod Chaining
+pub mod Taken
+pub mod RootLaw
+pub mod Picking
+pub mod Standing
+pub mod Joining

@@ -1,7 +1,6 @@
 -- What the division of leaves does.
-use Rattle.std.specs.Prelude.{◌≡◌, ℕ, ◌<◌, ◌⊎◌, Option, Some}
+use Rattle.std.specs.Prelude.{◌≡◌, ℕ, ◌<◌, ◌⊎◌, Option}
 use Rattle.spg_opclass.specs.Meaning.{Meaning}
-use Rattle.spg_forest.specs.View.{Place}
 use Rattle.spg_forest.specs.Sheets.{sheet_at}
 use Rattle.spg_forest.specs.Section.{Adds, Leaves, Cost}
 use Rattle.spg_tree.specs.Table.{Table, sheets_of, latch_at}

@@ -2,6 +2,12 @@
 //! "picksplit").
 #![tactic(auto)]
 
+mod division;
+mod parts;
+mod placing;
+mod put;
+mod root;
 mod split;
+mod values;
 
 pub use split::{SplitOut, split_leaf};

@@ -3,14 +3,20 @@ ghost use Rattle.spg_forest.specs.Tuples.{Live};
 ghost use Rattle.spg_forest.specs.Shape.{Shape};
 ghost use Rattle.spg_tree.specs.Table.{sheets_of};
 ghost use Rattle.spg_tree.specs.Descents.{in_nulls};
+ghost use Rattle.spg_tree.specs.declared.stand.Stand.TheVariants.{Root};
 ghost use Rattle.spg_tree.specs.declared.stand.StepRefused.TheVariants.{IndexFull, ClockFull};
 ghost use Rattle.spg_descend.specs.Carried.{carried, IsCarried};
 ghost use Rattle.spg_descend.specs.Puts.{IsAtLeaves, Fits};
 ghost use Rattle.spg_split.specs.Splits.{IsAtRoot, IsSplitOut, IsSplitFull};
+ghost use Rattle.spg_split.specs.Ways.{IsSplitWay, Notes};
 
-use spg_base::{Memory, SeatNo};
+use crate::division::divide;
+use crate::parts::Parts;
+use crate::put::{Parted, put_division};
+use crate::values::values_at_root;
+use spg_base::{Block, SeatNo};
 use spg_opclass::OpClass;
-use spg_tree::{Descent, PageTable, StepRefused};
+use spg_tree::{Descent, PageTable, Stand, StepRefused};
 use std::alloc::Global;
 
 /// What came of a division.
@@ -21,6 +27,44 @@ pub enum SplitOut {
     /// The lists do not fit with it on one page, so it was left out: the insert goes on from the new
     /// inner tuple.
     LeftOut,
+}
+
+/// Divides the leaves of the root leaf page at which an insert stands.
+fn split_root<O: OpClass>(
+    alloc: Global,
+    class: &O,
+    table: &mut PageTable,
+    descent: &Descent<O>,
+    root: Block,
+    seat: SeatNo,
+) -> Result<Parted, StepRefused>
+    requires shape { Shape O.meaning (sheets_of table.old) }
+    requires stands { descent.now.stand ≡ Root root }
+    requires spot { IsAtLeaves (sheets_of table.old) (in_nulls descent.now) descent.now.stand }
+    requires of_key { (key : Option O.Key) × IsCarried O.meaning (sheets_of table.old) descent.now key }
+    requires no_room { Fits table.old descent.now.stand (Live (carried descent.now) 0) → ⊥ }
+    ensures ok { IfOk result (λ way. IsSplitWay O.meaning table.old table.new descent.now way) }
+    ensures full { IsErrOf result IndexFull → IsSplitFull table.old }
+    ensures err { OnErr result (table.new ≡ table.old) }
+{
+    let values = values_at_root(alloc, table.page(root), descent)?;
+    let division = divide(alloc, class, descent.recon(), values.rests.as_slice())?;
+    let parts = Parts::of(alloc, values.rows.as_slice(), division)?;
+    put_division(alloc, table, root, parts, seat)
+}
+
+/// Notes in the insert what a division did.
+fn note<O: OpClass>(descent: &mut Descent<O>, way: Parted) -> SplitOut
+    ensures { Notes descent.old descent.new way result }
+{
+    match way {
+        Parted::With => SplitOut::Put,
+        Parted::Without { in_one: false } => SplitOut::LeftOut,
+        Parted::Without { in_one: true } => {
+            descent.note_rise();
+            SplitOut::LeftOut
+        }
+    }
 }
 
 /// Divides the leaves of the root leaf page at which an insert stands, and its own leaf, by the
@@ -47,5 +91,11 @@ pub fn split_leaf<O: OpClass>(
     ensures err { OnErr result (table.new ≡ table.old) }
     ensures err_descent { OnErr result (descent.new ≡ descent.old) }
 {
-    Err(StepRefused::Memory)
+    match descent.stand() {
+        Stand::Root(root) => {
+            let way = split_root(alloc, class, table, descent, root, seat)?;
+            Ok(note(descent, way))
+        }
+        Stand::Start | Stand::At(_) | Stand::Empty => unreachable!(),
+    }
 }

@@ -1,0 +1,231 @@
+-- What a page shows once lists of leaves were added to it.
+use Rattle.std.proofs.Common.{◌≡◌, ℕ, zero, suc, ◌+◌, ◌<◌, List, [], ◌∷◌, ◌++◌, append_assoc, append-nil, length, length-append, ◌⊎◌, ⊎_elim, Some, None, get_or, slice_get, refl, sym, ap, ap₂, ◌∙◌, subst, inl, inr, arith}
+use Rattle.std.proofs.lemmas.Bool.{cases_eq}
+use Rattle.spg_forest.specs.View.{Place, Leaf}
+use Rattle.spg_forest.specs.Spot.{Spot, Bucket, Nothing, IsIn}
+use Rattle.spg_forest.specs.Tuples.{Tuple, Live, Placeholder, IsLaidOut, IsAmong, AreFree, put_on, first_of, with_chain}
+use Rattle.spg_forest.specs.Pages.{place, tuple_on}
+use Rattle.spg_forest.specs.Sheets.{free_place}
+use Rattle.spg_forest.specs.Edits.{added}
+use Rattle.spg_forest.proofs.Chain.{put_on_same, put_on_other}
+use Rattle.spg_forest.proofs.Chains.{with_chain_laid_out, with_chain_other}
+use Rattle.spg_forest.proofs.ChainWrites.{with_chain_push}
+use Rattle.spg_forest.proofs.Front.{nothing_at}
+use Rattle.spg_page.proofs.SheetFacts.{free_place_free}
+use Rattle.spg_chain.proofs.Laid.{added_alone, added_behind}
+use Rattle.spg_split.specs.Placing.{chained, head_of, downlink, placed, downlinks}
+
+-- ---- one list
+
+-- at each offset of a chain a live leaf tuple stands
+live_among : (T : ℕ → Tuple) (os : List ℕ) (ls : List Leaf) (o : ℕ) → AreFree T os ls → IsAmong o os → (l : Leaf) × (n : ℕ) × (with_chain T os ls o ≡ Live l n)
+live_among T [] ls o f a = absurd a
+live_among T (p ∷ ps) [] o f a = absurd f
+live_among T (p ∷ ps) (l ∷ ls) o (x, y, z, f) a = ⊎_elim
+    (λ e. (l, first_of ps, put_on_same (with_chain T ps ls) p (Live l (first_of ps)) o e))
+    (λ n. let (k, i, q) = live_among T ps ls o f (⊎_elim (λ e. absurd (n e)) (λ b. b) a) in (k, i, put_on_other (with_chain T ps ls) p (Live l (first_of ps)) o n ∙ q)) (cases_eq o p)
+
+not_among : (T : ℕ → Tuple) (os : List ℕ) (ls : List Leaf) (o : ℕ) → AreFree T os ls → with_chain T os ls o ≡ Placeholder → IsAmong o os → ⊥
+not_among T os ls o f e a = let (l, n, q) = live_among T os ls o f a in let c : Live l n ≡ Placeholder = sym q ∙ e in cc
+
+among_last : (qs : List ℕ) (p : ℕ) → IsAmong p (qs ++ p ∷ [])
+among_last [] p = inl refl
+among_last (q ∷ qs) p = inr (among_last qs p)
+
+among_first : (qs : List ℕ) (p o : ℕ) → IsAmong o qs → IsAmong o (qs ++ p ∷ [])
+among_first [] p o a = absurd a
+among_first (q ∷ qs) p o (inl e) = inl e
+among_first (q ∷ qs) p o (inr a) = inr (among_first qs p o a)
+
+among_cases : (qs : List ℕ) (p o : ℕ) → IsAmong o (qs ++ p ∷ []) → IsAmong o qs ⊎ (o ≡ p)
+among_cases [] p o a = ⊎_elim (λ e. inr e) (λ b. absurd b) a
+among_cases (q ∷ qs) p o a = ⊎_elim (λ e. inl (inl e)) (λ b. ⊎_elim (λ c. inl (inr c)) (λ e. inr e) (among_cases qs p o b)) a
+
+-- the last of a chain
+last_of_chain : (T : ℕ → Tuple) (qs : List ℕ) (ks : List Leaf) (p : ℕ) (k : Leaf) → AreFree T (qs ++ p ∷ []) (ks ++ k ∷ []) → (with_chain T (qs ++ p ∷ []) (ks ++ k ∷ []) p ≡ Live k 0) × (p ≡ 0 → ⊥) × (IsAmong p qs → ⊥)
+last_of_chain T [] [] p k (x, y, z, f) = (put_on_same T p (Live k 0) p refl, y, λ a. a)
+last_of_chain T [] (m ∷ []) p k (x, y, z, f) = absurd f
+last_of_chain T [] (m ∷ n ∷ ms) p k (x, y, z, f) = absurd f
+last_of_chain T (q ∷ []) [] p k (x, y, z, f) = absurd f
+last_of_chain T (q ∷ r ∷ qs) [] p k (x, y, z, f) = absurd f
+last_of_chain T (q ∷ qs) (m ∷ ms) p k (x, y, z, f) =
+    let (a, b, c) = last_of_chain T qs ms p k f in
+    let n : p ≡ q → ⊥ = λ e. z (subst (λ i. IsAmong i (qs ++ p ∷ [])) e (among_last qs p)) in
+    (put_on_other (with_chain T (qs ++ p ∷ []) (ms ++ k ∷ [])) q (Live m (first_of (qs ++ p ∷ []))) p n ∙ a, b, λ d. ⊎_elim n c d)
+
+-- a free offset more
+free_more : (T : ℕ → Tuple) (qs : List ℕ) (ks : List Leaf) (o : ℕ) (l : Leaf) → AreFree T qs ks → T o ≡ Placeholder → (o ≡ 0 → ⊥) → (IsAmong o qs → ⊥) → AreFree T (qs ++ o ∷ []) (ks ++ l ∷ [])
+free_more T [] [] o l f e z n = (e, z, (λ a. a), tt)
+free_more T [] (k ∷ ks) o l f e z n = absurd f
+free_more T (q ∷ qs) [] o l f e z n = absurd f
+free_more T (q ∷ qs) (k ∷ ks) o l (x, y, w, f) e z n =
+    (x, y, (λ a. ⊎_elim w (λ c. n (inl (sym c))) (among_cases qs o q a)), free_more T qs ks o l f e z (λ a. n (inr a)))
+
+free_length : (T : ℕ → Tuple) (qs : List ℕ) (ks : List Leaf) → AreFree T qs ks → length qs ≡ length ks
+free_length T [] [] f = refl
+free_length T [] (k ∷ ks) f = absurd f
+free_length T (q ∷ qs) [] f = absurd f
+free_length T (q ∷ qs) (k ∷ ks) (x, y, z, f) = ap suc (free_length T qs ks f)
+
+-- the chain of these leaves stands at free offsets
+record Written (T : ℕ → Tuple) (us : List Tuple) (ls : List Leaf) (h : ℕ) : Type 0 where
+  offsets : List ℕ
+  tuples : tuple_on us ≡ with_chain T offsets ls
+  free : AreFree T offsets ls
+  first : first_of offsets ≡ h
+
+first_same : (qs : List ℕ) (p o : ℕ) → first_of ((qs ++ p ∷ []) ++ o ∷ []) ≡ first_of (qs ++ p ∷ [])
+first_same [] p o = refl
+first_same (q ∷ qs) p o = refl
+
+grow : (T : ℕ → Tuple) (ts : List Tuple) (qs : List ℕ) (ks : List Leaf) (p : ℕ) (k : Leaf) (rest : List Leaf) → tuple_on ts ≡ with_chain T (qs ++ p ∷ []) (ks ++ k ∷ []) → AreFree T (qs ++ p ∷ []) (ks ++ k ∷ []) →
+    Written T (chained ts p rest) ((ks ++ k ∷ []) ++ rest) (first_of (qs ++ p ∷ []))
+grow T ts qs ks p k [] e f = record { offsets = qs ++ p ∷ []; tuples = e ∙ ap (with_chain T (qs ++ p ∷ [])) (sym (append-nil (ks ++ k ∷ []))); free = subst (AreFree T (qs ++ p ∷ [])) (sym (append-nil (ks ++ k ∷ []))) f; first = refl }
+grow T ts qs ks zero k (l ∷ rest) e f = absurd ((last_of_chain T qs ks zero k f).1 refl)
+grow T ts qs ks (suc j) k (l ∷ rest) e f =
+    let p : ℕ = suc j in
+    let o : ℕ = suc (free_place ts) in
+    let us : List Tuple = added ts p o l in
+    let (a, b, c) = last_of_chain T qs ks p k f in
+    let at : tuple_on ts p ≡ Live k 0 = ap (λ (U : ℕ → Tuple). U p) e ∙ a in
+    let free_here : tuple_on ts o ≡ Placeholder = free_place_free ts in
+    let none : IsAmong o (qs ++ p ∷ []) → ⊥ = not_among T (qs ++ p ∷ []) (ks ++ k ∷ []) o f (sym (ap (λ (U : ℕ → Tuple). U o) e) ∙ free_here) in
+    let was : T o ≡ Placeholder = sym (with_chain_other T (qs ++ p ∷ []) (ks ++ k ∷ []) o none) ∙ sym (ap (λ (U : ℕ → Tuple). U o) e) ∙ free_here in
+    let n : p ≡ o → ⊥ = λ q. none (subst (λ i. IsAmong i (qs ++ p ∷ [])) q (among_last qs p)) in
+    let len : length qs ≡ length ks = let g = free_length T (qs ++ p ∷ []) (ks ++ k ∷ []) f in let x = length-append qs (p ∷ []) in let y = length-append ks (k ∷ []) in omega arith in
+    let push = with_chain_push T qs ks p o k l len n c (λ d. none (among_first qs p o d)) in
+    let eu : tuple_on us ≡ with_chain T ((qs ++ p ∷ []) ++ o ∷ []) ((ks ++ k ∷ []) ++ l ∷ []) =
+    added_behind ts j k l 0 at ∙ ap (λ (U : ℕ → Tuple). put_on (put_on U p (Live k o)) o (Live l 0)) e ∙ sym push ∙ ap₂ (with_chain T) (sym (append_assoc qs (p ∷ []) (o ∷ []))) (sym (append_assoc ks (k ∷ []) (l ∷ []))) in
+    let fu : AreFree T ((qs ++ p ∷ []) ++ o ∷ []) ((ks ++ k ∷ []) ++ l ∷ []) = free_more T (qs ++ p ∷ []) (ks ++ k ∷ []) o l f was (λ z. absurd (omega arith)) none in
+    let W = grow T us (qs ++ p ∷ []) (ks ++ k ∷ []) o l rest eu fu in
+    subst (λ h. Written T (chained us o rest) ((ks ++ k ∷ []) ++ l ∷ rest) h) (first_same qs p o)
+    (subst (λ zs. Written T (chained us o rest) zs (first_of ((qs ++ p ∷ []) ++ o ∷ []))) (append_assoc (ks ++ k ∷ []) (l ∷ []) rest) W)
+
+written : (ts : List Tuple) (l : Leaf) (ls : List Leaf) → Written (tuple_on ts) (chained ts 0 (l ∷ ls)) (l ∷ ls) (suc (free_place ts))
+written ts l ls = grow (tuple_on ts) (added ts 0 (suc (free_place ts)) l) [] [] (suc (free_place ts)) l ls (added_alone ts l) (free_place_free ts, (λ z. absurd (omega arith)), (λ a. a), tt)
+
+-- a page with one list more
+pub list_laid : (ts : List Tuple) (Z : ℕ → Spot) (l : Leaf) (ls : List Leaf) → IsLaidOut (tuple_on ts) Z → IsLaidOut (tuple_on (chained ts 0 (l ∷ ls))) (put_on Z (suc (free_place ts)) (Bucket (l ∷ ls)))
+list_laid ts Z l ls H =
+    let W = written ts l ls in
+    subst (λ h. IsLaidOut (tuple_on (chained ts 0 (l ∷ ls))) (put_on Z h (Bucket (l ∷ ls)))) W.first
+    (subst (λ (U : ℕ → Tuple). IsLaidOut U (put_on Z (first_of W.offsets) (Bucket (l ∷ ls)))) (sym W.tuples) (with_chain_laid_out (tuple_on ts) Z H W.offsets (l ∷ ls) W.free))
+
+-- each tuple of a chain is one of its leaves, and the others stay
+chain_tuple : (T : ℕ → Tuple) (os : List ℕ) (ls : List Leaf) (o : ℕ) → (with_chain T os ls o ≡ T o) ⊎ ((l : Leaf) × (n : ℕ) × IsIn l ls × (with_chain T os ls o ≡ Live l n))
+chain_tuple T [] ls o = inl refl
+chain_tuple T (p ∷ ps) [] o = inl refl
+chain_tuple T (p ∷ ps) (l ∷ ls) o = ⊎_elim
+    (λ e. inr (l, first_of ps, inl refl, put_on_same (with_chain T ps ls) p (Live l (first_of ps)) o e))
+    (λ n. ⊎_elim (λ q. inl (put_on_other (with_chain T ps ls) p (Live l (first_of ps)) o n ∙ q))
+    (λ (k, i, a, q). inr (k, i, inr a, put_on_other (with_chain T ps ls) p (Live l (first_of ps)) o n ∙ q)) (chain_tuple T ps ls o)) (cases_eq o p)
+
+pub list_tuple : (ts : List Tuple) (ls : List Leaf) (o : ℕ) → (tuple_on (chained ts 0 ls) o ≡ tuple_on ts o) ⊎ ((l : Leaf) × (n : ℕ) × IsIn l ls × (tuple_on (chained ts 0 ls) o ≡ Live l n))
+list_tuple ts [] o = inl refl
+list_tuple ts (l ∷ ls) o =
+    let W = written ts l ls in
+    let e = ap (λ (U : ℕ → Tuple). U o) W.tuples in
+    ⊎_elim (λ q. inl (e ∙ q)) (λ (k, n, a, q). inr (k, n, a, e ∙ q)) (chain_tuple (tuple_on ts) W.offsets (l ∷ ls) o)
+
+-- ---- the lists of n nodes from node k on
+
+pub placed_tuple : (ts : List Tuple) (L : ℕ → List Leaf) (k n o : ℕ) → (tuple_on (placed ts L k n) o ≡ tuple_on ts o) ⊎ ((j : ℕ) × (l : Leaf) × (i : ℕ) × IsIn l (L j) × (tuple_on (placed ts L k n) o ≡ Live l i))
+placed_tuple ts L k zero o = inl refl
+placed_tuple ts L k (suc n) o = ⊎_elim
+    (λ e. ⊎_elim (λ q. inl (e ∙ q)) (λ (l, i, a, q). inr (k, l, i, a, e ∙ q)) (list_tuple ts (L k) o))
+    (λ x. inr x) (placed_tuple (chained ts 0 (L k)) L (suc k) n o)
+
+-- what the page shows then: each list at its downlink, and elsewhere what it showed
+pub record ShowsLists (ts : List Tuple) (Y : ℕ → Spot) (b : ℕ) (L : ℕ → List Leaf) (k n : ℕ) : Type 0 where
+  pub spots : ℕ → Spot
+  pub laid : IsLaidOut (tuple_on (placed ts L k n)) spots
+  pub lists : (i : ℕ) (y : Place) → get_or (downlinks b ts L k n) i None ≡ Some y → (y.block ≡ b) × (spots y.offset ≡ Bucket (L (k + i))) × (Y y.offset ≡ Nothing) × (y.offset ≡ 0 → ⊥)
+  pub apart : (i j : ℕ) (y : Place) → get_or (downlinks b ts L k n) i None ≡ Some y → get_or (downlinks b ts L k n) j None ≡ Some y → i ≡ j
+  pub cases : (o : ℕ) → ((i : ℕ) × (get_or (downlinks b ts L k n) i None ≡ Some (place b o))) ⊎ (spots o ≡ Y o)
+
+-- the list of node k, and then the others
+first_shown : (ts us : List Tuple) (Y Y1 : ℕ → Spot) (b : ℕ) (L : ℕ → List Leaf) (k n : ℕ) → us ≡ chained ts 0 (L k) →
+    ((y : Place) → downlink b (head_of ts (L k)) ≡ Some y → (y.block ≡ b) × (Y1 y.offset ≡ Bucket (L k)) × (Y y.offset ≡ Nothing) × (y.offset ≡ 0 → ⊥)) →
+    ((o : ℕ) → (downlink b (head_of ts (L k)) ≡ Some (place b o)) ⊎ (Y1 o ≡ Y o)) → ShowsLists us Y1 b L (suc k) n → ShowsLists ts Y b L k (suc n)
+first_shown ts us Y Y1 b L k n e here there R =
+    let S = subst (λ vs. ShowsLists vs Y1 b L (suc k) n) e R in record {
+      spots = S.spots;
+      laid = S.laid;
+      lists = lists S;
+      apart = apart S;
+      cases = λ o. ⊎_elim (λ (i, q). inl (suc i, q)) (λ q. ⊎_elim (λ a. inl (0, a)) (λ a. inr (q ∙ a)) (there o)) (S.cases o);
+    }
+  where
+    vs : List Tuple
+    vs = chained ts 0 (L k)
+
+    -- no later downlink leads to the first list
+    other : (S : ShowsLists vs Y1 b L (suc k) n) (i : ℕ) (y : Place) → get_or (downlinks b vs L (suc k) n) i None ≡ Some y → downlink b (head_of ts (L k)) ≡ Some y → ⊥
+    other S i y a c = let (p, q, r, s) = S.lists i y a in let (p1, q1, r1, s1) = here y c in let z : Bucket (L k) ≡ Nothing = sym q1 ∙ r in cc
+
+    lists : (S : ShowsLists vs Y1 b L (suc k) n) (i : ℕ) (y : Place) → get_or (downlink b (head_of ts (L k)) ∷ downlinks b vs L (suc k) n) i None ≡ Some y → (y.block ≡ b) × (S.spots y.offset ≡ Bucket (L (k + i))) × (Y y.offset ≡ Nothing) × (y.offset ≡ 0 → ⊥)
+    lists S zero y a =
+        let (p, q, r, s) = here y a in
+        let z : k ≡ k + 0 = omega arith in
+        let yb : place b y.offset ≡ y = λ i. record { block = sym p i; offset = y.offset } in
+        (p, ⊎_elim (λ (i, c). absurd (other S i y (c ∙ ap Some yb) a)) (λ c. c ∙ q ∙ ap (λ i. Bucket (L i)) z) (S.cases y.offset), r, s)
+    lists S (suc i) y a =
+        let (p, q, r, s) = S.lists i y a in
+        let z : suc k + i ≡ k + suc i = omega arith in
+        let yb : place b y.offset ≡ y = λ i. record { block = sym p i; offset = y.offset } in
+        (p, q ∙ ap (λ i. Bucket (L i)) z, ⊎_elim (λ c. absurd (other S i y a (c ∙ ap Some yb))) (λ c. sym c ∙ r) (there y.offset), s)
+
+    apart : (S : ShowsLists vs Y1 b L (suc k) n) (i j : ℕ) (y : Place) → get_or (downlink b (head_of ts (L k)) ∷ downlinks b vs L (suc k) n) i None ≡ Some y → get_or (downlink b (head_of ts (L k)) ∷ downlinks b vs L (suc k) n) j None ≡ Some y → i ≡ j
+    apart S zero zero y a c = refl
+    apart S zero (suc j) y a c = absurd (other S j y c a)
+    apart S (suc i) zero y a c = absurd (other S i y a c)
+    apart S (suc i) (suc j) y a c = ap suc (S.apart i j y a c)
+
+pub shows_lists : (ts : List Tuple) (Y : ℕ → Spot) (b : ℕ) (L : ℕ → List Leaf) (k n : ℕ) → IsLaidOut (tuple_on ts) Y → ShowsLists ts Y b L k n
+shows_lists ts Y b L k zero H = record {
+  spots = Y;
+  laid = H;
+  lists = λ i y e. cc;
+  apart = λ i j y e f. cc;
+  cases = λ o. inr refl;
+}
+shows_lists ts Y b L k (suc n) H = go (λ us Y1 N. shows_lists us Y1 b L (suc k) n N) (L k) refl
+  where
+    go : ((us : List Tuple) (Y1 : ℕ → Spot) → IsLaidOut (tuple_on us) Y1 → ShowsLists us Y1 b L (suc k) n) → (ls : List Leaf) → ls ≡ L k → ShowsLists ts Y b L k (suc n)
+    go next [] e =
+        let d : downlink b (head_of ts (L k)) ≡ None = ap (λ ls. downlink b (head_of ts ls)) (sym e) in
+        first_shown ts ts Y Y b L k n (ap (chained ts 0) e) (λ y a. let c : None ≡ Some y = sym d ∙ a in cc) (λ o. inr refl) (next ts Y H)
+    go next (l ∷ ls) e =
+        let h : ℕ = suc (free_place ts) in
+        let Y1 : ℕ → Spot = put_on Y h (Bucket (l ∷ ls)) in
+        let d : downlink b (head_of ts (L k)) ≡ Some (place b h) = ap (λ ls. downlink b (head_of ts ls)) (sym e) in
+        let free : Y h ≡ Nothing = nothing_at (tuple_on ts) h (Y h) (H.shows h) (free_place_free ts) in
+        first_shown ts (chained ts 0 (l ∷ ls)) Y Y1 b L k n (ap (chained ts 0) e)
+        (λ y a. let c : Some (place b h) ≡ Some y = sym d ∙ a in let q : place b h ≡ y = cc in
+        subst (λ (u : Place). (u.block ≡ b) × (Y1 u.offset ≡ Bucket (L k)) × (Y u.offset ≡ Nothing) × (u.offset ≡ 0 → ⊥)) q (refl, put_on_same Y h (Bucket (l ∷ ls)) h refl ∙ ap Bucket e, free, λ z. absurd (omega arith)))
+        (λ o. ⊎_elim (λ q. inl (d ∙ ap (λ i. Some (place b i)) (sym q))) (λ q. inr (put_on_other Y h (Bucket (l ∷ ls)) o q)) (cases_eq o h))
+        (next (chained ts 0 (l ∷ ls)) Y1 (list_laid ts Y l ls H))
+
+pub downlinks_length : (b : ℕ) (ts : List Tuple) (L : ℕ → List Leaf) (k n : ℕ) → length (downlinks b ts L k n) ≡ n
+downlinks_length b ts L k zero = refl
+downlinks_length b ts L k (suc n) = ap suc (downlinks_length b (chained ts 0 (L k)) L (suc k) n)
+
+head_positive : (b : ℕ) (ts : List Tuple) (ls : List Leaf) (y : Place) → 0 < b → downlink b (head_of ts ls) ≡ Some y → (0 < y.block) × (0 < y.offset)
+head_positive b ts [] y h e = cc
+head_positive b ts (l ∷ ls) y h e = let q : place b (suc (free_place ts)) ≡ y = cc in subst (λ (u : Place). (0 < u.block) × (0 < u.offset)) q (h, omega arith)
+
+-- no downlink leads to block 0 or offset 0
+pub downlinks_positive : (b : ℕ) (ts : List Tuple) (L : ℕ → List Leaf) (k n i : ℕ) (y : Place) → 0 < b → slice_get (downlinks b ts L k n) i ≡ Some (Some y) → (0 < y.block) × (0 < y.offset)
+downlinks_positive b ts L k zero i y h e = cc
+downlinks_positive b ts L k (suc n) zero y h e = let q : downlink b (head_of ts (L k)) ≡ Some y = cc in head_positive b ts (L k) y h q
+downlinks_positive b ts L k (suc n) (suc i) y h e = downlinks_positive b (chained ts 0 (L k)) L (suc k) n i y h e
+
+-- the downlink to a list with a leaf
+pub downlink_there : (b : ℕ) (ts : List Tuple) (L : ℕ → List Leaf) (k n i : ℕ) (l : Leaf) → i < n → IsIn l (L (k + i)) → (y : Place) × (get_or (downlinks b ts L k n) i None ≡ Some y)
+downlink_there b ts L k zero i l h a = absurd (omega arith)
+downlink_there b ts L k (suc n) zero l h a = let e : k + 0 ≡ k = omega arith in go (L k) (subst (λ j. IsIn l (L j)) e a)
+  where
+    go : (ls : List Leaf) → IsIn l ls → (y : Place) × (downlink b (head_of ts ls) ≡ Some y)
+    go [] a = absurd a
+    go (m ∷ ms) a = (place b (suc (free_place ts)), refl)
+downlink_there b ts L k (suc n) (suc i) l h a = let e : k + suc i ≡ suc k + i = omega arith in downlink_there b (chained ts 0 (L k)) L (suc k) n i l (omega arith) (subst (λ j. IsIn l (L j)) e a)

@@ -1,0 +1,170 @@
+-- What the class divides goes below the nodes of the new tuple.
+use Rattle.std.proofs.Common.{◌≡◌, ℕ, zero, suc, ◌≤◌, ◌<◌, ◌%◌, ℤ, pos, true, List, [], ◌∷◌, Option, Some, None, IsSome, All, length, get_or, option_map, slice_get, slice_index, replicate, refl, sym, ap, ◌∙◌, subst, inl, inr, arith}
+use Rattle.std.proofs.lemmas.List.{length-replicate}
+use Rattle.std.proofs.lemmas.List.Elements.{All-cons, All-get_or, All-from_get_or}
+use Rattle.std.proofs.lemmas.List.FromFn.{length-map-range_with_len, get_or-map-range_with_len}
+use Rattle.std.proofs.lemmas.Option.{slice_get_within, slice_get-get_or}
+use Rattle.std.specs.Prelude.{Result, Ok, Err, IfOk}
+use Rattle.spg_opclass.specs.Meaning.{Meaning, divided, eightfold}
+use Rattle.spg_opclass.specs.Laws.{PickLaw, IsDivision, InOneNode}
+use Rattle.spg_opclass.specs.declared.view.Picked.{Picked}
+use Rattle.spg_forest.specs.View.{Leaf}
+use Rattle.spg_forest.specs.Spot.{Frame}
+use Rattle.spg_forest.specs.Classes.{class_of}
+use Rattle.spg_forest.specs.Divisions.{EachGoes, rests_of, HaveKeys}
+use Rattle.spg_forest.proofs.Divisions.{pick_goes, one_node_goes, nulls_go}
+use Rattle.spg_split.specs.Nodes.{turns, IsOnlyNode}
+use Rattle.spg_split.specs.Dividing.{GiveKeys, IsDivided, nulls_divided}
+
+-- a rest that gives a key
+gives : {Key : Type 0} (o : Option Key) → IsSome (option_map Some o) → (key : Key) × (o ≡ Some key)
+gives (Some key) h = (key, refl)
+gives None h = cc
+
+pub give_all : {Key Recon Cond : Type 0} (m : Meaning Key Recon Cond) (recon : Recon) (rests : List (List ℕ)) → GiveKeys m (Some recon) rests → All (λ r. IsSome (m.rebuild recon r)) rests
+give_all m recon [] h = All-from_get_or (λ r. IsSome (m.rebuild recon r)) [] [] (λ i h. absurd (omega arith))
+give_all m recon (q ∷ qs) (h, t) = All-cons (λ r. IsSome (m.rebuild recon r)) q qs (let (k, e) = gives (m.rebuild recon q) h in subst (λ o. IsSome o) (sym e) refl) (give_all m recon qs t)
+
+pub give_keys : {Key Recon Cond : Type 0} (m : Meaning Key Recon Cond) (recon : Recon) (ls : List Leaf) → GiveKeys m (Some recon) (rests_of ls) → HaveKeys m recon ls
+give_keys m recon [] h l a = absurd a
+give_keys m recon (v ∷ vs) (h, t) l (inl e) = subst (λ (u : Leaf). (key : _) × (m.rebuild recon u.rest ≡ Some key)) e (gives (m.rebuild recon v.rest) h)
+give_keys m recon (v ∷ vs) (h, t) l (inr a) = give_keys m recon vs t l a
+
+-- the nodes in turn
+pub turns_length : (n : ℕ) → length (turns n) ≡ n
+turns_length n = length-map-range_with_len (λ i. i % 8) 0 n
+
+turn_at : (n i : ℕ) → i < n → get_or (turns n) i 0 ≡ i % 8
+turn_at n i h = get_or-map-range_with_len (λ i. i % 8) 0 n i i 0 h (omega arith)
+
+pub turn_small : (n i : ℕ) → i < length (turns n) → get_or (turns n) i 0 < 8
+turn_small n i h = let a = turn_at n i (let e = turns_length n in omega arith) in omega arith
+
+turn_got : (n i k : ℕ) → slice_get (turns n) i ≡ Some k → k < 8
+turn_got n i k e =
+    let w = slice_get_within (turns n) i k e in
+    let g : Some (get_or (turns n) i 0) ≡ Some k = sym (slice_get-get_or (turns n) i 0 w) ∙ e in
+    let c : get_or (turns n) i 0 ≡ k = cc in
+    let s = turn_small n i w in omega arith
+
+pub turns_apart : (n : ℕ) → 2 ≤ n → (i j : ℕ) × (i < length (turns n)) × (j < length (turns n)) × (slice_index (turns n) i ≡ slice_index (turns n) j → ⊥)
+turns_apart n h =
+    let e = turns_length n in let a = turn_at n 0 (omega arith) in let b = turn_at n 1 (omega arith) in
+    (0, 1, omega arith, omega arith, λ q. absurd (omega arith))
+
+section_rests : (rests qs : List (List ℕ)) → length qs ≡ length rests → (i : ℕ) (q : List ℕ) → slice_get qs i ≡ Some q → slice_get rests i ≡ Some (get_or rests i [])
+section_rests rests qs e i q a = slice_get-get_or rests i [] (let w = slice_get_within qs i q a in omega arith)
+
+module _ {Key Recon Cond : Type 0} (m : Meaning Key Recon Cond) (law : PickLaw m) (recon : Recon) (rests : List (List ℕ)) (two : 2 ≤ length rests) (keys : GiveKeys m (Some recon) rests) where
+  abbrev P : Picked
+  P = m.parts recon rests
+
+  pub the_division : IsDivision m recon rests P
+  the_division = law recon rests (omega arith) (give_all m recon rests keys)
+
+  rest_ok : (i : ℕ) (p q : List ℕ) → slice_get rests i ≡ Some p → slice_get P.rests i ≡ Some q → (length q ≤ length p) × (m.is_rest q ≡ true)
+  rest_ok i p q a b = the_division.not_longer i p (get_or P.node_of i 0) q (record { whole_at = a; node_at = slice_get-get_or P.node_of i 0 (let w = slice_get_within rests i p a in let e = the_division.node_each in omega arith); rest_at = b })
+
+  -- the values are in several nodes
+  pub several : IsOnlyNode P.node_of None → IsDivided m (Some recon) rests (record { frame = divided P; node_of = P.node_of; rests = P.rests })
+  several apart = record {
+    node_each = the_division.node_each;
+    rest_each = the_division.rest_each;
+    goes = λ ls e. subst (λ (qs : List (List ℕ)). EachGoes (class_of m) (Some recon) (divided (m.parts recon qs)) ls (m.parts recon qs).node_of (m.parts recon qs).rests) e
+        (pick_goes m law recon ls (let n = ap length e in let k = length-rests ls in omega arith) (give_keys m recon ls (subst (λ qs. GiveKeys m (Some recon) qs) (sym e) keys)));
+    there = λ i h. All-get_or (λ n. n < length P.labels) P.node_of i 0 h the_division.node_there;
+    tuple = the_division.well_formed;
+    some = the_division.some_node;
+    same = λ e. cc;
+    well_formed = λ i q a. (rest_ok i (get_or rests i []) q (section_rests rests P.rests the_division.rest_each i q a) a).1;
+    not_longer = λ i p q a b. (rest_ok i p q a b).0;
+    apart = let e = the_division.node_each in let (j, h, n) = apart (omega arith) in (j, 0, h, omega arith, n);
+  }
+    where
+      length-rests : (ls : List Leaf) → length (rests_of ls) ≡ length ls
+      length-rests [] = refl
+      length-rests (l ∷ ls) = ap suc (length-rests ls)
+
+  -- they are all in one
+  pub in_one : (node : ℕ) (label : ℤ) → IsOnlyNode P.node_of (Some node) → slice_get P.labels node ≡ Some label → IsDivided m (Some recon) rests (record { frame = eightfold P.prefix label; node_of = turns (length rests); rests = P.rests })
+  in_one node label (some, only) at = record {
+    node_each = turns_length (length rests);
+    rest_each = the_division.rest_each;
+    goes = λ ls e. let k = length-rests ls in let n = ap length e in
+        let one : InOneNode (m.parts recon (rests_of ls)) node = subst (λ (qs : List (List ℕ)). InOneNode (m.parts recon qs) node) (sym e) all in
+        let l : slice_get (m.parts recon (rests_of ls)).labels node ≡ Some label = subst (λ (qs : List (List ℕ)). slice_get (m.parts recon qs).labels node ≡ Some label) (sym e) at in
+        subst (λ (qs : List (List ℕ)). EachGoes (class_of m) (Some recon) (eightfold (m.parts recon qs).prefix label) ls (turns (length rests)) (m.parts recon qs).rests) e
+        (one_node_goes m law recon ls node label (turns (length rests)) (omega arith) (give_keys m recon ls (subst (λ qs. GiveKeys m (Some recon) qs) (sym e) keys)) one l (turns_length (length rests) ∙ sym n ∙ k) (λ i k a. turn_got (length rests) i k a));
+    there = λ i h. turn_small (length rests) i h;
+    tuple = the_division.one_well_formed node label two all at;
+    some = omega arith;
+    same = λ e. (label, refl);
+    well_formed = λ i q a. (rest_ok i (get_or rests i []) q (section_rests rests P.rests the_division.rest_each i q a) a).1;
+    not_longer = λ i p q a b. (rest_ok i p q a b).0;
+    apart = turns_apart (length rests) two;
+  }
+    where
+      all : InOneNode P node
+      all = All-from_get_or (λ n. n ≡ node) P.node_of 0 only
+
+      length-rests : (ls : List Leaf) → length (rests_of ls) ≡ length ls
+      length-rests [] = refl
+      length-rests (l ∷ ls) = ap suc (length-rests ls)
+
+  -- as the code has them
+  pub node_below : (picked : Picked) (ns : List ℕ) (node : ℕ) → picked ≡ P → ns ≡ picked.node_of → IsOnlyNode ns (Some node) → node < length picked.labels
+  node_below picked ns node e f (some, only) =
+      let n : ns ≡ P.node_of = f ∙ ap (λ (z : Picked). z.node_of) e in
+      let l = ap (λ (z : Picked). length z.labels) e in
+      let k = ap length n in
+      let a : slice_index P.node_of 0 < length P.labels = All-get_or (λ n. n < length P.labels) P.node_of 0 0 (omega arith) the_division.node_there in
+      let b : slice_index ns 0 ≡ node = only 0 some in
+      let c : slice_index ns 0 ≡ slice_index P.node_of 0 = ap (λ xs. slice_index xs 0) n in
+      omega arith
+
+  pub several_at : (picked : Picked) (ns : List ℕ) → picked ≡ P → ns ≡ picked.node_of → IsOnlyNode ns None → IsDivided m (Some recon) rests (record { frame = divided picked; node_of = picked.node_of; rests = picked.rests })
+  several_at picked ns e f apart =
+      subst (λ (z : Picked). IsDivided m (Some recon) rests (record { frame = divided z; node_of = z.node_of; rests = z.rests })) (sym e)
+      (several (subst (λ (xs : List ℕ). IsOnlyNode xs None) (f ∙ ap (λ (z : Picked). z.node_of) e) apart))
+
+  pub in_one_at : (picked : Picked) (ns : List ℕ) (node : ℕ) (label : ℤ) (frame : Frame) (nodes : List ℕ) → picked ≡ P → ns ≡ picked.node_of → IsOnlyNode ns (Some node) → slice_get picked.labels node ≡ Some label → frame ≡ eightfold picked.prefix label → nodes ≡ turns (length rests) →
+      IsDivided m (Some recon) rests (record { frame = frame; node_of = nodes; rests = picked.rests })
+  in_one_at picked ns node label frame nodes e f only at a b =
+      let l : slice_get P.labels node ≡ Some label = subst (λ (z : Picked). slice_get z.labels node ≡ Some label) e at in
+      let o : IsOnlyNode P.node_of (Some node) = subst (λ (xs : List ℕ). IsOnlyNode xs (Some node)) (f ∙ ap (λ (z : Picked). z.node_of) e) only in
+      let D = in_one node label o l in
+      subst (λ (w : Frame). IsDivided m (Some recon) rests (record { frame = w; node_of = nodes; rests = picked.rests })) (sym a)
+      (subst (λ (xs : List ℕ). IsDivided m (Some recon) rests (record { frame = eightfold picked.prefix label; node_of = xs; rests = picked.rests })) (sym b)
+      (subst (λ (z : Picked). IsDivided m (Some recon) rests (record { frame = eightfold z.prefix label; node_of = turns (length rests); rests = z.rests })) (sym e) D))
+
+-- nulls
+abbrev bare_rests : ℕ → List (List ℕ)
+bare_rests n = replicate n []
+
+empty_at : (n i : ℕ) (q : List ℕ) → slice_get (bare_rests n) i ≡ Some q → q ≡ []
+empty_at zero i q e = cc
+empty_at (suc n) zero q e = let c : [] ≡ q = cc in sym c
+empty_at (suc n) (suc i) q e = empty_at n i q e
+
+pub nulls_are_divided : {Key Recon Cond : Type 0} (m : Meaning Key Recon Cond) (rests : List (List ℕ)) → 2 ≤ length rests → IsDivided m None rests (nulls_divided (length rests))
+nulls_are_divided {Key} {Recon} {Cond} m rests two = record {
+  node_each = turns_length (length rests);
+  rest_each = length-replicate (length rests) [];
+  goes = λ ls e. let n = ap length e in let k = length-rests ls in nulls_go m (eightfold [] (pos 0)) ls (turns (length rests)) (replicate (length rests) []) (turns_length (length rests) ∙ sym n ∙ k) (length-replicate (length rests) [] ∙ sym n ∙ k);
+  there = λ i h. turn_small (length rests) i h;
+  tuple = refl;
+  some = omega arith;
+  same = λ e. (pos 0, refl);
+  well_formed = λ i q a. empty_at (length rests) i q a;
+  not_longer = λ i p q a b. let e = ap length (empty_at (length rests) i q b) in omega arith;
+  apart = turns_apart (length rests) two;
+}
+  where
+    length-rests : (ls : List Leaf) → length (rests_of ls) ≡ length ls
+    length-rests [] = refl
+    length-rests (l ∷ ls) = ap suc (length-rests ls)
+
+-- of an outcome that is a known one where there is one
+pub if_ok_same : {A E : Type 0} (r : Result A E) (x : A) (P : A → Type 0) → IfOk r (λ a. a ≡ x) → P x → IfOk r P
+if_ok_same (Ok a) x P e p = subst P (sym e) p
+if_ok_same (Err b) x P e p = tt

@@ -1,0 +1,6 @@
+use Rattle.std.proofs.Common.{◌≡◌}
+use Rattle.spg_split.specs.Parts.{bare}
+use Rattle.spg_split.proofs.parts.bare_links.Given as goal
+
+abbrev pub invariant-loop-node : goal.invariant-loop-node
+invariant-loop-node l = l.links ≡ bare l.node

@@ -1,0 +1,77 @@
+use Rattle.std.proofs.Common.{[], ◌∷◌, ◌++◌, is_none, option_copied, length, sym, ap, ◌∙◌, subst, arith}
+use Rattle.spg_forest.specs.Links.{leaves_on}
+use Rattle.spg_tree.specs.Table.{tuples_at}
+use Rattle.spg_descend.specs.Carried.{carried}
+use Rattle.spg_forest.specs.Divisions.{rests_of}
+use Rattle.spg_forest.specs.Sheets.{Sheet}
+use Rattle.spg_split.specs.Dividing.{AreAllLive, rows_of}
+use Rattle.spg_split.proofs.Joining.{if_ok_both, split_law}
+use Rattle.spg_split.specs.Parts.{IsWay, PutsLists, going}
+use Rattle.spg_split.specs.Ways.{IsSplitWay}
+use Rattle.spg_split.proofs.Standing.{live_there, several, keys, rest_fits, tuple_fits, ready, leaf_count, count_vs, others_fit, values_are, divided_as, keys_as, parts_as, nulls_recon}
+use Rattle.spg_split.proofs.split.split_root.Goals as goal
+
+pub values_at_root-requires-after_bounds : goal.values_at_root-requires-after_bounds
+values_at_root-requires-after_bounds g c = λ κs h.
+    let a = live_there g.O.OpClass.meaning g.O.OpClass.codes c.args.table.now c.args.descent.now c.args.root c.requires.shape c.requires.stands c.requires.spot c.requires.of_key c.requires.no_room in
+    subst (λ (s : Sheet). AreAllLive s.tuples) (sym c.page.ensures) a.0
+
+pub divide-requires-clause-several : goal.divide-requires-clause-several
+divide-requires-clause-several g c = λ κs h.
+    let V = values_are c.args.table.now c.args.root c.args.descent.now c.page.result.now c.in_ok-values.values c.page.ensures c.in_ok-values.ensures in
+    let n = ap length (c.as_slice.ensures ∙ V.rests) in let a = several g.O.OpClass.meaning g.O.OpClass.codes c.args.table.now c.args.descent.now c.args.root c.requires.shape c.requires.stands c.requires.spot c.requires.of_key c.requires.no_room in omega arith
+
+pub divide-requires-clause-keys : goal.divide-requires-clause-keys
+divide-requires-clause-keys g c = λ κs h.
+    let V = values_are c.args.table.now c.args.root c.args.descent.now c.page.result.now c.in_ok-values.values c.page.ensures c.in_ok-values.ensures in
+    keys_as g.O.OpClass.meaning (option_copied c.recon.result) c.args.descent.now.recon c.as_slice.result.now (rests_of (leaves_on (tuples_at c.args.table.now c.args.root) ++ carried c.args.descent.now ∷ [])) c.recon.ensures.value (c.as_slice.ensures ∙ V.rests) (keys g.O.OpClass.meaning g.O.OpClass.codes c.args.table.now c.args.descent.now c.args.root c.requires.shape c.requires.stands c.requires.spot c.requires.of_key c.requires.no_room)
+
+pub of-requires-clause-small : goal.of-requires-clause-small
+of-requires-clause-small g c =
+    let V = values_are c.args.table.now c.args.root c.args.descent.now c.page.result.now c.in_ok-values.values c.page.ensures c.in_ok-values.ensures in
+    let D = divided_as g.O.OpClass.meaning (option_copied c.recon.result) c.args.descent.now.recon c.as_slice.result.now (rests_of (leaves_on (tuples_at c.args.table.now c.args.root) ++ carried c.args.descent.now ∷ [])) c.in_ok-division.division c.recon.ensures.value (c.as_slice.ensures ∙ V.rests) c.in_ok-division.ensures in
+    λ i q e. rest_fits g.O.OpClass.meaning g.O.OpClass.codes (is_none c.args.descent.now.recon) q (D.well_formed i q e)
+
+pub of-requires-clause-frame : goal.of-requires-clause-frame
+of-requires-clause-frame g c =
+    let V = values_are c.args.table.now c.args.root c.args.descent.now c.page.result.now c.in_ok-values.values c.page.ensures c.in_ok-values.ensures in
+    let D = divided_as g.O.OpClass.meaning (option_copied c.recon.result) c.args.descent.now.recon c.as_slice.result.now (rests_of (leaves_on (tuples_at c.args.table.now c.args.root) ++ carried c.args.descent.now ∷ [])) c.in_ok-division.division c.recon.ensures.value (c.as_slice.ensures ∙ V.rests) c.in_ok-division.ensures in
+    tuple_fits g.O.OpClass.meaning g.O.OpClass.codes (is_none c.args.descent.now.recon) c.in_ok-division.division.frame D.tuple
+
+pub put_division-requires-clause-live : goal.put_division-requires-clause-live
+put_division-requires-clause-live g c = (live_there g.O.OpClass.meaning g.O.OpClass.codes c.args.table.now c.args.descent.now c.args.root c.requires.shape c.requires.stands c.requires.spot c.requires.of_key c.requires.no_room).0
+
+pub put_division-requires-clause-parts : goal.put_division-requires-clause-parts
+put_division-requires-clause-parts g c =
+    let V = values_are c.args.table.now c.args.root c.args.descent.now c.page.result.now c.in_ok-values.values c.page.ensures c.in_ok-values.ensures in
+    let D = divided_as g.O.OpClass.meaning (option_copied c.recon.result) c.args.descent.now.recon c.as_slice.result.now (rests_of (leaves_on (tuples_at c.args.table.now c.args.root) ++ carried c.args.descent.now ∷ [])) c.in_ok-division.division c.recon.ensures.value (c.as_slice.ensures ∙ V.rests) c.in_ok-division.ensures in
+    let N = nulls_recon c.args.descent.now.start c.args.descent.now.recon c.recon.ensures.known in
+    let P = parts_as c.as_slice-2.result.now (rows_of (leaves_on (tuples_at c.args.table.now c.args.root) ++ carried c.args.descent.now ∷ [])) c.in_ok-division.division c.in_ok-parts.parts (c.as_slice-2.ensures ∙ V.rows) c.in_ok-parts.ensures in
+    ready g.O.OpClass.meaning g.O.OpClass.codes c.args.table.now c.args.descent.now c.args.root c.requires.shape c.requires.stands c.requires.spot c.requires.of_key c.requires.no_room c.in_ok-division.division D N c.in_ok-parts.parts P
+
+pub put_division-requires-clause-some : goal.put_division-requires-clause-some
+put_division-requires-clause-some g c =
+    let V = values_are c.args.table.now c.args.root c.args.descent.now c.page.result.now c.in_ok-values.values c.page.ensures c.in_ok-values.ensures in
+    let D = divided_as g.O.OpClass.meaning (option_copied c.recon.result) c.args.descent.now.recon c.as_slice.result.now (rests_of (leaves_on (tuples_at c.args.table.now c.args.root) ++ carried c.args.descent.now ∷ [])) c.in_ok-division.division c.recon.ensures.value (c.as_slice.ensures ∙ V.rests) c.in_ok-division.ensures in
+    let N = nulls_recon c.args.descent.now.start c.args.descent.now.recon c.recon.ensures.known in
+    let P = parts_as c.as_slice-2.result.now (rows_of (leaves_on (tuples_at c.args.table.now c.args.root) ++ carried c.args.descent.now ∷ [])) c.in_ok-division.division c.in_ok-parts.parts (c.as_slice-2.ensures ∙ V.rows) c.in_ok-parts.ensures in
+    let a = leaf_count g.O.OpClass.meaning g.O.OpClass.codes c.args.table.now c.args.descent.now c.args.root c.requires.shape c.requires.stands c.requires.spot c.requires.of_key c.requires.no_room c.in_ok-division.division D N c.in_ok-parts.parts P in
+    let b = count_vs g.O.OpClass.meaning g.O.OpClass.codes c.args.table.now c.args.descent.now c.args.root c.requires.shape c.requires.stands c.requires.spot c.requires.of_key c.requires.no_room in omega arith
+
+pub put_division-requires-clause-others : goal.put_division-requires-clause-others
+put_division-requires-clause-others g c =
+    let V = values_are c.args.table.now c.args.root c.args.descent.now c.page.result.now c.in_ok-values.values c.page.ensures c.in_ok-values.ensures in
+    let D = divided_as g.O.OpClass.meaning (option_copied c.recon.result) c.args.descent.now.recon c.as_slice.result.now (rests_of (leaves_on (tuples_at c.args.table.now c.args.root) ++ carried c.args.descent.now ∷ [])) c.in_ok-division.division c.recon.ensures.value (c.as_slice.ensures ∙ V.rests) c.in_ok-division.ensures in
+    let N = nulls_recon c.args.descent.now.start c.args.descent.now.recon c.recon.ensures.known in
+    let P = parts_as c.as_slice-2.result.now (rows_of (leaves_on (tuples_at c.args.table.now c.args.root) ++ carried c.args.descent.now ∷ [])) c.in_ok-division.division c.in_ok-parts.parts (c.as_slice-2.ensures ∙ V.rows) c.in_ok-parts.ensures in
+    others_fit g.O.OpClass.meaning g.O.OpClass.codes c.args.table.now c.args.descent.now c.args.root c.requires.shape c.requires.stands c.requires.spot c.requires.of_key c.requires.no_room c.in_ok-division.division D N c.in_ok-parts.parts P
+
+pub returns-clause-ok : goal.returns-clause-ok
+returns-clause-ok g c =
+    let V = values_are c.args.table.now c.args.root c.args.descent.now c.page.result.now c.in_ok-values.values c.page.ensures c.in_ok-values.ensures in
+    let D = divided_as g.O.OpClass.meaning (option_copied c.recon.result) c.args.descent.now.recon c.as_slice.result.now (rests_of (leaves_on (tuples_at c.args.table.now c.args.root) ++ carried c.args.descent.now ∷ [])) c.in_ok-division.division c.recon.ensures.value (c.as_slice.ensures ∙ V.rests) c.in_ok-division.ensures in
+    let N = nulls_recon c.args.descent.now.start c.args.descent.now.recon c.recon.ensures.known in
+    let P = parts_as c.as_slice-2.result.now (rows_of (leaves_on (tuples_at c.args.table.now c.args.root) ++ carried c.args.descent.now ∷ [])) c.in_ok-division.division c.in_ok-parts.parts (c.as_slice-2.ensures ∙ V.rows) c.in_ok-parts.ensures in
+    if_ok_both c.put_division.result (λ way. IsWay c.in_ok-parts.parts way) (λ way. PutsLists c.args.table.now c.put_division.new.table c.args.root c.args.seat c.in_ok-parts.parts (going c.in_ok-parts.parts way))
+    (λ way. IsSplitWay g.O.OpClass.meaning c.args.table.now c.put_division.new.table c.args.descent.now way)
+    (λ way a b. split_law g.O.OpClass.meaning g.O.OpClass.codes c.args.table.now c.args.descent.now c.args.root c.requires.shape c.requires.stands c.requires.spot c.requires.of_key c.requires.no_room c.in_ok-division.division D N c.in_ok-parts.parts P c.args.seat c.put_division.new.table way a b) c.put_division.ensures.way c.put_division.ensures.ok

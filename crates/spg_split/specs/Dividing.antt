@@ -1,0 +1,48 @@
+-- How the values of a division are read, and what is asked of how they are divided.
+use Rattle.std.specs.Prelude.{◌≡◌, ℕ, ◌<◌, ◌≤◌, true, ℤ, pos, List, [], ◌∷◌, Option, Some, is_none, IsSome, length, map, slice_get, slice_index, replicate}
+use Rattle.spg_base.specs.Row.{RowAt}
+use Rattle.spg_opclass.specs.Meaning.{Meaning, eightfold}
+use Rattle.spg_split.specs.Nodes.{turns}
+use Rattle.spg_forest.specs.View.{Leaf}
+use Rattle.spg_forest.specs.Tuples.{Tuple}
+use Rattle.spg_forest.specs.Pages.{all_live}
+use Rattle.spg_forest.specs.Links.{leaves_on}
+use Rattle.spg_forest.specs.Classes.{class_of, key_of}
+use Rattle.spg_forest.specs.Shape.{IsTupleOf, IsRestOf}
+use Rattle.spg_forest.specs.Divisions.{EachGoes, rests_of}
+use Rattle.spg_split.specs.declared.values.Values.{Values}
+use Rattle.spg_split.specs.declared.division.Division.{Division}
+
+-- on the page are leaf tuples alone, without links
+abbrev pub AreAllLive : List Tuple → Type 0
+AreAllLive ts = ts ≡ all_live (leaves_on ts)
+
+abbrev pub rows_of : List Leaf → List RowAt
+rows_of ls = map (λ (l : Leaf). l.row) ls
+
+-- the rows and the rests of the leaves
+pub record AreValues (v : Values) (ls : List Leaf) : Type 0 where
+  pub rows : v.rows ≡ rows_of ls
+  pub rests : v.rests ≡ rests_of ls
+
+-- each rest gives a key at the rebuilt value
+abbrev pub GiveKeys : {Key Recon Cond : Type 0} → Meaning Key Recon Cond → Option Recon → List (List ℕ) → Type 0
+GiveKeys m r [] = Unit {0}
+GiveKeys m r (q ∷ qs) = IsSome (key_of m r q) × GiveKeys m r qs
+
+-- each value goes below its node, of a tuple that may stand in its tree; no rest has grown, and not all go to one node
+pub record IsDivided {Key Recon Cond : Type 0} (m : Meaning Key Recon Cond) (r : Option Recon) (rests : List (List ℕ)) (d : Division) : Type 0 where
+  pub node_each : length d.node_of ≡ length rests
+  pub rest_each : length d.rests ≡ length rests
+  pub goes : (ls : List Leaf) → rests_of ls ≡ rests → EachGoes (class_of m) r d.frame ls d.node_of d.rests
+  pub there : (i : ℕ) → i < length d.node_of → slice_index d.node_of i < length d.frame.labels
+  pub tuple : IsTupleOf m (is_none r) d.frame
+  pub some : 0 < length d.frame.labels
+  pub same : d.frame.all_same ≡ true → (label : ℤ) × (d.frame.labels ≡ replicate 8 label)
+  pub well_formed : (i : ℕ) (q : List ℕ) → slice_get d.rests i ≡ Some q → IsRestOf m (is_none r) q
+  pub not_longer : (i : ℕ) (p q : List ℕ) → slice_get rests i ≡ Some p → slice_get d.rests i ≡ Some q → length q ≤ length p
+  pub apart : (i j : ℕ) × (i < length d.node_of) × (j < length d.node_of) × (slice_index d.node_of i ≡ slice_index d.node_of j → ⊥)
+
+-- nulls, so many
+abbrev pub nulls_divided : ℕ → Division
+nulls_divided n = record { frame = eightfold [] (pos 0); node_of = turns n; rests = replicate n [] }
