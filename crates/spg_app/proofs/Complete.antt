@@ -38,14 +38,14 @@ module _ (io : Streams) (script : Script) (gave : GaveScript io.left io.left_aft
   quad_answers is (ending.Done seen) ends = record { script = script; gave = gave; of_class = is; run = ends }
   quad_answers is (ending.WriteFault seen) ends = (record { script = script; gave = gave; of_class = is; run = ends.0 }, ends.1)
   quad_answers is ending.Memory (inl nothing) = inl nothing
-  quad_answers is ending.Memory (inr (journal, run)) = inr (state.Quad (record { journal = journal; stages = [] }), record { script = script; gave = gave; of_class = is; run = run })
+  quad_answers is ending.Memory (inr (seen, run)) = inr (state.Quad seen, record { script = script; gave = gave; of_class = is; run = run })
 
   pub kd_answers : script.class ≡ class.Kd → (how : Ending Kd Point KdRecon PointCond) → Ends kd_meaning point_speech script.commands io.taken io.taken_after io.write_faults io.write_faults_after how
       → IsAnswer io (codes "run" ∷ []) (ended state.Kd how).0 (ended state.Kd how).1
   kd_answers is (ending.Done seen) ends = record { script = script; gave = gave; of_class = is; run = ends }
   kd_answers is (ending.WriteFault seen) ends = (record { script = script; gave = gave; of_class = is; run = ends.0 }, ends.1)
   kd_answers is ending.Memory (inl nothing) = inl nothing
-  kd_answers is ending.Memory (inr (journal, run)) = inr (state.Kd (record { journal = journal; stages = [] }), record { script = script; gave = gave; of_class = is; run = run })
+  kd_answers is ending.Memory (inr (seen, run)) = inr (state.Kd seen, record { script = script; gave = gave; of_class = is; run = run })
 
 -- ---- what a source that tells its bytes gave
 
