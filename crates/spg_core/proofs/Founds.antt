@@ -19,7 +19,7 @@ use Rattle.spg_rows.specs.States.{StateSays}
 use Rattle.spg_rows.specs.Table as rows
 use Rattle.spg_rows.proofs.Histories.{Sane, live_says}
 use Rattle.spg_scan.specs.Scanning.{Scanning, Reads, IsItem, IsLiveIn, IsClosing, asks_for, opened, replaced}
-use Rattle.spg_scan.specs.Covers.{HasAsked, IsAskable}
+use Rattle.spg_scan.specs.Covers.{HasAsked}
 use Rattle.spg_scan.specs.declared.walk.Closed.{Closed}
 use Rattle.spg_scan.proofs.CoverNodes.{contains_none}
 use Rattle.spg_scan.proofs.CoverLaws.{opens_cover, keeps_cover, finds_right, keeps_apart}
@@ -93,19 +93,19 @@ module _ {O Key Recon Cond : Type 0} (m : Meaning Key Recon Cond) where
             not_killed = not_true (is_killed row before) (λ h. false≢true (sym k ∙ killed_since row h));
           }
 
-      read_replaced : (i : ℕ) (items : _) (found : List RowAt) (met : ℕ) → IsAskable m s.query → Reads m S table s (replaced s i items found met) i → IsScanOf m S before past (replaced s i items found met)
-      read_replaced i items found met asked R2 =
+      read_replaced : (i : ℕ) (items : _) (found : List RowAt) (met : ℕ) → Reads m S table s (replaced s i items found met) i → IsScanOf m S before past (replaced s i items found met)
+      read_replaced i items found met R2 =
           let needed : RowAt → Bool = is_needed m before past s.query in
           record {
-            covers = keeps_cover m K L S table s (replaced s i items found met) i needed R.shape R2 asked (λ row n. let (state, has) = needed_asked before s.query row (put_since row) n in (states row ∙ state, has)) D.covers;
+            covers = keeps_cover m K L S table s (replaced s i items found met) i needed R.shape R2 (λ row n. let (state, has) = needed_asked before s.query row (put_since row) n in (states row ∙ state, has)) D.covers;
             apart = keeps_apart m S table s (replaced s i items found met) i needed R.shape R2 D.covers D.apart;
             found = λ row c. ⊎_elim (λ h. D.found row h) (λ (live, has). may_find row live has) (finds_right m S table s (replaced s i items found met) i needed R.shape R2 D.covers row c);
           }
 
-      pub scan_reads : (s2 : Scanning O Key Recon Cond) (i : ℕ) → IsAskable m s.query → Reads m S table s s2 i → IsScanOf m S before past s2
-      scan_reads s2 i asked Q =
-          let again : Reads m S table s (replaced s i Q.items Q.found Q.met) i = record { place = Q.place; recon = Q.recon; items = Q.items; found = Q.found; met = Q.met; item = Q.item; spot = Q.spot; after = refl } in
-          subst (λ (z : Scanning O Key Recon Cond). IsScanOf m S before past z) (sym Q.after) (read_replaced i Q.items Q.found Q.met asked again)
+      pub scan_reads : (s2 : Scanning O Key Recon Cond) (i : ℕ) → Reads m S table s s2 i → IsScanOf m S before past s2
+      scan_reads s2 i Q =
+          let again : Reads m S table s (replaced s i Q.items Q.found Q.met) i = record { place = Q.place; recon = Q.recon; items = Q.items; found = Q.found; met = Q.met; item = Q.item; spot = Q.spot; asked = Q.asked; after = refl } in
+          subst (λ (z : Scanning O Key Recon Cond). IsScanOf m S before past z) (sym Q.after) (read_replaced i Q.items Q.found Q.met again)
 
   -- a scan that holds nothing has found what it must
   module _ (S : Sheets) (before past : History O Key Recon Cond) (s : Scanning O Key Recon Cond) (D : IsScanOf m S before past s) (closed : Closed) (none : s.items ≡ []) (C : IsClosing s closed) where

@@ -5,3 +5,6 @@ pub mod Weights
 pub mod Founds
 pub mod Slots
 pub mod Steps
+pub mod Inserts
+pub mod Opens
+pub mod Scans

@@ -46,10 +46,16 @@ down_out {Key} {Recon} m t t1 t2 d d2 seat node rest H i at n R G (free, et, ed)
     let x : Place = tuple_place d.stand in
     let s1 : SamePages t t1 = subst (λ (z : Table). SamePages t z) (sym et) (below_same t d x (stand_below (link_of t x node)) seat) in
     let s2 : SamePages t t2 = same_trans t t1 t2 s1 same in
-    let stands : StandsAt t (in_nulls d) (stand_below (link_of t x node)) (Some (x, node)) = child_stands m t (in_nulls d) d.stand d.parent node H at i n in
-    (inr i, s2, (ap (λ (z : Descending Recon). z.row) ed, ap (λ (z : Descending Recon). in_nulls z) ed,
-    subst (λ (z : Descending Recon). Stands t2 z) (sym ed) (stands_same t t2 (in_nulls d) (stand_below (link_of t x node)) (Some (x, node)) s2 stands),
-    λ key C. subst (λ (S : Sheets). IsCarried m S d2 key) (sym same.0) (carries key R (G key C) C)))
+    let stands : StandsAt t (in_nulls d) (stand_below (link_of t x node)) (Some (x, node)) = child_stands m t (in_nulls d) d.stand d.parent node H at i n in (
+      inr i,
+      s2,
+      (
+        ap (λ (z : Descending Recon). z.row) ed,
+        ap (λ (z : Descending Recon). in_nulls z) ed,
+        subst (λ (z : Descending Recon). Stands t2 z) (sym ed) (stands_same t t2 (in_nulls d) (stand_below (link_of t x node)) (Some (x, node)) s2 stands),
+        λ key C. subst (λ (S : Sheets). IsCarried m S d2 key) (sym same.0) (carries key R (G key C) C),
+      ),
+    )
 
 -- what the insert stands on is there
 pub there_of : {Key Recon Cond : Type 0} (m : Meaning Key Recon Cond) (t : Table) (d : Descending Recon) → Shape m (sheets_of t) → Stands t d → IsThere t d.stand
@@ -102,12 +108,18 @@ root_leaves {Key} {Recon} m t d H at off low = ⊎_elim (λ a. a) (λ a. absurd 
     go Empty l a = l
 
 -- an insert whose leaf was put where it fits
-pub put_out : {Key Recon Cond : Type 0} (m : Meaning Key Recon Cond) (t t1 t2 : Table) (d d2 : Descending Recon) (seat : ℕ) → IsAtNoInner t d.stand → PutsCarried m t t1 d → IsQuiet t t1 → SamePages t1 t2 → t2.touched ≡ t1.touched → IsStepOut m t t2 d d2 seat outs.Put
-put_out {Key} {Recon} m t t1 t2 d d2 seat off puts quiet (eS, el) et = (off,
-    (λ key C. (cost_at d.stand, subst (λ (bs : List ℕ). Adds m (sheets_of t) (sheets_of t2) bs (cost_at d.stand) d.row key (λ x. x)) (sym et)
-    (subst (λ (S : Sheets). Adds m (sheets_of t) S t1.touched (cost_at d.stand) d.row key (λ x. x)) (sym eS) (puts key C)))),
-    el ∙ quiet.limit,
-    λ nulls h. inl (sym (quiet.roots (root_of nulls) (root_range nulls).1) ∙ ap (λ (S : Sheets). (sheet_at S (root_of nulls)).inner) (sym eS) ∙ h))
+pub put_out : {Key Recon Cond : Type 0} (m : Meaning Key Recon Cond) (t t1 t2 : Table) (d d2 : Descending Recon) (seat : ℕ) → IsAtNoInner t d.stand → PutsCarried m t t1 d → IsQuiet t t1 → SamePages t1 t2 → t2.touched ≡ t1.touched → d2.row ≡ d.row → IsStepOut m t t2 d d2 seat outs.Put
+put_out {Key} {Recon} m t t1 t2 d d2 seat off puts quiet (eS, el) et er = (
+  off,
+  (λ key C. (
+    cost_at d.stand,
+    subst (λ (bs : List ℕ). Adds m (sheets_of t) (sheets_of t2) bs (cost_at d.stand) d.row key (λ x. x)) (sym et)
+        (subst (λ (S : Sheets). Adds m (sheets_of t) S t1.touched (cost_at d.stand) d.row key (λ x. x)) (sym eS) (puts key C)),
+  )),
+  el ∙ quiet.limit,
+  λ nulls h. inl (sym (quiet.roots (root_of nulls) (root_range nulls).1) ∙ ap (λ (S : Sheets). (sheet_at S (root_of nulls)).inner) (sym eS) ∙ h),
+  er,
+)
 
 root_other : (a b : Bool) → (root_of a ≡ root_of b) → a ≡ b
 root_other true true e = refl
@@ -139,13 +151,19 @@ calm_grow t t1 t2 d calm (eS, el) full nulls h = go nulls (in_nulls d) refl
         pick (inr n) = inl (same_kind (λ e. n (sym (root_other (in_nulls d) nulls (root_same (root_of (in_nulls d)) (root_of nulls) e)))))
 
 -- an insert whose leaf was put by a division
-pub part_out : {Key Recon Cond : Type 0} (m : Meaning Key Recon Cond) (t t1 t2 : Table) (d d2 : Descending Recon) (seat : ℕ) → IsAtNoInner t d.stand → PartsWith m t t1 d → IsCalm t t1 d.stand → IsRootFull t d → SamePages t1 t2 → t2.touched ≡ t1.touched →
+pub part_out : {Key Recon Cond : Type 0} (m : Meaning Key Recon Cond) (t t1 t2 : Table) (d d2 : Descending Recon) (seat : ℕ) → IsAtNoInner t d.stand → PartsWith m t t1 d → IsCalm t t1 d.stand → IsRootFull t d → SamePages t1 t2 → t2.touched ≡ t1.touched → d2.row ≡ d.row →
     IsStepOut m t t2 d d2 seat outs.Put
-part_out {Key} {Recon} m t t1 t2 d d2 seat off parts calm full (eS, el) et = (off,
-    (λ key C. (split_cost d.stand 1, subst (λ (bs : List ℕ). Adds m (sheets_of t) (sheets_of t2) bs (split_cost d.stand 1) d.row key (λ x. x)) (sym et)
-    (subst (λ (S : Sheets). Adds m (sheets_of t) S t1.touched (split_cost d.stand 1) d.row key (λ x. x)) (sym eS) (parts key C)))),
-    el ∙ calm.limit,
-    calm_grow t t1 t2 d calm (eS, el) full)
+part_out {Key} {Recon} m t t1 t2 d d2 seat off parts calm full (eS, el) et er = (
+  off,
+  (λ key C. (
+    split_cost d.stand 1,
+    subst (λ (bs : List ℕ). Adds m (sheets_of t) (sheets_of t2) bs (split_cost d.stand 1) d.row key (λ x. x)) (sym et)
+        (subst (λ (S : Sheets). Adds m (sheets_of t) S t1.touched (split_cost d.stand 1) d.row key (λ x. x)) (sym eS) (parts key C)),
+  )),
+  el ∙ calm.limit,
+  calm_grow t t1 t2 d calm (eS, el) full,
+  er,
+)
 
 -- latches given free leave the pages and what was touched as they are
 pub freed_same : (t : Table) (a b : Option ℕ) (seat : ℕ) → SamePages t (released (released t a seat) b seat)

@@ -1,5 +1,7 @@
 -- One more event, or one more section: what the fields of a state keep.
 use Rattle.std.proofs.Common.{◌≡◌, ◌≢◌, ◌<◌, ◌≤◌, ◌+◌, ◌⊎◌, ⊎_elim, inl, inr, ℕ, Bool, true, false, not, ◌&&◌, cond, List, [], ◌∷◌, ◌++◌, length, get_or, set, reverse, Option, Some, None, Vec, refl, sym, ap, ◌∙◌, subst, arith, get_or-set_same, get_or-set_other, length-set}
+use Rattle.std.proofs.Common.{Result, Ok, Err}
+use Rattle.std.specs.Result.{OnErr}
 use Rattle.std.proofs.lemmas.Bool.{false≢true, cases_eq}
 use Rattle.std.proofs.lemmas.List.{reverse-append}
 use Rattle.std.specs.declared.alloc.Global.{Global}
@@ -148,6 +150,22 @@ module _ {O Key Recon Cond : Type 0} (m : Meaning Key Recon Cond) where
     states = rw events_are kept.states;
     keys = rw events_are kept.keys;
     room = omega (arith, kept.room, room);
+    plain = kept.plain;
+    limit = kept.limit;
+  })
+
+  -- the same table and slots
+  pub kept_still : (s : Inside O Key Recon Cond) → IsKept m s → (table : pages.Table) (slots : Vec (Slot O Key Recon Cond) Global) → table ≡ s.table → slots.items ≡ s.slots.items → IsKept m (with_fields s table s.rows slots s.journal)
+  kept_still s kept table slots same items = rw same (record {
+    right = kept.right;
+    holds = kept.holds;
+    heavy = kept.heavy;
+    seats = rw items kept.seats;
+    slots = rw items kept.slots;
+    alone = rw items kept.alone;
+    states = kept.states;
+    keys = kept.keys;
+    room = rw items kept.room;
     plain = kept.plain;
     limit = kept.limit;
   })
@@ -344,3 +362,8 @@ new_pages {O} {Key} m limit = record {
     none : (nulls : Bool) → HasInnerRoot (pages.start_table limit) nulls → ⊥
     none true h = false≢true h
     none false h = false≢true h
+
+-- what holds in any case holds of an error
+pub on_err : {T E P : Type 0} (r : Result T E) → P → OnErr r P
+on_err (Ok x) p = tt
+on_err (Err e) p = p

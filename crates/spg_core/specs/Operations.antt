@@ -1,5 +1,6 @@
 -- What the operation in a seat's slot needs, and what a section of it does.
 use Rattle.std.specs.Prelude.{◌≡◌, ◌<◌, [], ℕ, List, Option, length, slice_set, slice_index_or, IfSome}
+use Rattle.spg_base.specs.Row.{RowAt}
 use Rattle.spg_opclass.specs.Meaning.{Meaning}
 use Rattle.spg_rows.specs.Table as rows
 use Rattle.spg_rows.specs.declared.table.RowState.TheVariants as row_state
@@ -65,3 +66,13 @@ abbrev pub CanRelease : {O Key Recon Cond : Type 0} → Table → rows.Table O K
 CanRelease t table Free = Unit {0}
 CanRelease t table (Insert key d) = IfSome (stand_block d.stand) (λ b. b < length t.pages) × IfSome (parent_block d.parent) (λ b. b < length t.pages) × (rows.state_in table d.row ≡ row_state.Claimed)
 CanRelease t table (Scan s) = Unit {0}
+
+abbrev pub IsInsert : {O Key Recon Cond : Type 0} → Slot O Key Recon Cond → Type 0
+IsInsert Free = ⊥
+IsInsert (Insert key d) = Unit {0}
+IsInsert (Scan s) = ⊥
+
+abbrev pub IsRowOf : {O Key Recon Cond : Type 0} → Slot O Key Recon Cond → RowAt → Type 0
+IsRowOf Free row = ⊥
+IsRowOf (Insert key d) row = row ≡ d.row
+IsRowOf (Scan s) row = ⊥

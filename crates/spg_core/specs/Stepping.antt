@@ -61,10 +61,10 @@ RootsGrow t t2 d = (nulls : Bool) → HasInnerRoot t2 nulls → HasInnerRoot t n
 -- without its own; another seat holds the block to be visited, and it is at its start again; or its row is put
 abbrev pub IsStepOut : {Key Recon Cond : Type 0} → Meaning Key Recon Cond → Table → Table → Descending Recon → Descending Recon → ℕ → InsertOut → Type 0
 IsStepOut m t t2 d d2 seat Descended = ((d.stand ≡ Start) ⊎ IsAtInner t d.stand) × SamePages t t2 × GoesOn m t t2 d d2
-IsStepOut m t t2 d d2 seat Restructured = IsAtNoInner t d.stand × ((cost : Cost) × Leaves m (sheets_of t) (sheets_of t2) t2.touched cost 0 (λ x. x)) × (t2.limit ≡ t.limit) × RootsGrow t t2 d × GoesOn m t t2 d d2
+IsStepOut m t t2 d d2 seat Restructured = IsAtNoInner t d.stand × ((cost : Cost) × (f : Place → Place) × Leaves m (sheets_of t) (sheets_of t2) t2.touched cost 0 f) × (t2.limit ≡ t.limit) × RootsGrow t t2 d × GoesOn m t t2 d d2
 IsStepOut m t t2 d d2 seat (Restarted block by) = (latch_at t block ≡ Some by) × (by ≡ seat → ⊥) × (d2.stand ≡ Start) × SamePages t t2 × GoesOn m t t2 d d2
 IsStepOut {Key} m t t2 d d2 seat Put =
-    IsAtNoInner t d.stand × ((key : Option Key) → IsCarried m (sheets_of t) d key → (cost : Cost) × Adds m (sheets_of t) (sheets_of t2) t2.touched cost d.row key (λ x. x)) × (t2.limit ≡ t.limit) × RootsGrow t t2 d
+    IsAtNoInner t d.stand × ((key : Option Key) → IsCarried m (sheets_of t) d key → (cost : Cost) × (f : Place → Place) × Adds m (sheets_of t) (sheets_of t2) t2.touched cost d.row key f) × (t2.limit ≡ t.limit) × RootsGrow t t2 d × (d2.row ≡ d.row)
 
 -- the node that an all-the-same tuple is followed at is the one that the counter names
 abbrev pub named : ℕ → Frame → ℕ → ℕ

@@ -6,7 +6,7 @@ ghost use Rattle.spg_tree.specs.Table.{sheets_of};
 ghost use Rattle.spg_tree.specs.declared.stand.StepRefused.TheVariants.{IndexFull, ClockFull};
 ghost use Rattle.spg_core.specs.declared.slot.Slot.TheVariants as kept;
 ghost use Rattle.spg_core.specs.Slot.{GivesBack};
-ghost use Rattle.spg_core.specs.Operations.{CanStep, StepsSlot, IsOutgrownBy, CanRead, ReadsSlot, CanClose, ClosesSlot, CanRelease};
+ghost use Rattle.spg_core.specs.Operations.{CanStep, StepsSlot, IsOutgrownBy, CanRead, ReadsSlot, CanClose, ClosesSlot, CanRelease, IsInsert, IsRowOf};
 ghost use Rattle.spg_core.specs.Stepping.{SamePages};
 ghost use Rattle.spg_scan.specs.Scanning.{IsClosing};
 
@@ -17,7 +17,7 @@ use spg_base::{List, Memory, Row, Rows, SeatNo};
 use spg_descend::release_latches;
 use spg_opclass::OpClass;
 use spg_rows::RowTable;
-use spg_scan::{Closed, ReadOut, Scan, Walk};
+use spg_scan::{Closed, ReadOut, Scan};
 use spg_tree::{PageTable, StepRefused};
 use std::alloc::Global;
 
@@ -41,6 +41,19 @@ pub(crate) fn step_slot<O: OpClass>(
 {
     match &mut slots[usize::from(seat.number())] {
         Slot::Insert { descent, .. } => step(alloc, class, table, descent, seat),
+        _ => unreachable!(),
+    }
+}
+
+/// Ends the insert in the seat's slot, which is free then. Its row comes back.
+pub(crate) fn end_insert<O: OpClass>(slots: &mut Vec<Slot<O>>, seat: SeatNo) -> Row
+    requires seats { length slots.old.items ≡ 64 }
+    requires insert { IsInsert (slice_index_or slots.old.items seat kept.Free) }
+    ensures items { slots.new.items ≡ slice_set slots.old.items seat kept.Free }
+    ensures row { IsRowOf (slice_index_or slots.old.items seat kept.Free) result }
+{
+    match std::mem::replace(&mut slots[usize::from(seat.number())], Slot::Free) {
+        Slot::Insert { descent, .. } => descent.row(),
         _ => unreachable!(),
     }
 }

@@ -13,9 +13,9 @@ ghost use Rattle.spg_core.specs.Seen.{stage_at, past_of, IsPresentWith};
 ghost use Rattle.spg_core.specs.Sections.{IsNew, OpensInsert, IsInsertOut, IsHeavy, OpensScan, ReadsItem, ClosesScan, GivesUp};
 
 use crate::answer::{InsertOut, OpenKind, OpenRefused};
-use crate::operations::{close_slot, read_slot, release_slot, step_slot};
+use crate::operations::{close_slot, end_insert, read_slot, release_slot, step_slot};
 use crate::slot::{SEATS, Slot, free_slots, give_up, kind, set_slot, slot_at};
-use spg_base::{Memory, Origin, Recorded, Row, Same, SeatNo, Stamp};
+use spg_base::{Memory, Origin, Row, Same, SeatNo, Stamp};
 use spg_descend::open_descent;
 use spg_opclass::{OpClass, Query};
 use spg_rows::{Event, Journal, RowState, RowTable, Why};
@@ -51,27 +51,6 @@ impl<O: OpClass> Model for State<O> {
     ghost invariant = { λ s. IsKept O.meaning s };
 }
 
-impl<O: OpClass> Recorded for State<O> {
-    ghost use Rattle.std.specs.Prelude.{◌≡◌};
-    ghost use Rattle.spg_rows.specs.History.{seat_of};
-
-    type Entry = Event<O>;
-
-    ghost entries = { λ s. s.journal };
-
-    ghost seat_of = { seat_of };
-
-    ghost origin_of = { λ s. s.origin };
-
-    fn len(&self) -> u64 {
-        self.journal.len()
-    }
-
-    fn origin(&self) -> Origin {
-        self.origin
-    }
-}
-
 impl<O: OpClass> State<O> {
     /// An empty index of at most `limit` pages, 4 to 131,072. The class has no labels so far.
     pub fn new(alloc: Global, class: O, limit: u32) -> Result<State<O>, Memory>
@@ -99,6 +78,13 @@ impl<O: OpClass> State<O> {
     /// The class of the keys.
     pub fn class(&self) -> &O {
         &self.class
+    }
+
+    /// With what the state was made.
+    pub fn origin(&self) -> Origin
+        ensures { result ≡ self.now.origin }
+    {
+        self.origin
     }
 
     /// The journal. It is legal, and each closed scan is right.
@@ -175,13 +161,10 @@ impl<O: OpClass> State<O> {
             &mut self.slots,
             seat,
         )?;
-        if out == InsertOut::Put {
-            let slot = set_slot(&mut self.slots, seat, Slot::Free);
-            if let Slot::Insert { descent, .. } = &slot {
-                let row = descent.row();
-                self.rows.put(row);
-                self.journal.append(Event::Put { seat, row });
-            }
+        if has_ended(&out) {
+            let row = end_insert(&mut self.slots, seat);
+            self.rows.put(row);
+            self.journal.append(Event::Put { seat, row });
         }
         Ok(out)
     }
@@ -256,6 +239,13 @@ fn copy_key<O: OpClass>(key: &Option<O::Key>) -> Result<Option<O::Key>, Memory>
         None => Ok(None),
         Some(key) => Ok(Some(key.copy()?)),
     }
+}
+
+/// Whether the row was put, so that the insert has ended.
+fn has_ended(out: &InsertOut) -> bool
+    ensures { IsTrue result ↔ (out.now ≡ InsertOut.Put) }
+{
+    matches!(out, InsertOut::Put)
 }
 
 fn is_free(state: RowState) -> bool

@@ -21,8 +21,8 @@ use Rattle.spg_forest.proofs.Scan.{target_once}
 use Rattle.spg_forest.proofs.Sections.{shape_tree}
 use Rattle.spg_forest.proofs.Trees.{recon_once}
 use Rattle.spg_rows.specs.Table as rows
-use Rattle.spg_scan.specs.Covers.{HasAsked, IsAskable}
-use Rattle.spg_scan.specs.Scanning.{IsLiveIn, ReadsSpot, taken_of}
+use Rattle.spg_scan.specs.Covers.{HasAsked}
+use Rattle.spg_scan.specs.Scanning.{IsLiveIn, ReadsSpot, taken_of, IsAskedAt}
 use Rattle.spg_scan.proofs.CoverReplaced.{Gives, IsPlaceIn}
 use Rattle.spg_scan.proofs.CoverWays.{recon_holds, main_tuple}
 use Rattle.spg_scan.proofs.CoverNodes.{NoTwice, no_twice, below_twice, child_from, child_to, children_differ, contains_none}
@@ -79,18 +79,18 @@ module _ {O Key Recon Cond : Type 0} (m : Meaning Key Recon Cond) (S : Sheets) (
     found_right Nothing e h row k = absurd h
 
   -- no node is followed twice
-  followed_once : KeptLaw m → CodeLaw m → (q : Query O Key Recon Cond) → IsAskable m q → (w : Frame) (ns : List (Option Place)) (p : Option Recon) → V x ≡ Branch w ns → HasRecon m V x p → NoTwice (followed m q p w ns)
-  followed_once K L All h w ns p e a = below_twice (length ns)
-  followed_once K L Null h w ns p e a = below_twice (length ns)
-  followed_once K L (Where conds) h w ns None e a = below_twice (length ns)
-  followed_once K L (Where conds) h w ns (Some p) e a = no_twice (m.kept p w conds) ((K p w conds (recon_holds m S H L x p a) (main_tuple m S H x p w ns a e) h).ordered)
+  followed_once : KeptLaw m → CodeLaw m → (q : Query O Key Recon Cond) (w : Frame) (ns : List (Option Place)) (p : Option Recon) → IsAskedAt m (Branch w ns) q p → V x ≡ Branch w ns → HasRecon m V x p → NoTwice (followed m q p w ns)
+  followed_once K L All w ns p h e a = below_twice (length ns)
+  followed_once K L Null w ns p h e a = below_twice (length ns)
+  followed_once K L (Where conds) w ns None h e a = below_twice (length ns)
+  followed_once K L (Where conds) w ns (Some p) h e a = no_twice (m.kept p w conds) ((K p w conds (recon_holds m S H L x p a) (main_tuple m S H x p w ns a e) h).ordered)
 
   module _ (needed : RowAt → Type 0) (wanted : (row : RowAt) → needed row → IsLiveIn table row × HasAsked m S query row) where
-    gives_branch : KeptLaw m → CodeLaw m → IsAskable m query → (rows : List RowAt) (w : Frame) (ns : List (Option Place)) → V x ≡ Branch w ns → Gives C V c (children_at (down_of m) r w ns (followed m query r w ns)) t (Contains rows) (Contains (rows ++ [])) needed
-    gives_branch K L A rows w ns e = subst (λ (z : Place). Gives C V c (children_at (down_of m) r w ns nodes) z (Contains rows) (Contains (rows ++ [])) needed) (sym same) (record {
+    gives_branch : KeptLaw m → CodeLaw m → (rows : List RowAt) (w : Frame) (ns : List (Option Place)) → IsAskedAt m (Branch w ns) query r → V x ≡ Branch w ns → Gives C V c (children_at (down_of m) r w ns (followed m query r w ns)) t (Contains rows) (Contains (rows ++ [])) needed
+    gives_branch K L rows w ns A e = subst (λ (z : Place). Gives C V c (children_at (down_of m) r w ns nodes) z (Contains rows) (Contains (rows ++ [])) needed) (sym same) (record {
       shelters = λ j y s h. let (k, a, b, d) = child_from (down_of m) r w ns nodes j y s h in (y, Target.stands (T.targets x k y (child k y b)).0, there k y s b d, (k ∷ [], (x, refl, child k y b)));
       apart = λ j l y z p q s o h g n a b.
-          let (i, k, d, f, u) = children_differ (down_of m) r w ns nodes (followed_once K L query A w ns r e at) j l y z s o h g n in
+          let (i, k, d, f, u) = children_differ (down_of m) r w ns nodes (followed_once K L query w ns r A e at) j l y z s o h g n in
           let py : y ≡ p = target_once C V y p y c (Target.stands (T.targets x i y (child i y f)).0) a in
           let qz : z ≡ q = target_once C V z q z c (Target.stands (T.targets x k z (child k z u)).0) b in
           subst (λ (v : Place). AreApart W v q) py (subst (λ (v : Place). AreApart W y v) qz (children_apart C V S.clock T x y z i k (child i y f) (child k z u) d));
@@ -99,7 +99,7 @@ module _ {O Key Recon Cond : Type 0} (m : Meaning Key Recon Cond) (S : Sheets) (
       covers = λ row n u.
           let (k, y, d, g) = under_children C V S.clock T x w ns row e u in
           let link : get_or ns k None ≡ Some y = ap (λ s. child_of s k) (sym e) ∙ d in
-          let (j, f) = child_to (down_of m) r w ns nodes k y (is_followed m S H K L query A x y w ns r k row e at link g (wanted row n).1) link in
+          let (j, f) = child_to (down_of m) r w ns nodes k y (is_followed m S H K L query x y w ns r A k row e at link g (wanted row n).1) link in
           inr (j, y, down_of m r w k, f, (y, Target.stands (T.targets x k y d).0, g));
     })
       where
@@ -180,8 +180,8 @@ module _ {O Key Recon Cond : Type 0} (m : Meaning Key Recon Cond) (S : Sheets) (
         here (suc j) z s h = cc
 
     -- what a read gives covers what was below the item
-    pub gives : KeptLaw m → CodeLaw m → IsAskable m query → (rows found : List RowAt) (items : List (Place × Option Recon)) (met : ℕ) (sp : Spot) → V x ≡ sp → ReadsSpot m table query x r sp items found met → Gives C V c items t (Contains rows) (Contains (rows ++ found)) needed
-    gives K L A rows found items met (Branch w ns) e (a, b, d) = subst (λ zs. Gives C V c zs t (Contains rows) (Contains (rows ++ found)) needed) (sym a) (subst (λ f. Gives C V c (children_at (down_of m) r w ns (followed m query r w ns)) t (Contains rows) (Contains (rows ++ f)) needed) (sym b) (gives_branch K L A rows w ns e))
-    gives K L A rows found items met (Bucket ls) e (a, b, d) = subst (λ zs. Gives C V c zs t (Contains rows) (Contains (rows ++ found)) needed) (sym a) (subst (λ f. Gives C V c [] t (Contains rows) (Contains (rows ++ f)) needed) (sym b) (gives_bucket rows ls e))
-    gives K L A rows found items met (Forward y u) e (a, b, d) = subst (λ zs. Gives C V c zs t (Contains rows) (Contains (rows ++ found)) needed) (sym a) (subst (λ f. Gives C V c ((y, r) ∷ []) t (Contains rows) (Contains (rows ++ f)) needed) (sym b) (gives_forward rows y u e))
-    gives K L A rows found items met Nothing e h = absurd h
+    pub gives : KeptLaw m → CodeLaw m → (rows found : List RowAt) (items : List (Place × Option Recon)) (met : ℕ) (sp : Spot) → V x ≡ sp → IsAskedAt m sp query r → ReadsSpot m table query x r sp items found met → Gives C V c items t (Contains rows) (Contains (rows ++ found)) needed
+    gives K L rows found items met (Branch w ns) e A (a, b, d) = subst (λ zs. Gives C V c zs t (Contains rows) (Contains (rows ++ found)) needed) (sym a) (subst (λ f. Gives C V c (children_at (down_of m) r w ns (followed m query r w ns)) t (Contains rows) (Contains (rows ++ f)) needed) (sym b) (gives_branch K L rows w ns A e))
+    gives K L rows found items met (Bucket ls) e A (a, b, d) = subst (λ zs. Gives C V c zs t (Contains rows) (Contains (rows ++ found)) needed) (sym a) (subst (λ f. Gives C V c [] t (Contains rows) (Contains (rows ++ f)) needed) (sym b) (gives_bucket rows ls e))
+    gives K L rows found items met (Forward y u) e A (a, b, d) = subst (λ zs. Gives C V c zs t (Contains rows) (Contains (rows ++ found)) needed) (sym a) (subst (λ f. Gives C V c ((y, r) ∷ []) t (Contains rows) (Contains (rows ++ f)) needed) (sym b) (gives_forward rows y u e))
+    gives K L rows found items met Nothing e A h = absurd h

@@ -20,7 +20,8 @@ use Rattle.spg_forest.proofs.FitWay.{recon_of_fit}
 use Rattle.spg_forest.proofs.Relocate.{within_from_some}
 use Rattle.spg_forest.proofs.Sections.{shape_tree}
 use Rattle.spg_forest.proofs.Trees.{recon_once, key_once}
-use Rattle.spg_scan.specs.Covers.{HasAsked, IsAskable}
+use Rattle.spg_scan.specs.Covers.{HasAsked}
+use Rattle.spg_scan.specs.Scanning.{IsAskedAt}
 use Rattle.spg_scan.proofs.CoverWays.{main_tuple, node_count, recon_holds}
 use Rattle.spg_scan.proofs.CoverNodes.{below_all}
 
@@ -78,13 +79,13 @@ module _ {Key Recon Cond : Type 0} (m : Meaning Key Recon Cond) (S : Sheets) (H 
       (subst (λ (z : Option Recon). admits_of m z w k (Some key) ≡ true) same (ap (λ s. admit_of C s k p (Some key)) (sym ev) ∙ n), (r2, l.rest, e2))
 
   -- a query follows each node below which a row stands that it asks for
-  pub is_followed : {O : Type 0} → KeptLaw m → CodeLaw m → (query : Query O Key Recon Cond) → IsAskable m query → (x y : Place) (w : Frame) (ns : List (Option Place)) (r : Option Recon) (k : ℕ) (row : RowAt) → V x ≡ Branch w ns → HasRecon m V x r → get_or ns k None ≡ Some y → Under W y row →
+  pub is_followed : {O : Type 0} → KeptLaw m → CodeLaw m → (query : Query O Key Recon Cond) (x y : Place) (w : Frame) (ns : List (Option Place)) (r : Option Recon) → IsAskedAt m (Branch w ns) query r → (k : ℕ) (row : RowAt) → V x ≡ Branch w ns → HasRecon m V x r → get_or ns k None ≡ Some y → Under W y row →
       HasAsked m S query row → Contains (followed m query r w ns) k
-  is_followed K L All h x y w ns r k row ev hr e u a = below_all (length ns) k (within_from_some ns k y e)
-  is_followed K L Null h x y w ns r k row ev hr e u a = below_all (length ns) k (within_from_some ns k y e)
-  is_followed K L (Where conds) h x y w ns None k row ev hr e u a = below_all (length ns) k (within_from_some ns k y e)
-  is_followed K L (Where conds) h x y w ns (Some recon) k row ev hr e u (None, entry, t) = cc
-  is_followed K L (Where conds) h x y w ns (Some recon) k row ev hr e u (Some key, entry, t) =
+  is_followed K L All x y w ns r h k row ev hr e u a = below_all (length ns) k (within_from_some ns k y e)
+  is_followed K L Null x y w ns r h k row ev hr e u a = below_all (length ns) k (within_from_some ns k y e)
+  is_followed K L (Where conds) x y w ns None h k row ev hr e u a = below_all (length ns) k (within_from_some ns k y e)
+  is_followed K L (Where conds) x y w ns (Some recon) h k row ev hr e u (None, entry, t) = cc
+  is_followed K L (Where conds) x y w ns (Some recon) h k row ev hr e u (Some key, entry, t) =
       let (n, (q, rest, g)) = admitted x y w ns (Some recon) k row (Some key) ev hr e u entry in
       let value : m.is_value key ≡ true = key_is L q rest key g in
       let met : Each (λ c. m.holds c key ≡ true) conds = each_of (λ c. m.holds c key) conds t in

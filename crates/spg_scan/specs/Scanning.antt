@@ -1,10 +1,11 @@
 -- A scan as contracts see it, and what a read of one of its items does.
-use Rattle.std.specs.Prelude.{◌≡◌, ◌↔◌, ◌+◌, ◌<◌, ◌&&◌, ◌^◌, ◌-◌, ℕ, Bool, true, false, List, [], ◌∷◌, ◌++◌, Option, Some, None, Contains, take, drop, min, length, slice_get, if◌then◌else◌}
+use Rattle.std.specs.Prelude.{◌≡◌, ◌↔◌, ◌+◌, ◌&&◌, ◌^◌, ◌-◌, ℕ, Bool, true, false, List, [], ◌∷◌, ◌++◌, Option, Some, None, Contains, take, drop, min, length, slice_get, if◌then◌else◌, All}
 use Rattle.std.specs.List.Sorted.{IsStrictlySortedBy}
 use Rattle.spg_base.specs.Row.{RowAt, row_cmp}
 use Rattle.spg_opclass.specs.Meaning.{Meaning}
 use Rattle.spg_opclass.specs.Queries.{query_matches}
 use Rattle.spg_opclass.specs.declared.query.Query.{Query}
+use Rattle.spg_opclass.specs.declared.query.Query.TheVariants.{Where}
 use Rattle.spg_forest.specs.View.{Place, Leaf, Target, ReconAt}
 use Rattle.spg_forest.specs.Spot.{Spot, Branch, Bucket, Forward, Nothing}
 use Rattle.spg_forest.specs.Classes.{key_of, down_of, start_of}
@@ -78,6 +79,11 @@ ReadsSpot m table query x r (Bucket ls) items found met = (items ≡ []) × (fou
 ReadsSpot m table query x r (Forward y u) items found met = (items ≡ (y, r) ∷ []) × (found ≡ []) × (met ≡ 0)
 ReadsSpot m table query x r Nothing items found met = ⊥
 
+-- where a read follows nodes by conditions, these are well formed
+abbrev pub IsAskedAt : {O Key Recon Cond : Type 0} → Meaning Key Recon Cond → Spot → Query O Key Recon Cond → Option Recon → Type 0
+IsAskedAt m (Branch w ns) (Where conds) (Some recon) = All (λ c. m.is_cond c ≡ true) conds
+IsAskedAt m s query recon = Unit {0}
+
 -- the scan with other items in the place of one, more rows and more tuples met
 abbrev pub replaced : {O Key Recon Cond : Type 0} → Scanning O Key Recon Cond → ℕ → List (Item Recon) → List RowAt → ℕ → Scanning O Key Recon Cond
 replaced s i items found met = record s { items = take i s.items ++ (items ++ drop (i + 1) s.items); rows = s.rows ++ found; met = counted (s.met + met) }
@@ -91,6 +97,7 @@ pub record Reads {O Key Recon Cond : Type 0} (m : Meaning Key Recon Cond) (S : S
   pub met : ℕ
   pub item : IsItem s.items i place recon
   pub spot : ReadsSpot m table s.query place recon (spots S place) items found met
+  pub asked : IsAskedAt m (spots S place) s.query recon
   pub after : s2 ≡ replaced s i items found met
 
 -- no other seat holds the block of the item

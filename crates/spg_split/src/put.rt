@@ -5,7 +5,7 @@ ghost use Rattle.spg_forest.specs.Sheets.{weight};
 ghost use Rattle.spg_page.specs.Reads.{frame_in};
 ghost use Rattle.spg_tree.specs.Pick.{IsFull};
 ghost use Rattle.spg_tree.specs.Table.{sheet_at, tuples_at};
-ghost use Rattle.spg_tree.specs.declared.stand.StepRefused.TheVariants.{IndexFull};
+ghost use Rattle.spg_tree.specs.declared.stand.StepRefused.TheVariants.{IndexFull, ClockFull};
 ghost use Rattle.spg_split.specs.Splits.{IsSplitFull};
 ghost use Rattle.spg_split.specs.Dividing.{AreAllLive};
 ghost use Rattle.spg_split.specs.Placing.{taken_by, leaves_in, HaveRooms};
@@ -75,6 +75,7 @@ fn put_parts(
     requires need { weight (take count parts.leaves) ≤ 8160 }
     ensures ok { OnOk result (PutsLists table.old table.new root seat parts (take count parts.leaves)) }
     ensures full { IsErrOf result IndexFull → IsFull table.old (lists_want (sheet_at table.old root).nulls (take count parts.leaves) seat) }
+    ensures clock { IsErrOf result ClockFull → ⊥ }
     ensures err { OnErr result (table.new ≡ table.old) }
 {
     let Parts {
@@ -154,6 +155,7 @@ pub(crate) fn put_division(
     ensures way { IfOk result (λ way. IsWay parts way) }
     ensures ok { IfOk result (λ way. PutsLists table.old table.new root seat parts (going parts way)) }
     ensures full { IsErrOf result IndexFull → IsSplitFull table.old }
+    ensures clock { IsErrOf result ClockFull → ⊥ }
     ensures err { OnErr result (table.new ≡ table.old) }
 {
     let way = way_of(&parts);

@@ -45,6 +45,7 @@ fn split_root<O: OpClass>(
     requires no_room { Fits table.old descent.now.stand (Live (carried descent.now) 0) → ⊥ }
     ensures ok { IfOk result (λ way. IsSplitWay O.meaning table.old table.new descent.now way) }
     ensures full { IsErrOf result IndexFull → IsSplitFull table.old }
+    ensures clock { IsErrOf result ClockFull → ⊥ }
     ensures err { OnErr result (table.new ≡ table.old) }
 {
     let values = values_at_root(alloc, table.page(root), descent)?;

@@ -1,5 +1,6 @@
 use Rattle.std.proofs.Common.{◌≡◌, sym, ap, ◌∙◌, subst}
 use Rattle.spg_tree.specs.Table.{Table}
+use Rattle.spg_tree.specs.Descents.{Descending}
 use Rattle.spg_tree.specs.declared.stand.Stand.{Stand}
 use Rattle.spg_descend.specs.Leaves.{stand_block, parent_block}
 use Rattle.spg_split.specs.Splits.{IsAtRoot, IsSplitOut}
@@ -26,4 +27,4 @@ returns-in-Put-clause-ok g c =
     let same : SamePages t1 c.release_latches.new.table = subst (λ (z : Table). SamePages t1 z) (sym c.release_latches.ensures.table) (freed_same t1 a b c.args.seat) in
     let touched = ap (λ (z : Table). z.touched) c.release_latches.ensures.table ∙ freed_touched t1 a b c.args.seat in
     let (parts, calm, e) = subst (λ (o : SplitOut). IsSplitOut m t t1 d d2 o) c.in-Put.is c.in_ok-split_leaf.ensures.ok in
-    part_out m t t1 c.release_latches.new.table d d2 c.args.seat c.requires.elsewhere parts calm (root_full m t d c.requires.shape c.requires.stands c.requires.elsewhere c.requires.no_room root) same touched
+    part_out m t t1 c.release_latches.new.table d d2 c.args.seat c.requires.elsewhere parts calm (root_full m t d c.requires.shape c.requires.stands c.requires.elsewhere c.requires.no_room root) same touched (ap (λ (z : Descending _). z.row) e)

@@ -1,4 +1,4 @@
-use Rattle.std.proofs.Common.{◌≡◌, sym, ap, ◌∙◌, subst}
+use Rattle.std.proofs.Common.{◌≡◌, refl, sym, ap, ◌∙◌, subst}
 use Rattle.spg_tree.specs.Table.{Table}
 use Rattle.spg_descend.specs.Leaves.{stand_block, parent_block}
 use Rattle.spg_descend.specs.Puts.{IsPutOut}
@@ -21,4 +21,4 @@ returns-clause-ok g c =
     let same : SamePages t1 c.release_latches.new.table = subst (λ (z : Table). SamePages t1 z) (sym c.release_latches.ensures.table) (freed_same t1 a b c.args.seat) in
     let touched = ap (λ (z : Table). z.touched) c.release_latches.ensures.table ∙ freed_touched t1 a b c.args.seat in
     let (fits, puts, quiet) = subst (λ (o : PutOut). IsPutOut g.O.OpClass.meaning t t1 d o) c.in-Put.is c.in_ok-put_leaf.ensures.ok in
-    put_out g.O.OpClass.meaning t t1 c.release_latches.new.table d d c.args.seat c.requires.elsewhere puts quiet same touched
+    put_out g.O.OpClass.meaning t t1 c.release_latches.new.table d d c.args.seat c.requires.elsewhere puts quiet same touched refl

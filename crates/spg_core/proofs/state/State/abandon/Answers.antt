@@ -1,30 +1,62 @@
-use Rattle.std.proofs.Common.{rules, ◌≡◌, ◌≢◌, ◌<◌, ◌≤◌, ◌+◌, ◌↔◌, ◌⊎◌, [], ℕ, true, false, Option, Some, None, IfOk, OnOk, OnErr, IsErrOf, IsTrue, ◌-◌, ◌*◌, length, ◌/◌, ◌%◌, Bool, nat_eq, nat_lt, List, ◌∷◌, ◌++◌, slice_index_or, slice_set, bit_and, bit_or, Fits, w8, w32, w64, Bor, MutBor}
-use Rattle.spg_base.specs.declared.recorded.Origin.{Origin}
-use Rattle.spg_forest.specs.Shape.{Represents}
-use Rattle.spg_forest.specs.Walk.{weight_of}
-use Rattle.spg_rows.specs.Rows.{is_claimed}
-use Rattle.spg_rows.specs.Right.{Right}
-use Rattle.spg_rows.specs.declared.table.RowState.TheVariants as row_state
-use Rattle.spg_rows.specs.declared.event.Event.TheVariants as event
-use Rattle.spg_rows.specs.History.{open_of}
-use Rattle.spg_tree.specs.Table.{Table, sheets_of, start_table}
-use Rattle.spg_core.specs.Stage.{free, IsInserting, IsRead, IsStageOf, held_count, given_up, kind_of}
-use Rattle.spg_core.specs.Seen.{stage_at, past_of, IsPresentWith}
-use Rattle.spg_core.specs.Sections.{IsNew, OpensInsert, IsInsertOut, IsHeavy, OpensScan, ReadsItem, ClosesScan, GivesUp}
+use Rattle.std.proofs.Common.{◌≡◌, ◌≢◌, ◌++◌, ◌∷◌, [], refl, sym, ap, ◌∙◌, subst, reverse, get_or}
+use Rattle.spg_tree.specs.Table.{Table}
+use Rattle.spg_rows.proofs.Histories.{itself_opens}
+use Rattle.spg_core.specs.declared.slot.Slot.{Slot}
+use Rattle.spg_core.specs.declared.slot.Slot.TheVariants.{Free}
+use Rattle.spg_core.specs.Stage.{free, given_up}
+use Rattle.spg_core.specs.Seen.{logged}
+use Rattle.spg_core.specs.Slot.{stage_of, GivesBack}
+use Rattle.spg_core.specs.Stepping.{SamePages}
+use Rattle.spg_core.specs.Operations.{CanRelease}
+use Rattle.spg_core.proofs.Slots.{stage_set, stage_is, table_is, logged_is, not_free_open}
+use Rattle.spg_core.proofs.Steps.{kept_logged, given_up_rows, given_up_pages, given_up_seat, given_up_closes, given_up_ends, may_give_up, room_left, room_ended, pages_are, pages_moved, rows_are}
+use Rattle.spg_core.proofs.Opens.{can_release, given_up_fits}
 use Rattle.spg_core.proofs.state.State.abandon.Goals as goal
 
--- src/state.rt:246:9
 pub release_slot-requires-after_bounds : goal.release_slot-requires-after_bounds
-release_slot-requires-after_bounds g c κs within = ?
+release_slot-requires-after_bounds g c κs bounds =
+    let s = c.self.inside in
+    let kept = c.self.invariant in
+    subst (λ (x : Slot _ _ _ _). CanRelease s.table s.rows x) (sym c.set_slot-slot.ensures.former) (can_release g.O.OpClass.meaning s kept c.args.seat (get_or s.slots.items c.args.seat Free) (kept.slots c.args.seat))
 
--- src/state.rt:247:9
 pub append-requires-after_bounds : goal.append-requires-after_bounds
-append-requires-after_bounds g c κs within = ?
+append-requires-after_bounds g c κs bounds =
+    let s = c.self.inside in
+    let apart : stage_of (get_or s.slots.items c.args.seat Free) ≢ free = λ is. c.requires.open (stage_is s c.args.self.now c.self.view_is c.args.seat ∙ is) in
+    room_left g.O.OpClass.meaning s c.self.invariant c.args.seat (not_free_open _ apart)
 
--- src/state.rt:240:5
 pub invariant_of-self : goal.invariant_of-self
-invariant_of-self g c = ?
+invariant_of-self g c =
+    let m = g.O.OpClass.meaning in
+    let s = c.self.inside in
+    let kept = c.self.invariant in
+    let past = reverse s.journal.events in
+    let seat = c.args.seat in
+    let why = c.args.why in
+    let slot = get_or s.slots.items seat Free in
+    let stage = stage_of slot in
+    let e = given_up seat stage why in
+    let by = given_up_seat seat stage why in
+    let apart : stage ≢ free = λ is. c.requires.open (stage_is s c.args.self.now c.self.view_is seat ∙ is) in
+    let told = c.give_up.ensures ∙ ap (λ x. given_up seat (stage_of x) why) c.set_slot-slot.ensures.former in
+    let events = c.append.ensures.events ∙ ap (λ x. s.journal.events ++ x ∷ []) told in
+    let back = subst (λ x. GivesBack x s.rows c.release_slot.new.rows) c.set_slot-slot.ensures.former c.release_slot.ensures.rows in
+    let was = not_free_open slot apart in
+    given_up_fits m s kept seat why stage c.release_slot.new.table c.release_slot.new.rows c.set_slot-slot.new.slots c.append.new.self c.requires.first c.set_slot-slot.ensures.items events
+    (may_give_up m s.table past seat why slot (kept.slots seat) apart) c.release_slot.ensures.pages
+    (given_up_rows m s.rows c.release_slot.new.rows past seat slot why (rows_are m s kept) apart back) (room_ended m s kept seat c.set_slot-slot.new.slots.items c.append.new.self.spare c.set_slot-slot.ensures.items c.append.ensures.spare was)
 
--- src/state.rt:240:5
 pub returns : goal.returns
-returns g c = ?
+returns g c =
+    let s = c.self.inside in
+    let seen = c.args.self.now in
+    let seat = c.args.seat in
+    let why = c.args.why in
+    let slot = get_or s.slots.items seat Free in
+    let t2 = c.release_slot.new.table in
+    let told = c.give_up.ensures ∙ ap (λ x. given_up seat (stage_of x) why) c.set_slot-slot.ensures.former in
+    let events = c.append.ensures.events ∙ ap (λ x. s.journal.events ++ x ∷ []) told in (
+      rw (stage_is s seen c.self.view_is seat) (logged_is s seen c.self.view_is seat (given_up seat (stage_of slot) why) Free c.set_slot-slot.new.slots.items c.append.new.self.events t2 c.set_slot-slot.ensures.items events),
+      stage_set c.set_slot-slot.new.slots.items s.slots.items seat Free c.set_slot-slot.ensures.items c.self.invariant.seats c.set_slot-slot.ensures.in_range,
+      subst (λ (t : Table). SamePages t t2) (sym (table_is s seen c.self.view_is 0)) c.release_slot.ensures.pages,
+    )

@@ -1,52 +1,102 @@
-use Rattle.std.proofs.Common.{rules, ◌≡◌, ◌≢◌, ◌<◌, ◌≤◌, ◌+◌, ◌↔◌, ◌⊎◌, [], ℕ, true, false, Option, Some, None, IfOk, OnOk, OnErr, IsErrOf, IsTrue, ◌-◌, ◌*◌, length, ◌/◌, ◌%◌, Bool, nat_eq, nat_lt, List, ◌∷◌, ◌++◌, slice_index_or, slice_set, bit_and, bit_or, Fits, w8, w32, w64, Bor, MutBor}
-use Rattle.spg_base.specs.declared.recorded.Origin.{Origin}
-use Rattle.spg_forest.specs.Shape.{Represents}
-use Rattle.spg_forest.specs.Walk.{weight_of}
-use Rattle.spg_rows.specs.Rows.{is_claimed}
-use Rattle.spg_rows.specs.Right.{Right}
-use Rattle.spg_rows.specs.declared.table.RowState.TheVariants as row_state
-use Rattle.spg_rows.specs.declared.event.Event.TheVariants as event
-use Rattle.spg_rows.specs.History.{open_of}
-use Rattle.spg_tree.specs.Table.{Table, sheets_of, start_table}
-use Rattle.spg_core.specs.Stage.{free, IsInserting, IsRead, IsStageOf, held_count, given_up, kind_of}
-use Rattle.spg_core.specs.Seen.{stage_at, past_of, IsPresentWith}
-use Rattle.spg_core.specs.Sections.{IsNew, OpensInsert, IsInsertOut, IsHeavy, OpensScan, ReadsItem, ClosesScan, GivesUp}
+use Rattle.std.proofs.Common.{rules, ◌≡◌, ◌<◌, sym, refl, ap, ◌∙◌, subst, reverse, get_or, arith, length}
+use Rattle.std.proofs.lemmas.Bool.{false≢true}
+use Rattle.spg_core.specs.declared.answer.InsertOut.{InsertOut}
+use Rattle.spg_core.specs.declared.answer.InsertOut.TheVariants as outs
+use Rattle.spg_core.specs.declared.slot.Slot.{Slot}
+use Rattle.spg_core.specs.declared.slot.Slot.TheVariants.{Free}
+use Rattle.spg_core.specs.Slot.{stage_of}
+use Rattle.spg_core.specs.Stage.{Stage, IsInserting}
+use Rattle.spg_core.specs.Seen.{Seen}
+use Rattle.spg_core.specs.Operations.{StepsFrom, IsRowOf, IsOutgrownBy}
+use Rattle.spg_core.specs.Sections.{IsOutOf, IsHeavyFor}
+use Rattle.spg_core.proofs.Slots.{stage_is, inserting_open}
+use Rattle.spg_core.proofs.Steps.{kept_still, room_left}
+use Rattle.spg_core.proofs.Inserts.{can_step, heavy_for, kept_step, put_row, kept_put, row_claimed, steps_length, seen_step, seen_put}
 use Rattle.spg_core.proofs.state.State.insert_step.Goals as goal
+use Rattle.spg_core.proofs.state.State.insert_step.Goals.{then-has_ended, else-has_ended}
 
--- src/state.rt:171:19
 pub step_slot-requires-clause-insert : goal.step_slot-requires-clause-insert
-step_slot-requires-clause-insert g c κs within = ?
+step_slot-requires-clause-insert g c κs within =
+    let s = c.self.inside in
+    let seat = c.args.seat in
+    let slot = get_or s.slots.items seat Free in
+    can_step g.O.OpClass.meaning g.O.OpClass.codes s c.self.invariant seat slot (c.self.invariant.slots seat) (subst (λ (x : Stage _ _ _ _). IsInserting x) (stage_is s c.args.self.now c.self.view_is seat) c.requires.inserting)
 
--- src/state.rt:171:19
 pub invariant_of-self : goal.invariant_of-self
-invariant_of-self g c = ?
+invariant_of-self g c = kept_still g.O.OpClass.meaning c.self.inside c.self.invariant c.step_slot.new.table c.step_slot.new.slots c.in_err-out.ensures.err c.in_err-out.ensures.err_slots
 
--- src/state.rt:171:19
 pub returns-in_err-out-clause-full : goal.returns-in_err-out-clause-full
-returns-in_err-out-clause-full g c = ?
+returns-in_err-out-clause-full g c = λ h.
+    let s = c.self.inside in
+    let seat = c.args.seat in
+    let slot = get_or s.slots.items seat Free in
+    let out : IsOutgrownBy s.table slot = search rules in
+    subst (λ (x : Stage _ _ _ _). IsHeavyFor g.O.OpClass.meaning c.args.self.now x) (sym (stage_is s c.args.self.now c.self.view_is seat))
+    (heavy_for g.O.OpClass.meaning g.O.OpClass.codes s c.self.invariant seat c.args.self.now c.self.view_is slot (c.self.invariant.slots seat) out)
 
--- src/state.rt:179:24
-pub set_slot-slot-requires-after_bounds : goal.set_slot-slot-requires-after_bounds
-set_slot-slot-requires-after_bounds g c κs within = ?
+pub end_insert-row-requires-clause-seats : goal.end_insert-row-requires-clause-seats
+end_insert-row-requires-clause-seats g c κs within =
+    let s = c.self.inside in
+    steps_length g.O.OpClass.meaning g.O.OpClass.codes s c.self.invariant c.args.seat (get_or s.slots.items c.args.seat Free) c.step_slot.new.table c.step_slot.new.slots.items c.in_ok-out.out c.in_ok-out.ensures.ok
 
--- src/state.rt:182:17
 pub put-requires-after_bounds : goal.put-requires-after_bounds
-put-requires-after_bounds g c κs within = ?
+put-requires-after_bounds g c κs within =
+    let m = g.O.OpClass.meaning in
+    let s = c.self.inside in
+    let seat = c.args.seat in
+    let slot = get_or s.slots.items seat Free in
+    let put : c.in_ok-out.out ≡ outs.Put = c.has_ended.ensures.0 c.if-has_ended.true in
+    let steps = subst (λ (o : InsertOut). StepsFrom m s.table c.step_slot.new.table s.slots.items c.step_slot.new.slots.items seat o slot) put c.in_ok-out.ensures.ok in
+    let low : seat < length s.slots.items = omega (arith, c.self.invariant.seats, c.requires.first) in
+    row_claimed m g.O.OpClass.codes s c.self.invariant seat slot c.end_insert-row.result (c.self.invariant.slots seat) (put_row m g.O.OpClass.codes s c.self.invariant seat slot c.step_slot.new.table c.step_slot.new.slots.items c.end_insert-row.result low steps c.end_insert-row.ensures.row)
 
--- src/state.rt:183:17
 pub append-requires-after_bounds : goal.append-requires-after_bounds
-append-requires-after_bounds g c κs within = ?
+append-requires-after_bounds g c κs within =
+    let s = c.self.inside in
+    let seat = c.args.seat in
+    room_left g.O.OpClass.meaning s c.self.invariant seat (inserting_open (get_or s.slots.items seat Free) (subst (λ (x : Stage _ _ _ _). IsInserting x) (stage_is s c.args.self.now c.self.view_is seat) c.requires.inserting))
 
--- src/state.rt:183:17
-pub invariant_of-self-in-Insert : goal.invariant_of-self-in-Insert
-invariant_of-self-in-Insert g c = ?
+pub invariant_of-self-then-has_ended : goal.invariant_of-self-then-has_ended
+invariant_of-self-then-has_ended g c =
+    let m = g.O.OpClass.meaning in
+    let s = c.self.inside in
+    let seat = c.args.seat in
+    let slot = get_or s.slots.items seat Free in
+    let put : c.in_ok-out.out ≡ outs.Put = c.has_ended.ensures.0 c.if-has_ended.true in
+    let steps = subst (λ (o : InsertOut). StepsFrom m s.table c.step_slot.new.table s.slots.items c.step_slot.new.slots.items seat o slot) put c.in_ok-out.ensures.ok in
+    let low : seat < length s.slots.items = omega (arith, c.self.invariant.seats, c.requires.first) in
+    let row = put_row m g.O.OpClass.codes s c.self.invariant seat slot c.step_slot.new.table c.step_slot.new.slots.items c.end_insert-row.result low steps c.end_insert-row.ensures.row in
+    kept_put m g.O.OpClass.codes s c.self.invariant seat slot c.step_slot.new.table c.put.new.self c.step_slot.new.slots c.end_insert-row.new.slots c.append.new.self c.end_insert-row.result c.requires.first refl steps row
+    c.end_insert-row.ensures.items c.put.ensures.state c.put.ensures.key c.append.ensures.events c.append.ensures.spare
 
-pub invariant_of-self-in_default : goal.invariant_of-self-in_default
-invariant_of-self-in_default g c = ?
+pub invariant_of-self-else-has_ended : goal.invariant_of-self-else-has_ended
+invariant_of-self-else-has_ended g c =
+    let m = g.O.OpClass.meaning in
+    let s = c.self.inside in
+    let seat = c.args.seat in
+    let slot = get_or s.slots.items seat Free in
+    let other : c.in_ok-out.out ≡ outs.Put → ⊥ = λ e. false≢true (sym c.if-has_ended.false ∙ c.has_ended.ensures.1 e) in
+    kept_step m g.O.OpClass.codes s c.self.invariant seat c.in_ok-out.out slot c.step_slot.new.table c.step_slot.new.slots c.requires.first refl other c.in_ok-out.ensures.ok
 
-pub invariant_of-self-else-eq : goal.invariant_of-self-else-eq
-invariant_of-self-else-eq g c = ?
-
--- src/state.rt:163:5
 pub returns-clause-ok : goal.returns-clause-ok
-returns-clause-ok g c = ?
+returns-clause-ok g c =
+    let m = g.O.OpClass.meaning in
+    let s = c.self.inside in
+    let seen = c.args.self.now in
+    let seat = c.args.seat in
+    let slot = get_or s.slots.items seat Free in
+    let stage = stage_is s seen c.self.view_is seat in
+    let low : seat < length s.slots.items = omega (arith, c.self.invariant.seats, c.requires.first) in
+    subst (λ (x : Stage _ _ _ _). IsOutOf seen c.if-has_ended.self seat c.in_ok-out.out x) (sym stage) (elim c.if-has_ended.branch [
+      | then-has_ended w ↦
+          let put : c.in_ok-out.out ≡ outs.Put = c.has_ended.ensures.0 w.if-has_ended.true in
+          let steps = subst (λ (o : InsertOut). StepsFrom m s.table c.step_slot.new.table s.slots.items c.step_slot.new.slots.items seat o slot) put c.in_ok-out.ensures.ok in
+          let row = put_row m g.O.OpClass.codes s c.self.invariant seat slot c.step_slot.new.table c.step_slot.new.slots.items w.end_insert-row.result low steps w.end_insert-row.ensures.row in
+          subst (λ (o : InsertOut). IsOutOf seen c.if-has_ended.self seat o (stage_of slot)) (sym put)
+          (subst (λ (v : Seen _ _ _ _). IsOutOf seen v seat outs.Put (stage_of slot)) (sym w.self-is)
+          (seen_put m g.O.OpClass.codes s c.self.invariant seat seen c.self.view_is slot c.step_slot.new.table c.step_slot.new.slots.items w.end_insert-row.new.slots.items w.end_insert-row.result w.append.new.self.events c.requires.first refl steps row w.end_insert-row.ensures.items w.append.ensures.events))
+      | else-has_ended w ↦
+          let other : c.in_ok-out.out ≡ outs.Put → ⊥ = λ e. false≢true (sym w.if-has_ended.false ∙ c.has_ended.ensures.1 e) in
+          subst (λ (v : Seen _ _ _ _). IsOutOf seen v seat c.in_ok-out.out (stage_of slot)) (sym w.self-is)
+          (seen_step m g.O.OpClass.codes s c.self.invariant seat seen c.self.view_is c.in_ok-out.out slot c.step_slot.new.table c.step_slot.new.slots.items c.requires.first refl other c.in_ok-out.ensures.ok)
+    ])

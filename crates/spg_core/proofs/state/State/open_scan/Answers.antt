@@ -1,0 +1,30 @@
+use Rattle.std.proofs.Common.{◌≡◌, ◌++◌, ◌∷◌, [], get_or, sym, ap, ◌∙◌, arith}
+use Rattle.spg_rows.specs.declared.event.Event.TheVariants.{OpenScan}
+use Rattle.spg_core.specs.declared.slot.Slot.TheVariants.{Free}
+use Rattle.spg_core.specs.Slot.{stage_of}
+use Rattle.spg_core.proofs.Scans.{kept_with_room, kept_opens, opens_scan, stage_is}
+use Rattle.spg_core.proofs.state.State.open_scan.Goals as goal
+
+pub invariant_of-self : goal.invariant_of-self
+invariant_of-self g c = kept_with_room g.O.OpClass.meaning c.self.inside c.self.invariant c.reserve.new.self c.reserve.ensures.events c.reserve.ensures.room
+
+pub invariant_of-self-2 : goal.invariant_of-self-2
+invariant_of-self-2 g c =
+    let m = g.O.OpClass.meaning in
+    let s = c.self.inside in
+    let seat = c.args.seat in
+    let events = c.append.ensures.events ∙ ap (λ j. j ++ OpenScan seat c.in_ok-told.told ∷ []) c.reserve.ensures.events ∙ ap (λ q. s.journal.events ++ OpenScan seat q ∷ []) c.in_ok-told.ensures in
+    let was : stage_of (get_or s.slots.items seat Free) ≡ _ = sym (stage_is s c.args.self.now c.self.view_is seat) ∙ c.requires.free in
+    let full = c.in_ok-reserve.ensures.ok in
+    let spare = c.append.ensures.spare in
+    kept_opens m s c.self.invariant seat c.args.query c.in_ok-scan.scan c.len.result c.at-stamp.result c.set_slot.new.slots c.append.new.self c.requires.first c.in_ok-scan.ensures
+    c.set_slot.ensures.items events was (omega arith)
+
+pub returns-clause-ok : goal.returns-clause-ok
+returns-clause-ok g c =
+    let m = g.O.OpClass.meaning in
+    let s = c.self.inside in
+    let seat = c.args.seat in
+    let events = c.append.ensures.events ∙ ap (λ j. j ++ OpenScan seat c.in_ok-told.told ∷ []) c.reserve.ensures.events ∙ ap (λ q. s.journal.events ++ OpenScan seat q ∷ []) c.in_ok-told.ensures in
+    opens_scan m s c.self.invariant c.args.self.now c.self.view_is seat c.args.query c.in_ok-scan.scan c.len.result c.at-stamp.result c.set_slot.new.slots.items c.append.new.self.events c.requires.first c.in_ok-scan.ensures
+    c.len.ensures (c.at-stamp.ensures ∙ c.clock.ensures.value) c.set_slot.ensures.items events
