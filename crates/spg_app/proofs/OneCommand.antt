@@ -66,14 +66,18 @@ module _ {O Key Recon Cond : Type 0} (m : Meaning Key Recon Cond) (speech : Spee
   drops seat row key cause (descending k d) (a, b) = ap (λ (x : RowAt). Drop seat x cause) b
   drops seat row key cause (reading s) is = absurd is
 
-  module _ (s0 s1 : Seen O Key Recon Cond) (seat : ℕ) (first : seat ≡ 0) (row : RowAt) (key : Point) (k : Key) (named : k ≡ speech.key_in key) (opens : OpensInsert m s0 s1 seat row (Some k)) (r : Record) (claimed : is_claimed row (reverse s0.journal) ≡ false) where
+  module _ (s0 s1 : Seen O Key Recon Cond) (seat : ℕ) (row : RowAt) (k : Key) (opens : OpensInsert m s0 s1 seat row (Some k)) where
     inserts : IsInsertOf row (Some k) (stage_at s1 seat)
     inserts = subst (λ (s : Stage O Key Recon Cond). IsInsertOf row (Some k) s) (sym opens.1) (refl, refl)
 
+    pub not_free : (s2 : Seen O Key Recon Cond) → GoesOn s1 s2 seat → stage_at s2 seat ≡ free → ⊥
+    not_free s2 goes is = subst (λ (s : Stage O Key Recon Cond). IsInsertOf row (Some k) s) is (goes.insert row (Some k) inserts)
+
+  module _ (s0 s1 : Seen O Key Recon Cond) (seat : ℕ) (first : seat ≡ 0) (row : RowAt) (key : Point) (k : Key) (named : k ≡ speech.key_in key) (opens : OpensInsert m s0 s1 seat row (Some k)) (r : Record) (claimed : is_claimed row (reverse s0.journal) ≡ false) where
     pub added : (s2 : Seen O Key Recon Cond) → PutsRow s1 s2 seat → Spans r Added (length s0.journal) (length s2.journal) → Performed m speech s0 s2 (Insert row key) r
     added s2 puts spans = record {
       events = OpenInsert seat row (Some k) ∷ Put seat row ∷ [];
-      journal = two_events s0.journal s1.journal s2.journal (OpenInsert seat row (Some k)) (Put seat row) (ap (λ s. s.journal) opens.0) (puts.journal row (Some k) inserts);
+      journal = two_events s0.journal s1.journal s2.journal (OpenInsert seat row (Some k)) (Put seat row) (ap (λ s. s.journal) opens.0) (puts.journal row (Some k) (inserts s0 s1 seat row k opens));
       by_seat = (first, (first, tt));
       from = spans.from_is;
       to = spans.to_is;
@@ -86,7 +90,7 @@ module _ {O Key Recon Cond : Type 0} (m : Meaning Key Recon Cond) (speech : Spee
 
     module _ (s2 s3 : Seen O Key Recon Cond) (goes : GoesOn s1 s2 seat) (gives : GivesUp s2 s3 seat why.Full) where
       dropped : s3.journal ≡ s1.journal ++ Drop seat row why.Full ∷ []
-      dropped = ap (λ s. s.journal) gives.0 ∙ ap (λ (e : Event O Key Recon Cond). s2.journal ++ e ∷ []) (drops seat row (Some k) why.Full (stage_at s2 seat) (goes.insert row (Some k) inserts))
+      dropped = ap (λ s. s.journal) gives.0 ∙ ap (λ (e : Event O Key Recon Cond). s2.journal ++ e ∷ []) (drops seat row (Some k) why.Full (stage_at s2 seat) (goes.insert row (Some k) (inserts s0 s1 seat row k opens)))
           ∙ ap (λ (j : List (Event O Key Recon Cond)). j ++ Drop seat row why.Full ∷ []) goes.journal
 
       same_keys : opened_keys (reverse s1.journal) ≡ opened_keys (reverse s3.journal)
@@ -100,7 +104,7 @@ module _ {O Key Recon Cond : Type 0} (m : Meaning Key Recon Cond) (speech : Spee
         from = spans.from_is;
         to = spans.to_is;
         does = rw spans.outcome_is (rw (first, named) refl);
-        due = rw spans.outcome_is (claimed, subst (λ (keys : List (Option Key)). 8160 < weight_of m false keys) same_keys (outgrown row (Some k) inserts));
+        due = rw spans.outcome_is (claimed, subst (λ (keys : List (Option Key)). 8160 < weight_of m false keys) same_keys (outgrown row (Some k) (inserts s0 s1 seat row k opens)));
         origin = ap (λ s. s.origin) gives.0 ∙ goes.origin ∙ ap (λ s. s.origin) opens.0;
         pages = λ are. absurd are;
         walk = tt;
