@@ -113,6 +113,7 @@ put_out {Key} {Recon} m t t1 t2 d d2 seat off puts quiet (eS, el) et er = (
   off,
   (λ key C. (
     cost_at d.stand,
+    (λ x. x),
     subst (λ (bs : List ℕ). Adds m (sheets_of t) (sheets_of t2) bs (cost_at d.stand) d.row key (λ x. x)) (sym et)
         (subst (λ (S : Sheets). Adds m (sheets_of t) S t1.touched (cost_at d.stand) d.row key (λ x. x)) (sym eS) (puts key C)),
   )),
@@ -157,6 +158,7 @@ part_out {Key} {Recon} m t t1 t2 d d2 seat off parts calm full (eS, el) et er = 
   off,
   (λ key C. (
     split_cost d.stand 1,
+    (λ x. x),
     subst (λ (bs : List ℕ). Adds m (sheets_of t) (sheets_of t2) bs (split_cost d.stand 1) d.row key (λ x. x)) (sym et)
         (subst (λ (S : Sheets). Adds m (sheets_of t) S t1.touched (split_cost d.stand 1) d.row key (λ x. x)) (sym eS) (parts key C)),
   )),

@@ -23,6 +23,7 @@ use Rattle.spg_scan.specs.Scanning.{Scanning, IsReadOut, IsClosing, opened, empt
 use Rattle.spg_scan.specs.declared.walk.ReadOut.{ReadOut}
 use Rattle.spg_scan.specs.declared.walk.ReadOut.TheVariants.{Read, Latched}
 use Rattle.spg_scan.specs.declared.walk.Closed.{Closed}
+use Rattle.spg_core.proofs.Steps as steps
 use Rattle.spg_core.specs.declared.slot.Slot.{Slot}
 use Rattle.spg_core.specs.declared.slot.Slot.TheVariants.{Free, Insert, Scan}
 use Rattle.spg_core.specs.declared.state.State.TheInside.{Inside}
@@ -127,8 +128,8 @@ module _ {O Key Recon Cond : Type 0} where
     }
 
     -- the same slots again
-    pub kept_still : (slots : Vec (Slot O Key Recon Cond) Global) → slots ≡ s.slots → IsKept m record { alloc = s.alloc; class = s.class; table = s.table; rows = s.rows; slots = slots; journal = s.journal; origin = s.origin }
-    kept_still slots same = subst (λ (l : Vec (Slot O Key Recon Cond) Global). IsKept m record { alloc = s.alloc; class = s.class; table = s.table; rows = s.rows; slots = l; journal = s.journal; origin = s.origin }) (sym same) kept
+    pub kept_still : (slots : Vec (Slot O Key Recon Cond) Global) → slots.items ≡ s.slots.items → IsKept m record { alloc = s.alloc; class = s.class; table = s.table; rows = s.rows; slots = slots; journal = s.journal; origin = s.origin }
+    kept_still slots same = steps.kept_still m s kept s.table slots refl same
 
     -- the seats that have nothing open
     others_free : (seat : ℕ) → (seat ≡ 0 → ⊥) → open_of seat past ≡ nothing
@@ -251,7 +252,7 @@ module _ {O Key Recon Cond : Type 0} where
 
     -- what comes of a read: it is done, or nothing changes
     pub kept_reads_out : (seat item : ℕ) (result : Result ReadOut Memory) (slots : Vec (Slot O Key Recon Cond) Global) → seat ≡ 0 → KeptLaw m → CodeLaw m →
-        IfOk result (λ out. ReadsFrom m s.table s.rows s.slots.items slots.items seat item out (get_or s.slots.items seat Free)) → OnErr result (slots ≡ s.slots) →
+        IfOk result (λ out. ReadsFrom m s.table s.rows s.slots.items slots.items seat item out (get_or s.slots.items seat Free)) → OnErr result (slots.items ≡ s.slots.items) →
         IsKept m record { alloc = s.alloc; class = s.class; table = s.table; rows = s.rows; slots = slots; journal = s.journal; origin = s.origin }
     kept_reads_out seat item (Ok out) slots first K L ok err = kept_reads seat item out slots first K L (get_or s.slots.items seat Free) refl ok
     kept_reads_out seat item (Err e) slots first K L ok err = kept_still slots err
@@ -263,9 +264,9 @@ module _ {O Key Recon Cond : Type 0} where
         subst (ReadsFor m seen new seat item out) (sym (stage_is s seen view seat)) (reads_item seen view seat item out slots first (get_or s.slots.items seat Free) ok)
     reads_item_out seen view seat item (Err e) slots first ok = tt
 
-    pub same_out : (seen : Seen O Key Recon Cond) → seen_of s ≡ seen → (result : Result ReadOut Memory) (slots : Vec (Slot O Key Recon Cond) Global) → OnErr result (slots ≡ s.slots) → OnErr result (seen_as s.journal.events (map stage_of slots.items) s.table s.origin ≡ seen)
+    pub same_out : (seen : Seen O Key Recon Cond) → seen_of s ≡ seen → (result : Result ReadOut Memory) (slots : Vec (Slot O Key Recon Cond) Global) → OnErr result (slots.items ≡ s.slots.items) → OnErr result (seen_as s.journal.events (map stage_of slots.items) s.table s.origin ≡ seen)
     same_out seen view (Ok out) slots err = tt
-    same_out seen view (Err e) slots err = ap (λ (l : Vec (Slot O Key Recon Cond) Global). seen_as s.journal.events (map stage_of l.items) s.table s.origin) err ∙ view
+    same_out seen view (Err e) slots err = ap (λ (l : List (Slot O Key Recon Cond)). seen_as s.journal.events (map stage_of l) s.table s.origin) err ∙ view
 
     -- ---- a scan ends
 

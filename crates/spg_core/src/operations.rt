@@ -8,7 +8,7 @@ ghost use Rattle.spg_core.specs.declared.slot.Slot.TheVariants as kept;
 ghost use Rattle.spg_core.specs.Slot.{GivesBack};
 ghost use Rattle.spg_core.specs.Operations.{CanStep, StepsSlot, IsOutgrownBy, CanRead, ReadsSlot, CanClose, ClosesSlot, CanRelease, IsInsert, IsRowOf};
 ghost use Rattle.spg_core.specs.Stepping.{SamePages};
-ghost use Rattle.spg_scan.specs.Scanning.{IsClosing};
+ghost use Rattle.spg_scan.specs.Scanning.{IsClosing, emptied};
 
 use crate::answer::InsertOut;
 use crate::insert::step;
@@ -96,6 +96,7 @@ fn copied(mut told: Vec<Row>, rows: &[Row]) -> Rows
 fn close_twice<O: OpClass>(alloc: Global, scan: &mut Scan<O>) -> Result<(Rows, Closed), Memory>
     requires { scan.old.items ≡ [] }
     ensures ok { IfOk result (λ closed. IsClosing scan.old closed.1) }
+    ensures after { IfOk result (λ _. scan.new ≡ emptied scan.old) }
     ensures told { IfOk result (λ closed. closed.0 ≡ closed.1.rows) }
     ensures err { OnErr result (scan.new ≡ scan.old) }
 {

@@ -1,8 +1,10 @@
-use Rattle.std.proofs.Common.{◌≡◌, ◌++◌, ◌∷◌, [], get_or, sym, ap, ◌∙◌, arith}
+use Rattle.std.proofs.Common.{◌≡◌, ◌++◌, ◌∷◌, [], get_or, map, sym, ap, ◌∙◌, arith}
 use Rattle.spg_rows.specs.declared.event.Event.TheVariants.{OpenScan}
 use Rattle.spg_core.specs.declared.slot.Slot.TheVariants.{Free}
 use Rattle.spg_core.specs.Slot.{stage_of}
 use Rattle.spg_core.proofs.Scans.{kept_with_room, kept_opens, opens_scan, stage_is}
+use Rattle.spg_core.proofs.Slots.{seen_as}
+use Rattle.spg_core.proofs.Steps.{on_err}
 use Rattle.spg_core.proofs.state.State.open_scan.Goals as goal
 
 pub invariant_of-self : goal.invariant_of-self
@@ -28,3 +30,9 @@ returns-clause-ok g c =
     let events = c.append.ensures.events ∙ ap (λ j. j ++ OpenScan seat c.in_ok-told.told ∷ []) c.reserve.ensures.events ∙ ap (λ q. s.journal.events ++ OpenScan seat q ∷ []) c.in_ok-told.ensures in
     opens_scan m s c.self.invariant c.args.self.now c.self.view_is seat c.args.query c.in_ok-scan.scan c.len.result c.at-stamp.result c.set_slot.new.slots.items c.append.new.self.events c.requires.first c.in_ok-scan.ensures
     c.len.ensures (c.at-stamp.ensures ∙ c.clock.ensures.value) c.set_slot.ensures.items events
+
+pub returns-in_err-reserve-clause-err : goal.returns-in_err-reserve-clause-err
+returns-in_err-reserve-clause-err g c =
+    let s = c.self.inside in
+    let e = ap (λ j. seen_as j (map stage_of s.slots.items) s.table s.origin) c.reserve.ensures.events ∙ c.self.view_is in
+    on_err c.from_residual-in_err-reserve.result e
