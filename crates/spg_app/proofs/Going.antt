@@ -9,7 +9,7 @@ use Rattle.spg_tree.specs.Descents.{Descending}
 use Rattle.spg_core.specs.declared.answer.InsertOut.{InsertOut}
 use Rattle.spg_core.specs.declared.answer.InsertOut.TheVariants.{Descended, Restructured, Restarted, Put}
 use Rattle.spg_core.specs.Stage.{Stage, free, descending, reading, IsInserting}
-use Rattle.spg_core.specs.Seen.{Seen, stage_at, moved, logged, past_of}
+use Rattle.spg_core.specs.Seen.{Seen, stage_at, moved, past_of}
 use Rattle.spg_core.specs.Sections.{IsAfterSection, IsOutOf, IsInsertOut, IsHeavyFor, IsHeavy}
 use Rattle.spg_core.specs.Weight.{opened_keys}
 use Rattle.spg_app.specs.Underway.{IsInsertOf, GoesOn, PutsRow, HasOutgrown}

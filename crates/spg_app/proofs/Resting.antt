@@ -1,5 +1,5 @@
 -- A read of a scan, and what a scan of pages at rest tells at its end.
-use Rattle.std.proofs.Common.{◌≡◌, ◌+◌, ℕ, List, [], Option, refl, sym, ap, ◌∙◌, subst, arith, min}
+use Rattle.std.proofs.Common.{◌≡◌, ◌+◌, ℕ, List, Option, refl, sym, ap, ◌∙◌, subst, arith}
 use Rattle.spg_opclass.specs.Meaning.{Meaning}
 use Rattle.spg_opclass.specs.declared.query.Query.{Query}
 use Rattle.spg_forest.specs.View.{Place}
@@ -9,13 +9,12 @@ use Rattle.spg_forest.specs.Shape.{Shape, spots}
 use Rattle.spg_forest.specs.Walk.{Met, Walk, followed}
 use Rattle.spg_rows.specs.Table as rows
 use Rattle.spg_tree.specs.Table.{Table, sheets_of}
-use Rattle.spg_scan.specs.Scanning.{Scanning, Reads, IsReadOut, counted, opened}
-use Rattle.spg_scan.specs.Rest.{IsAtRest}
+use Rattle.spg_scan.specs.Scanning.{Scanning, IsReadOut, counted}
 use Rattle.spg_scan.specs.declared.walk.ReadOut.{ReadOut}
 use Rattle.spg_scan.specs.declared.walk.ReadOut.TheVariants.{Read, Latched}
 use Rattle.spg_scan.proofs.RestLaws.{opens_at_rest, keeps_at_rest}
 use Rattle.spg_core.specs.Stage.{Stage, free, descending, reading, IsRead}
-use Rattle.spg_core.specs.Seen.{Seen, stage_at, moved}
+use Rattle.spg_core.specs.Seen.{Seen, stage_at}
 use Rattle.spg_core.specs.Sections.{ReadsFor, ReadsItem, HasMet, OpensScan}
 use Rattle.spg_app.specs.Walks.{IsToldWalk}
 use Rattle.spg_app.specs.Underway.{IsScanning, IsRestingScan, ReadsOn}

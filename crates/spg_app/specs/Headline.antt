@@ -1,8 +1,6 @@
 -- What each answer of the program says of what was read, done and written.
 use Rattle.std.specs.Prelude.{◌≡◌, ◌≢◌, ◌⊎◌, ◌<◌, ◌≤◌, List, [], ◌∷◌, ℕ, length, codes, Option, Some, None, IsSomeAnd, ⊤}
 use Rattle.std.specs.Io.KnownBytes.{Appends}
-use Rattle.spg_base.specs.declared.point.Point.{Point}
-use Rattle.spg_base.specs.declared.point.PointCond.{PointCond}
 use Rattle.spg_opclass.specs.Meaning.{Meaning}
 use Rattle.spg_quad.specs.Quad.{quad_meaning}
 use Rattle.spg_kd.specs.Kd.{kd_meaning}

@@ -1,7 +1,6 @@
 -- When a journal and a list of records are a run of a list of commands.
 use Rattle.std.specs.Prelude.{◌≡◌, ◌<◌, ◌≤◌, ◌⊎◌, ◌-◌, ◌++◌, ℕ, true, false, List, [], ◌∷◌, length, take, drop, reverse, slice_get, Some, IsSomeAnd, ⊤}
 use Rattle.std.specs.List.{AllZip, AllByRecursion}
-use Rattle.spg_base.specs.declared.names.Span.{Span}
 use Rattle.spg_opclass.specs.Meaning.{Meaning}
 use Rattle.spg_forest.specs.Walk.{weight_of}
 use Rattle.spg_rows.specs.declared.event.Event.{Event}

@@ -1,4 +1,4 @@
-use Rattle.std.proofs.Common.{◌≡◌, Bool, true, false, Err, reverse, length, ap, ◌∙◌}
+use Rattle.std.proofs.Common.{◌≡◌, false, Err, reverse, length, ap, ◌∙◌}
 use Rattle.spg_rows.specs.Rows.{is_claimed}
 use Rattle.spg_app.specs.declared.record.Outcome.TheVariants.{Added, RowUsed, Full}
 use Rattle.spg_app.proofs.OneCommand.{not_true, ok_not_err, Spans, row_used, added, full, not_free}

@@ -1,4 +1,4 @@
-use Rattle.std.proofs.Common.{◌≡◌, rules, sym}
+use Rattle.std.proofs.Common.{◌≡◌, rules}
 use Rattle.spg_core.specs.Sections.{IsHeavy}
 use Rattle.spg_core.specs.declared.answer.InsertOut.TheVariants.{Put}
 use Rattle.spg_app.proofs.Going.{goes_further, goes_inserting, puts, outgrown}
