@@ -1,7 +1,7 @@
 -- From the run of commands to the answer of the program, and what the answers decide.
-use Rattle.std.proofs.Common.{◌≡◌, ◌⊎◌, ◌<◌, ◌≤◌, ◌+◌, ◌-◌, inl, inr, ℕ, List, [], ◌∷◌, ◌++◌, length, take, drop, Option, Some, None, refl, sym, ap, ◌∙◌, subst, arith, length-append, append-nil, take-append-drop}
+use Rattle.std.proofs.Common.{◌≡◌, ◌⊎◌, ◌<◌, ◌≤◌, ◌+◌, ◌-◌, inl, inr, ℕ, List, [], ◌∷◌, ◌++◌, length, take, drop, Option, Some, None, refl, sym, ap, ◌∙◌, subst, arith, length-append, append-nil}
 use Rattle.std.specs.Prelude.{codes}
-use Rattle.std.specs.Io.KnownBytes.{Consumes, IsAtEnd, Appends}
+use Rattle.std.specs.Io.KnownBytes.{Consumes, IsAtEnd}
 use Rattle.std.proofs.lemmas.List.{append_assoc}
 use Rattle.std.proofs.Math.Seq.{take-add}
 use Rattle.std.proofs.lemmas.Bool.{cases_lt}
@@ -23,11 +23,11 @@ use Rattle.spg_app.specs.declared.session.Ending.TheVariants as ending
 use Rattle.spg_app.specs.declared.status.Status.{Status}
 use Rattle.spg_app.specs.declared.status.Status.TheVariants.{Done, Usage, BadScript, ReadFault, WriteFault, Memory}
 use Rattle.spg_app.specs.declared.stream.TheConstants.{LONGEST}
-use Rattle.spg_app.specs.Io.{ReadWhole, ReadMore}
+use Rattle.spg_app.specs.Io.{ReadMore}
 use Rattle.spg_app.specs.Speech.{point_speech}
 use Rattle.spg_app.specs.Script.{lines_of, IsScript, CanGoOn, IsFirstBad}
 use Rattle.spg_app.specs.Ending.{Ends}
-use Rattle.spg_app.specs.Headline.{Streams, GaveScript, GaveNoScript, Ran, EndsRun, IsAnswer, HoldsScript, HoldsNoScript, NoFault, ended}
+use Rattle.spg_app.specs.Headline.{Streams, GaveScript, GaveNoScript, EndsRun, IsAnswer, HoldsScript, HoldsNoScript, NoFault, ended}
 use Rattle.spg_app.proofs.ScriptLines.{no_script}
 
 -- ---- the answer of a run of commands
@@ -38,14 +38,14 @@ module _ (io : Streams) (script : Script) (gave : GaveScript io.left io.left_aft
   quad_answers is (ending.Done seen) ends = record { script = script; gave = gave; of_class = is; run = ends }
   quad_answers is (ending.WriteFault seen) ends = (record { script = script; gave = gave; of_class = is; run = ends.0 }, ends.1)
   quad_answers is ending.Memory (inl nothing) = inl nothing
-  quad_answers is ending.Memory (inr (journal, run)) = inr (state.Quad (record { journal = journal; stages = [] }), record { script = script; gave = gave; of_class = is; run = run })
+  quad_answers is ending.Memory (inr (seen, run)) = inr (state.Quad seen, record { script = script; gave = gave; of_class = is; run = run })
 
   pub kd_answers : script.class ≡ class.Kd → (how : Ending Kd Point KdRecon PointCond) → Ends kd_meaning point_speech script.commands io.taken io.taken_after io.write_faults io.write_faults_after how
       → IsAnswer io (codes "run" ∷ []) (ended state.Kd how).0 (ended state.Kd how).1
   kd_answers is (ending.Done seen) ends = record { script = script; gave = gave; of_class = is; run = ends }
   kd_answers is (ending.WriteFault seen) ends = (record { script = script; gave = gave; of_class = is; run = ends.0 }, ends.1)
   kd_answers is ending.Memory (inl nothing) = inl nothing
-  kd_answers is ending.Memory (inr (journal, run)) = inr (state.Kd (record { journal = journal; stages = [] }), record { script = script; gave = gave; of_class = is; run = run })
+  kd_answers is ending.Memory (inr (seen, run)) = inr (state.Kd seen, record { script = script; gave = gave; of_class = is; run = run })
 
 -- ---- what a source that tells its bytes gave
 

@@ -4,5 +4,7 @@ pub mod CondsLemmas
 pub mod ScriptLines
 pub mod Streams
 pub mod Runs
+pub mod Going
+pub mod Resting
 pub mod OneCommand
 pub mod Complete

@@ -1,5 +1,5 @@
 -- The lines of a script, one after another.
-use Rattle.std.proofs.Common.{◌≡◌, ◌+◌, inl, inr, ℕ, List, [], ◌∷◌, ◌++◌, take, drop, refl, ap, ◌∙◌, add-one}
+use Rattle.std.proofs.Common.{◌≡◌, ◌+◌, inl, inr, ℕ, List, [], ◌∷◌, take, drop, refl, ap, ◌∙◌, add-one}
 use Rattle.std.proofs.lemmas.Bool.Decides.{eqb_tells}
 use Rattle.spg_app.specs.Script.{onto_first, lines_of}
 use Rattle.spg_app.specs.Reading.{len_before}

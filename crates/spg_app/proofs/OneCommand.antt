@@ -1,22 +1,33 @@
--- What one command adds to a journal, and why its outcome is due.
-use Rattle.std.proofs.Common.{◌≡◌, ◌≢◌, ◌+◌, ℕ, Bool, true, false, List, [], ◌∷◌, ◌++◌, length, reverse, Some, Result, Ok, Err, refl, sym, ap, ◌∙◌}
+-- What one command adds to a state, and why its outcome is due.
+use Rattle.std.proofs.Common.{◌≡◌, ◌<◌, ℕ, Bool, true, false, List, [], ◌∷◌, ◌++◌, length, reverse, Option, Some, Result, Ok, Err, refl, sym, ap, ◌∙◌, subst}
 use Rattle.std.proofs.lemmas.List.{append_assoc, append-nil, reverse-append}
 use Rattle.spg_base.specs.Row.{RowAt}
 use Rattle.spg_base.specs.declared.point.Point.{Point}
+use Rattle.spg_opclass.specs.Meaning.{Meaning}
 use Rattle.spg_opclass.specs.declared.query.Query.{Query}
+use Rattle.spg_forest.specs.Shape.{Shape}
+use Rattle.spg_forest.specs.Walk.{weight_of}
 use Rattle.spg_rows.specs.declared.event.Event.{Event}
 use Rattle.spg_rows.specs.declared.event.Event.TheVariants.{OpenInsert, Put, Drop, OpenScan, CloseScan}
+use Rattle.spg_rows.specs.declared.event.Why.{Why}
 use Rattle.spg_rows.specs.declared.event.Why.TheVariants as why
-use Rattle.spg_rows.specs.Rows.{is_claimed, present_count}
-use Rattle.spg_core.specs.Stage.{Stage}
-use Rattle.spg_core.specs.Seen.{Seen, logged}
+use Rattle.spg_rows.specs.Rows.{is_claimed}
+use Rattle.spg_tree.specs.Table.{Table, sheets_of}
+use Rattle.spg_scan.specs.declared.walk.Closed.{Closed}
+use Rattle.spg_core.specs.Stage.{Stage, free, descending, reading, given_up}
+use Rattle.spg_core.specs.Seen.{Seen, stage_at}
+use Rattle.spg_core.specs.Sections.{OpensInsert, OpensScan, ClosesScan, GivesUp}
+use Rattle.spg_core.specs.Weight.{opened_keys}
 use Rattle.spg_app.specs.declared.command.AnyQuery.{AnyQuery}
 use Rattle.spg_app.specs.declared.command.Command.TheVariants.{Insert, Find}
 use Rattle.spg_app.specs.declared.record.Outcome.{Outcome}
 use Rattle.spg_app.specs.declared.record.Outcome.TheVariants.{Added, RowUsed, Full, Found}
 use Rattle.spg_app.specs.declared.record.Record.{Record}
 use Rattle.spg_app.specs.Speech.{Speech, query_in}
+use Rattle.spg_app.specs.Walks.{TellsWalk, IsToldWalk}
 use Rattle.spg_app.specs.Run.{Performed}
+use Rattle.spg_app.specs.Underway.{IsInsertOf, GoesOn, PutsRow, HasOutgrown, ReadsToEnd}
+use Rattle.spg_app.proofs.Resting.{opens_resting, told}
 
 pub not_true : (b : Bool) → (b ≡ true → ⊥) → b ≡ false
 not_true true no_true = absurd (no_true refl)
@@ -31,14 +42,12 @@ pub record Spans (r : Record) (outcome : Outcome) (from to : ℕ) : Type 0 where
   pub from_is : r.span.from ≡ from
   pub to_is : r.span.to ≡ to
 
-module _ {O Key Recon Cond : Type 0} (speech : Speech Key Cond) where
-  two_events : (s0 s1 s2 s3 : Seen O Key Recon Cond) (seat : ℕ) (a b : Event O Key Recon Cond) (t u : Stage O Key Recon Cond) → s1 ≡ logged s0 seat a t → s2.journal ≡ s1.journal → s3 ≡ logged s2 seat b u
-      → s3.journal ≡ s0.journal ++ a ∷ b ∷ []
-  two_events s0 s1 s2 s3 seat a b t u first between second =
-      ap (λ s. s.journal) second ∙ ap (λ j. j ++ b ∷ []) (between ∙ ap (λ s. s.journal) first) ∙ append_assoc s0.journal (a ∷ []) (b ∷ [])
+module _ {O Key Recon Cond : Type 0} (m : Meaning Key Recon Cond) (speech : Speech Key Cond) where
+  two_events : (old opened new : List (Event O Key Recon Cond)) (a b : Event O Key Recon Cond) → opened ≡ old ++ a ∷ [] → new ≡ opened ++ b ∷ [] → new ≡ old ++ a ∷ b ∷ []
+  two_events old opened new a b first second = second ∙ ap (λ j. j ++ b ∷ []) first ∙ append_assoc old (a ∷ []) (b ∷ [])
 
   pub row_used : (s0 s1 : Seen O Key Recon Cond) (row : RowAt) (key : Point) (r : Record) → s1 ≡ s0 → Spans r RowUsed (length s0.journal) (length s1.journal) → is_claimed row (reverse s0.journal) ≡ true
-      → Performed speech s0.journal s1.journal (Insert row key) r
+      → Performed m speech s0 s1 (Insert row key) r
   row_used s0 s1 row key r same spans claimed = record {
     events = [];
     journal = ap (λ s. s.journal) same ∙ sym (append-nil s0.journal);
@@ -47,44 +56,80 @@ module _ {O Key Recon Cond : Type 0} (speech : Speech Key Cond) where
     to = spans.to_is;
     does = rw spans.outcome_is refl;
     due = rw spans.outcome_is claimed;
+    origin = ap (λ s. s.origin) same;
+    pages = λ are. absurd are;
+    walk = tt;
   }
 
-  module _ (s0 s1 s2 s3 : Seen O Key Recon Cond) (seat : ℕ) (first : seat ≡ 0) (row : RowAt) (key : Point) (k : Key) (named : k ≡ speech.key_in key) (t u : Stage O Key Recon Cond)
-      (opened : s1 ≡ logged s0 seat (OpenInsert seat row (Some k)) t) (between : s2.journal ≡ s1.journal) (r : Record) (claimed : is_claimed row (reverse s0.journal) ≡ false) where
-    count : present_count (reverse s2.journal) ≡ present_count (reverse s0.journal)
-    count = ap present_count (ap reverse (between ∙ ap (λ s. s.journal) opened) ∙ reverse-append s0.journal (OpenInsert seat row (Some k) ∷ []))
+  drops : (seat : ℕ) (row : RowAt) (key : Option Key) (cause : Why) (stage : Stage O Key Recon Cond) → IsInsertOf row key stage → given_up seat stage cause ≡ Drop seat row cause
+  drops seat row key cause free is = absurd is
+  drops seat row key cause (descending k d) (a, b) = ap (λ (x : RowAt). Drop seat x cause) b
+  drops seat row key cause (reading s) is = absurd is
 
-    pub added : s3 ≡ logged s2 seat (Put seat row) u → Spans r Added (length s0.journal) (length s3.journal) → (present_count (reverse s2.journal) ≡ 291 → ⊥) → Performed speech s0.journal s3.journal (Insert row key) r
-    added put spans room = record {
+  module _ (s0 s1 : Seen O Key Recon Cond) (seat : ℕ) (row : RowAt) (k : Key) (opens : OpensInsert m s0 s1 seat row (Some k)) where
+    inserts : IsInsertOf row (Some k) (stage_at s1 seat)
+    inserts = subst (λ (s : Stage O Key Recon Cond). IsInsertOf row (Some k) s) (sym opens.1) (refl, refl)
+
+    pub not_free : (s2 : Seen O Key Recon Cond) → GoesOn s1 s2 seat → stage_at s2 seat ≡ free → ⊥
+    not_free s2 goes is = subst (λ (s : Stage O Key Recon Cond). IsInsertOf row (Some k) s) is (goes.insert row (Some k) inserts)
+
+  module _ (s0 s1 : Seen O Key Recon Cond) (seat : ℕ) (first : seat ≡ 0) (row : RowAt) (key : Point) (k : Key) (named : k ≡ speech.key_in key) (opens : OpensInsert m s0 s1 seat row (Some k)) (r : Record) (claimed : is_claimed row (reverse s0.journal) ≡ false) where
+    pub added : (s2 : Seen O Key Recon Cond) → PutsRow s1 s2 seat → Spans r Added (length s0.journal) (length s2.journal) → Performed m speech s0 s2 (Insert row key) r
+    added s2 puts spans = record {
       events = OpenInsert seat row (Some k) ∷ Put seat row ∷ [];
-      journal = two_events s0 s1 s2 s3 seat (OpenInsert seat row (Some k)) (Put seat row) t u opened between put;
+      journal = two_events s0.journal s1.journal s2.journal (OpenInsert seat row (Some k)) (Put seat row) (ap (λ s. s.journal) opens.0) (puts.journal row (Some k) (inserts s0 s1 seat row k opens));
       by_seat = (first, (first, tt));
       from = spans.from_is;
       to = spans.to_is;
       does = rw spans.outcome_is (rw (first, named) refl);
-      due = rw spans.outcome_is (claimed, λ full. room (count ∙ full));
+      due = rw spans.outcome_is claimed;
+      origin = puts.origin ∙ ap (λ s. s.origin) opens.0;
+      pages = λ are. absurd are;
+      walk = tt;
     }
 
-    pub full : s3 ≡ logged s2 seat (Drop seat row why.Full) u → Spans r Full (length s0.journal) (length s3.journal) → present_count (reverse s2.journal) ≡ 291 → Performed speech s0.journal s3.journal (Insert row key) r
-    full dropped spans is_full = record {
-      events = OpenInsert seat row (Some k) ∷ Drop seat row why.Full ∷ [];
-      journal = two_events s0 s1 s2 s3 seat (OpenInsert seat row (Some k)) (Drop seat row why.Full) t u opened between dropped;
+    module _ (s2 s3 : Seen O Key Recon Cond) (goes : GoesOn s1 s2 seat) (gives : GivesUp s2 s3 seat why.Full) where
+      dropped : s3.journal ≡ s1.journal ++ Drop seat row why.Full ∷ []
+      dropped = ap (λ s. s.journal) gives.0 ∙ ap (λ (e : Event O Key Recon Cond). s2.journal ++ e ∷ []) (drops seat row (Some k) why.Full (stage_at s2 seat) (goes.insert row (Some k) (inserts s0 s1 seat row k opens)))
+          ∙ ap (λ (j : List (Event O Key Recon Cond)). j ++ Drop seat row why.Full ∷ []) goes.journal
+
+      same_keys : opened_keys (reverse s1.journal) ≡ opened_keys (reverse s3.journal)
+      same_keys = sym (ap opened_keys (ap reverse dropped ∙ reverse-append s1.journal (Drop seat row why.Full ∷ [])))
+
+      pub full : HasOutgrown m s1 seat → Spans r Full (length s0.journal) (length s3.journal) → Performed m speech s0 s3 (Insert row key) r
+      full outgrown spans = record {
+        events = OpenInsert seat row (Some k) ∷ Drop seat row why.Full ∷ [];
+        journal = two_events s0.journal s1.journal s3.journal (OpenInsert seat row (Some k)) (Drop seat row why.Full) (ap (λ s. s.journal) opens.0) dropped;
+        by_seat = (first, (first, tt));
+        from = spans.from_is;
+        to = spans.to_is;
+        does = rw spans.outcome_is (rw (first, named) refl);
+        due = rw spans.outcome_is (claimed, subst (λ (keys : List (Option Key)). 8160 < weight_of m false keys) same_keys (outgrown row (Some k) (inserts s0 s1 seat row k opens)));
+        origin = ap (λ s. s.origin) gives.0 ∙ goes.origin ∙ ap (λ s. s.origin) opens.0;
+        pages = λ are. absurd are;
+        walk = tt;
+      }
+
+  module _ (s0 s1 s2 s3 : Seen O Key Recon Cond) (seat : ℕ) (first : seat ≡ 0) (query : AnyQuery) (q : Query O Key Recon Cond) (asked : q ≡ query_in speech query) (closed : Closed) (r : Record) (shape : Shape m (sheets_of s1.table))
+      (opens : OpensScan m s0 s1 seat q) (reads : ReadsToEnd m s1 s2 seat) (closes : ClosesScan s2 s3 seat closed) where
+    same_pages : s3.table ≡ s1.table
+    same_pages = ap (λ s. s.table) closes.0 ∙ reads.reads.table
+
+    walked : IsToldWalk {O = O} m (sheets_of s3.table) (query_in speech query) closed.met
+    walked =
+        let at_end : IsToldWalk {O = O} m (sheets_of s1.table) q closed.met = told m (sheets_of s1.table) q closed.met (stage_at s2 seat) (reads.reads.scan q (opens_resting m s0 s1 seat q shape opens)) reads.end closes.2 in
+        subst (λ (t : Table). IsToldWalk {O = O} m (sheets_of t) (query_in speech query) closed.met) (sym same_pages) (subst (λ (x : Query O Key Recon Cond). IsToldWalk {O = O} m (sheets_of s1.table) x closed.met) asked at_end)
+
+    pub found : Spans r (Found closed.rows closed.met) (length s0.journal) (length s3.journal) → Performed m speech s0 s3 (Find query) r
+    found spans = record {
+      events = OpenScan seat q ∷ CloseScan seat closed.rows ∷ [];
+      journal = two_events s0.journal s2.journal s3.journal (OpenScan seat q) (CloseScan seat closed.rows) (reads.reads.journal ∙ ap (λ s. s.journal) opens.0) (ap (λ s. s.journal) closes.0);
       by_seat = (first, (first, tt));
       from = spans.from_is;
       to = spans.to_is;
-      does = rw spans.outcome_is (rw (first, named) refl);
-      due = rw spans.outcome_is (claimed, sym count ∙ is_full);
+      does = rw spans.outcome_is (rw (first, asked) refl);
+      due = tt;
+      origin = ap (λ s. s.origin) closes.0 ∙ reads.reads.origin ∙ ap (λ s. s.origin) opens.0;
+      pages = λ are. same_pages ∙ ap (λ s. s.table) opens.0;
+      walk = subst (λ (o : Outcome). TellsWalk O m speech (sheets_of s3.table) (Find query) o) (sym spans.outcome_is) walked;
     }
-
-  pub found : (s0 s1 s2 s3 : Seen O Key Recon Cond) (seat : ℕ) → seat ≡ 0 → (query : AnyQuery) (q : Query O Key Recon Cond) → q ≡ query_in speech query → (rows : List RowAt) (walk : ℕ) (t u : Stage O Key Recon Cond)
-      → s1 ≡ logged s0 seat (OpenScan seat q) t → s2.journal ≡ s1.journal → s3 ≡ logged s2 seat (CloseScan seat rows) u → (r : Record) → Spans r (Found rows walk) (length s0.journal) (length s3.journal)
-      → walk ≡ present_count (reverse s2.journal) → Performed speech s0.journal s3.journal (Find query) r
-  found s0 s1 s2 s3 seat first query q asked rows walk t u opened between closed r spans met = record {
-    events = OpenScan seat q ∷ CloseScan seat rows ∷ [];
-    journal = two_events s0 s1 s2 s3 seat (OpenScan seat q) (CloseScan seat rows) t u opened between closed;
-    by_seat = (first, (first, tt));
-    from = spans.from_is;
-    to = spans.to_is;
-    does = rw spans.outcome_is (rw (first, asked) refl);
-    due = rw spans.outcome_is (met ∙ sym (ap present_count (ap reverse (ap (λ s. s.journal) closed) ∙ reverse-append s2.journal (CloseScan seat rows ∷ []))));
-  }

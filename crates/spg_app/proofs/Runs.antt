@@ -1,14 +1,23 @@
 -- A run goes on by one command.
-use Rattle.std.proofs.Common.{◌≡◌, ◌⊎◌, ◌<◌, ◌≤◌, ◌+◌, ◌-◌, ◌==◌, inl, inr, ℕ, zero, suc, true, List, [], ◌∷◌, ◌++◌, length, take, drop, reverse, refl, sym, ap, ◌∙◌, subst, arith, length-append, length-drop}
+use Rattle.std.proofs.Common.{◌≡◌, ◌⊎◌, ◌<◌, ◌≤◌, ◌+◌, ◌-◌, inl, inr, ℕ, zero, suc, List, [], ◌∷◌, ◌++◌, length, take, drop, reverse, refl, sym, ap, ◌∙◌, subst, arith, length-append, length-drop}
 use Rattle.std.specs.List.{AllZip, AllByRecursion}
 use Rattle.std.proofs.lemmas.List.{drop-append-le, take-append-le, take_at, drop_at, take_all}
 use Rattle.std.proofs.lemmas.Bool.{cases_lt, eq-eqb}
+use Rattle.spg_base.specs.Row.{RowAt}
+use Rattle.spg_base.specs.declared.point.Point.{Point}
+use Rattle.spg_opclass.specs.Meaning.{Meaning}
+use Rattle.spg_forest.specs.Sheets.{Sheets}
 use Rattle.spg_rows.specs.declared.event.Event.{Event}
 use Rattle.spg_rows.specs.History.{seat_of, own}
+use Rattle.spg_tree.specs.Table.{Table, sheets_of}
+use Rattle.spg_core.specs.Seen.{Seen}
+use Rattle.spg_app.specs.declared.command.AnyQuery.{AnyQuery}
 use Rattle.spg_app.specs.declared.command.Command.{Command}
+use Rattle.spg_app.specs.declared.command.Command.TheVariants.{Insert, Find}
 use Rattle.spg_app.specs.declared.record.Record.{Record}
 use Rattle.spg_app.specs.Speech.{Speech}
-use Rattle.spg_app.specs.Run.{Does, IsDue, between, past_at, IsBySeat, Did, InOrder, IsInSome, RunOf, Performed}
+use Rattle.spg_app.specs.Walks.{TellsWalk, AreFinds, TellsWalks}
+use Rattle.spg_app.specs.Run.{Does, IsDue, between, past_at, IsBySeat, Did, InOrder, IsInSome, RunOf, RunTo, Performed}
 
 -- ---- records in order
 
@@ -35,7 +44,36 @@ each_push R [] (b ∷ ys) x y all one = absurd all
 each_push R (a ∷ xs) [] x y all one = absurd all
 each_push R (a ∷ xs) (b ∷ ys) x y all one = (all.0, each_push R xs ys x y all.1 one)
 
-module _ {O Key Recon Cond : Type 0} (speech : Speech Key Cond) where
+-- ---- what the finds at the end tell
+
+not_finds : (commands : List Command) (row : RowAt) (key : Point) → AreFinds (commands ++ Insert row key ∷ []) → ⊥
+not_finds [] row key are = are
+not_finds (Insert row2 key2 ∷ commands) row key are = are
+not_finds (Find query ∷ commands) row key are = not_finds commands row key are
+
+finds_front : (commands : List Command) (c : Command) → AreFinds (commands ++ c ∷ []) → AreFinds commands
+finds_front [] c are = tt
+finds_front (Insert row2 key2 ∷ commands) c are = are
+finds_front (Find query ∷ commands) c are = finds_front commands c are
+
+module _ {Key Recon Cond : Type 0} (O : Type 0) (m : Meaning Key Recon Cond) (speech : Speech Key Cond) where
+  -- a find leaves the pages as they are
+  after_find : (S : Sheets) (commands : List Command) (records : List Record) (query : AnyQuery) (r : Record) → TellsWalks O m speech S commands records → TellsWalk O m speech S (Find query) r.outcome
+      → TellsWalks O m speech S (commands ++ Find query ∷ []) (records ++ r ∷ [])
+  after_find S [] [] query r tells one = (λ _. one, tt)
+  after_find S [] (x ∷ records) query r tells one = absurd tells
+  after_find S (c ∷ commands) [] query r tells one = absurd tells
+  after_find S (c ∷ commands) (x ∷ records) query r tells one = (λ are. tells.0 (finds_front commands (Find query) are), after_find S commands records query r tells.1 one)
+
+  -- no find before an insert is at the end
+  after_insert : (S S2 : Sheets) (commands : List Command) (records : List Record) (row : RowAt) (key : Point) (r : Record) → TellsWalks O m speech S commands records
+      → TellsWalks O m speech S2 (commands ++ Insert row key ∷ []) (records ++ r ∷ [])
+  after_insert S S2 [] [] row key r tells = (λ _. tt, tt)
+  after_insert S S2 [] (x ∷ records) row key r tells = absurd tells
+  after_insert S S2 (c ∷ commands) [] row key r tells = absurd tells
+  after_insert S S2 (c ∷ commands) (x ∷ records) row key r tells = (λ are. absurd (not_finds commands row key are), after_insert S S2 commands records row key r tells.1)
+
+module _ {O Key Recon Cond : Type 0} (m : Meaning Key Recon Cond) (speech : Speech Key Cond) where
   -- ---- one list of events before another
 
   between-grows : (low high : ℕ) (journal more : List (Event O Key Recon Cond)) → low ≤ high → high ≤ length journal → between low high (journal ++ more) ≡ between low high journal
@@ -50,7 +88,7 @@ module _ {O Key Recon Cond : Type 0} (speech : Speech Key Cond) where
   IsBySeat-grows seat (e ∷ journal) more zero within is = is
   IsBySeat-grows seat (e ∷ journal) more (suc at) within is = IsBySeat-grows seat journal more at (omega arith) is
 
-  Did-grows : (seat : ℕ) (journal more : List (Event O Key Recon Cond)) (command : Command) (r : Record) → r.span.from ≤ r.span.to → r.span.to ≤ length journal → Did speech seat journal command r → Did speech seat (journal ++ more) command r
+  Did-grows : (seat : ℕ) (journal more : List (Event O Key Recon Cond)) (command : Command) (r : Record) → r.span.from ≤ r.span.to → r.span.to ≤ length journal → Did m speech seat journal command r → Did m speech seat (journal ++ more) command r
   Did-grows seat journal more command r le within did = record {
     does = rw (between-grows r.span.from r.span.to journal more le within) did.does;
     due = rw (past_at-grows r.span.from journal more (omega arith), past_at-grows r.span.to journal more within) did.due;
@@ -59,7 +97,7 @@ module _ {O Key Recon Cond : Type 0} (speech : Speech Key Cond) where
   }
 
   each_grows : (journal more : List (Event O Key Recon Cond)) (commands : List Command) (records : List Record) (low : ℕ) → InOrder low records (length journal)
-      → AllZip (Did speech 0 journal) commands records → AllZip (Did speech 0 (journal ++ more)) commands records
+      → AllZip (Did m speech 0 journal) commands records → AllZip (Did m speech 0 (journal ++ more)) commands records
   each_grows journal more [] [] low order each = tt
   each_grows journal more [] (r ∷ records) low order each = absurd each
   each_grows journal more (c ∷ commands) [] low order each = absurd each
@@ -81,14 +119,14 @@ module _ {O Key Recon Cond : Type 0} (speech : Speech Key Cond) where
 
   -- ---- one more command
 
-  pub RunOf-nil : (journal : List (Event O Key Recon Cond)) → journal ≡ [] → RunOf speech [] journal []
+  RunOf-nil : (journal : List (Event O Key Recon Cond)) → journal ≡ [] → RunOf m speech [] journal []
   RunOf-nil journal none = rw none (record { each = tt; in_order = omega arith; covered = λ at within. absurd (omega arith) })
 
-  module _ (commands : List Command) (old events : List (Event O Key Recon Cond)) (records : List Record) (c : Command) (r : Record) (run : RunOf speech commands old records) (by_seat : AllByRecursion (λ e. seat_of e ≡ 0) events) (from : r.span.from ≡ length old) (to : r.span.to ≡ length old + length events) (does : Does speech 0 c r.outcome events) (due : IsDue c r.outcome (reverse old) (reverse (old ++ events))) where
+  module _ (commands : List Command) (old events : List (Event O Key Recon Cond)) (records : List Record) (c : Command) (r : Record) (run : RunOf m speech commands old records) (by_seat : AllByRecursion (λ e. seat_of e ≡ 0) events) (from : r.span.from ≡ length old) (to : r.span.to ≡ length old + length events) (does : Does speech 0 c r.outcome events) (due : IsDue m c r.outcome (reverse old) (reverse (old ++ events))) where
     new_events : between r.span.from r.span.to (old ++ events) ≡ events
     new_events = ap (take (r.span.to - r.span.from)) (drop_at old events r.span.from (sym from)) ∙ take_all (r.span.to - r.span.from) events (omega arith)
 
-    new_did : Did speech 0 (old ++ events) c r
+    new_did : Did m speech 0 (old ++ events) c r
     new_did = record {
       does = rw (new_events, own-all events by_seat) does;
       due = rw (take_at old events r.span.from (sym from), take_all r.span.to (old ++ events) (omega (arith, length-append old events))) due;
@@ -102,17 +140,31 @@ module _ {O Key Recon Cond : Type 0} (speech : Speech Key Cond) where
         let high : at < length old + length events = omega (arith, length-append old events) in
         (new_by_seat old events at by_seat new high, in_new at records r (omega arith) (omega arith))
 
-    pub RunOf-more : RunOf speech (commands ++ c ∷ []) (old ++ events) (records ++ r ∷ [])
+    RunOf-more : RunOf m speech (commands ++ c ∷ []) (old ++ events) (records ++ r ∷ [])
     RunOf-more = record {
-      each = each_push (Did speech 0 (old ++ events)) commands records c r (each_grows old events commands records 0 run.in_order run.each) new_did;
+      each = each_push (Did m speech 0 (old ++ events)) commands records c r (each_grows old events commands records 0 run.in_order run.each) new_did;
       in_order =
           let total : r.span.to ≡ length (old ++ events) = omega (arith, length-append old events) in
           subst (InOrder 0 (records ++ r ∷ [])) total (InOrder-push 0 records (length old) r run.in_order (omega arith) (omega arith));
       covered = λ at within. in_each at within (cases_lt at (length old));
     }
 
-  pub RunOf-push : (commands : List Command) (old new : List (Event O Key Recon Cond)) (records : List Record) (c : Command) (r : Record) → RunOf speech commands old records → Performed speech old new c r → RunOf speech (commands ++ c ∷ []) new (records ++ r ∷ [])
+  RunOf-push : (commands : List Command) (old new : Seen O Key Recon Cond) (records : List Record) (c : Command) (r : Record) → RunOf m speech commands old.journal records → Performed m speech old new c r → RunOf m speech (commands ++ c ∷ []) new.journal (records ++ r ∷ [])
   RunOf-push commands old new records c r run p =
-      let total : r.span.to ≡ length old + length p.events = omega (arith, p.to, ap length p.journal, length-append old p.events) in
-      let due : IsDue c r.outcome (reverse old) (reverse (old ++ p.events)) = subst (λ (j : List (Event O Key Recon Cond)). IsDue c r.outcome (reverse old) (reverse j)) p.journal p.due in
-      rw p.journal (RunOf-more commands old p.events records c r run p.by_seat p.from total p.does due)
+      let total : r.span.to ≡ length old.journal + length p.events = omega (arith, p.to, ap length p.journal, length-append old.journal p.events) in
+      let due : IsDue m c r.outcome (reverse old.journal) (reverse (old.journal ++ p.events)) = subst (λ (j : List (Event O Key Recon Cond)). IsDue m c r.outcome (reverse old.journal) (reverse j)) p.journal p.due in
+      rw p.journal (RunOf-more commands old.journal p.events records c r run p.by_seat p.from total p.does due)
+
+  -- ---- the whole run
+
+  walks_push : (commands : List Command) (old new : Seen O Key Recon Cond) (records : List Record) (c : Command) (r : Record) → TellsWalks O m speech (sheets_of old.table) commands records → Performed m speech old new c r
+      → TellsWalks O m speech (sheets_of new.table) (commands ++ c ∷ []) (records ++ r ∷ [])
+  walks_push commands old new records (Insert row key) r tells p = after_insert O m speech (sheets_of old.table) (sheets_of new.table) commands records row key r tells
+  walks_push commands old new records (Find query) r tells p =
+      after_find O m speech (sheets_of new.table) commands records query r (subst (λ (t : Table). TellsWalks O m speech (sheets_of t) commands records) (sym (p.pages tt)) tells) p.walk
+
+  pub RunTo-nil : (seen : Seen O Key Recon Cond) → seen.journal ≡ [] → RunTo m speech [] seen []
+  RunTo-nil seen none = record { run = RunOf-nil seen.journal none; walks = tt }
+
+  pub RunTo-push : (commands : List Command) (old new : Seen O Key Recon Cond) (records : List Record) (c : Command) (r : Record) → RunTo m speech commands old records → Performed m speech old new c r → RunTo m speech (commands ++ c ∷ []) new (records ++ r ∷ [])
+  RunTo-push commands old new records c r run p = record { run = RunOf-push commands old new records c r run.run p; walks = walks_push commands old new records c r run.walks p }

@@ -1,5 +1,5 @@
 -- A script is read line by line, and the first bad line is found.
-use Rattle.std.proofs.Common.{inl, inr, take-append-drop, ◌≡◌, ◌<◌, ◌≤◌, ◌+◌, ◌-◌, ℕ, zero, suc, List, [], ◌∷◌, ◌++◌, take, drop, length, refl, sym, ap, ◌∙◌, subst, arith, length-append, append-nil}
+use Rattle.std.proofs.Common.{inl, inr, take-append-drop, ◌≡◌, ◌<◌, ◌≤◌, ◌+◌, ◌-◌, ℕ, List, [], ◌∷◌, ◌++◌, take, drop, length, refl, sym, ap, ◌∙◌, arith, length-append, append-nil}
 use Rattle.std.proofs.lemmas.List.{append_assoc, take_at}
 use Rattle.std.proofs.lemmas.Bool.{cases_lt}
 use Rattle.std.specs.List.{AllZip}
@@ -8,7 +8,7 @@ use Rattle.spg_app.specs.declared.command.ClassName.TheVariants.{Quad}
 use Rattle.spg_app.specs.declared.command.Command.{Command}
 use Rattle.spg_app.specs.declared.command.Script.{Script}
 use Rattle.spg_app.specs.Spelling.{class_text}
-use Rattle.spg_app.specs.Script.{lines_of, Spells, AreLines, IsScript, CanGoOn, IsFirstBad}
+use Rattle.spg_app.specs.Script.{lines_of, Spells, IsScript, CanGoOn, IsFirstBad}
 
 -- the class line and these commands were read, so many lines, and the rest is left
 pub record ReadSoFar (bytes : List ℕ) (class : ClassName) (commands : List Command) (rest : List ℕ) (number : ℕ) : Type 0 where

@@ -19,7 +19,7 @@ use Rattle.spg_app.specs.declared.command.AnyQuery.{AnyQuery}
 use Rattle.spg_app.specs.declared.command.AnyQuery.TheVariants.{All, Where}
 use Rattle.spg_app.specs.declared.command.Command.{Command}
 use Rattle.spg_app.specs.declared.command.Command.TheVariants.{Insert, Find}
-use Rattle.spg_app.specs.Spelling.{corners_text, cond_text, conds_text, asked_text, command_text, IsRow, IsPoint, IsCond, IsConds, IsAsked, IsCommand}
+use Rattle.spg_app.specs.Spelling.{corners_text, cond_text, conds_text, asked_text, command_text, IsRow, IsPoint, IsCond, IsAsked, IsCommand}
 use Rattle.spg_app.specs.Reading.{len_before, value_from, split_at, coordinate_of, row_of, point_of, inside_of, cond_of, first_cond_of, conds_of, insert_of, find_of, command_of}
 
 -- ---- no byte of a text is this one

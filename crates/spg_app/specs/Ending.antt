@@ -1,8 +1,8 @@
 -- How the commands of a script end.
-use Rattle.std.specs.Prelude.{◌≡◌, ◌⊎◌, List, ℕ, Option, Some, None}
+use Rattle.std.specs.Prelude.{◌≡◌, ◌⊎◌, List, ℕ, Option, false}
 use Rattle.std.specs.Io.KnownBytes.{Appends}
+use Rattle.spg_base.specs.declared.recorded.Origin.{Origin}
 use Rattle.spg_opclass.specs.Meaning.{Meaning}
-use Rattle.spg_rows.specs.declared.event.Event.{Event}
 use Rattle.spg_rows.specs.Right.{Right}
 use Rattle.spg_core.specs.Seen.{Seen}
 use Rattle.spg_io.specs.Causes.{Rose}
@@ -11,20 +11,25 @@ use Rattle.spg_app.specs.declared.record.Record.{Record}
 use Rattle.spg_app.specs.declared.session.Ending.{Ending}
 use Rattle.spg_app.specs.declared.session.Ending.TheVariants.{Done, WriteFault, Memory}
 use Rattle.spg_app.specs.Speech.{Speech}
-use Rattle.spg_app.specs.Run.{RunOf}
+use Rattle.spg_app.specs.Run.{RunTo}
 use Rattle.spg_app.specs.Text.{text}
 use Rattle.spg_app.specs.Io.{WroteSome}
 
--- the journal is a run of the commands and is right, and its text is such
-pub record RanCommands {O Key Recon Cond : Type 0} (m : Meaning Key Recon Cond) (speech : Speech Key Cond) (commands : List Command) (IsText : List ℕ → Type 0) (journal : List (Event O Key Recon Cond)) : Type 0 where
+-- a state of a script is made with at most 65,536 pages, of which it has 3, at clock 0, and is not loaded
+abbrev pub made_with : Origin
+made_with = record { limit = 65536; pages = 3; clock = 0; loaded = false }
+
+-- the commands were done on a new state and led to this one, its journal is right, and the text of the run is such
+pub record RanCommands {O Key Recon Cond : Type 0} (m : Meaning Key Recon Cond) (speech : Speech Key Cond) (commands : List Command) (IsText : List ℕ → Type 0) (seen : Seen O Key Recon Cond) : Type 0 where
   pub records : List Record
-  pub run : RunOf speech commands journal records
-  pub right : Right m journal
-  pub texts : IsText (text speech journal records)
+  pub made : seen.origin ≡ made_with
+  pub run : RunTo m speech commands seen records
+  pub right : Right m seen.journal
+  pub texts : IsText (text speech seen.journal records)
 
 -- commands were run, and the text of the run was taken, or its front; want of memory came before or while it was taken
 abbrev pub Ends : {O Key Recon Cond : Type 0} → Meaning Key Recon Cond → Speech Key Cond → List Command → (taken taken_after : Option (List ℕ)) (write_faults write_faults_after : ℕ) → Ending O Key Recon Cond → Type 0
-Ends m speech commands t t_after g g_after (Done seen) = RanCommands m speech commands (Appends t t_after) seen.journal
-Ends m speech commands t t_after g g_after (WriteFault seen) = RanCommands m speech commands (WroteSome t t_after) seen.journal × Rose g g_after
+Ends m speech commands t t_after g g_after (Done seen) = RanCommands m speech commands (Appends t t_after) seen
+Ends m speech commands t t_after g g_after (WriteFault seen) = RanCommands m speech commands (WroteSome t t_after) seen × Rose g g_after
 Ends {O} {Key} {Recon} {Cond} m speech commands t t_after g g_after Memory =
-    (t_after ≡ t) ⊎ ((journal : List (Event O Key Recon Cond)) × RanCommands m speech commands (WroteSome t t_after) journal)
+    (t_after ≡ t) ⊎ ((seen : Seen O Key Recon Cond) × RanCommands m speech commands (WroteSome t t_after) seen)

@@ -1,12 +1,9 @@
 -- What each answer of the program says of what was read, done and written.
 use Rattle.std.specs.Prelude.{◌≡◌, ◌≢◌, ◌⊎◌, ◌<◌, ◌≤◌, List, [], ◌∷◌, ℕ, length, codes, Option, Some, None, IsSomeAnd, ⊤}
 use Rattle.std.specs.Io.KnownBytes.{Appends}
-use Rattle.spg_base.specs.declared.point.Point.{Point}
-use Rattle.spg_base.specs.declared.point.PointCond.{PointCond}
 use Rattle.spg_opclass.specs.Meaning.{Meaning}
 use Rattle.spg_quad.specs.Quad.{quad_meaning}
 use Rattle.spg_kd.specs.Kd.{kd_meaning}
-use Rattle.spg_rows.specs.declared.event.Event.{Event}
 use Rattle.spg_core.specs.Seen.{Seen}
 use Rattle.spg_io.specs.Causes.{Rose}
 use Rattle.spg_app.specs.declared.command.ClassName.{ClassName}
@@ -54,17 +51,17 @@ pub record GaveScript (left left_after : Option (List ℕ)) (script : Script) : 
   pub short : length bytes ≤ LONGEST
   pub is_script : IsScript bytes script
 
--- the source gave a script of this class, the journal is a run of it and is right, and its text is such
-pub record Ran {O Key Recon Cond : Type 0} (m : Meaning Key Recon Cond) (speech : Speech Key Cond) (class : ClassName) (io : Streams) (IsText : List ℕ → Type 0) (journal : List (Event O Key Recon Cond)) : Type 0 where
+-- the source gave a script of this class, its commands were done on a new state and led to this one, the journal is right, and the text of the run is such
+pub record Ran {O Key Recon Cond : Type 0} (m : Meaning Key Recon Cond) (speech : Speech Key Cond) (class : ClassName) (io : Streams) (IsText : List ℕ → Type 0) (seen : Seen O Key Recon Cond) : Type 0 where
   pub script : Script
   pub gave : GaveScript io.left io.left_after script
   pub of_class : script.class ≡ class
-  pub run : RanCommands m speech script.commands IsText journal
+  pub run : RanCommands m speech script.commands IsText seen
 
 -- the same of a state handed back, by its class
 abbrev pub EndsRun : Streams → (List ℕ → Type 0) → EndState → Type 0
-EndsRun io IsText (Quad seen) = Ran quad_meaning point_speech class.Quad io IsText seen.journal
-EndsRun io IsText (Kd seen) = Ran kd_meaning point_speech class.Kd io IsText seen.journal
+EndsRun io IsText (Quad seen) = Ran quad_meaning point_speech class.Quad io IsText seen
+EndsRun io IsText (Kd seen) = Ran kd_meaning point_speech class.Kd io IsText seen
 
 -- the sink took a text
 abbrev pub Took : Streams → List ℕ → Type 0

@@ -6,6 +6,8 @@ pub mod Speech
 pub mod Text
 pub mod Io
 pub mod Status
+pub mod Walks
 pub mod Run
+pub mod Underway
 pub mod Ending
 pub mod Headline

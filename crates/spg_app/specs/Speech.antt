@@ -1,5 +1,5 @@
 -- How a class's keys and conditions are those of a script, and how they are spelled.
-use Rattle.std.specs.Prelude.{ℕ, List, ◌++◌, map, Option, Some, None, codes}
+use Rattle.std.specs.Prelude.{ℕ, List, map, Option, Some, None, codes}
 use Rattle.spg_base.specs.Text.{point_text}
 use Rattle.spg_base.specs.declared.point.Point.{Point}
 use Rattle.spg_base.specs.declared.point.PointCond.{PointCond}

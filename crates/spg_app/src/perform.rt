@@ -1,15 +1,19 @@
-ghost use Rattle.std.specs.Prelude.{◌≡◌, IfOk, length, map};
-ghost use Rattle.spg_core.specs.Stage.{free};
+ghost use Rattle.std.specs.Prelude.{◌≡◌, IfOk, OnOk, OnErr, IsErrOf, length, map};
+ghost use Rattle.spg_forest.specs.Shape.{Shape};
+ghost use Rattle.spg_tree.specs.Table.{sheets_of};
+ghost use Rattle.spg_tree.specs.declared.stand.StepRefused.TheVariants.{IndexFull, ClockFull};
+ghost use Rattle.spg_core.specs.Stage.{free, IsInserting, held_count};
 ghost use Rattle.spg_core.specs.Seen.{stage_at};
 ghost use Rattle.spg_app.specs.Speech.{query_in};
 ghost use Rattle.spg_app.specs.Run.{Performed};
+ghost use Rattle.spg_app.specs.Underway.{GoesOn, PutsRow, HasOutgrown, IsScanning, ReadsToEnd};
 ghost use Rattle.spg_app.specs.declared.command.Command.TheVariants.{Insert, Find};
 
 use crate::command::{AnyQuery, Command};
 use crate::record::{Outcome, Record};
 use crate::speech::Spoken;
 use spg_base::{List, Memory, Point, PointCond, Row, SeatNo, Span};
-use spg_core::{OpenRefused, State, StepRefused};
+use spg_core::{InsertOut, OpenKind, OpenRefused, State, StepRefused};
 use spg_opclass::Query;
 use spg_rows::Why;
 use std::alloc::Global;
@@ -36,9 +40,28 @@ fn recorded<O: Spoken>(state: &State<O>, from: u64, outcome: Outcome) -> Record
     }
 }
 
+/// Goes on with an insert until its row is put.
+fn put<O: Spoken>(state: &mut State<O>, seat: SeatNo) -> Result<(), StepRefused>
+    requires first { seat ≡ 0 }
+    requires inserting { IsInserting (stage_at state.old seat) }
+    ensures ok { OnOk result (PutsRow state.old state.new seat) }
+    ensures full { IsErrOf result IndexFull → HasOutgrown O.meaning state.old seat }
+    ensures clock { IsErrOf result ClockFull → ⊥ }
+    ensures err { OnErr result (GoesOn state.old state.new seat) }
+{
+    // No clause of a section says that an insert comes to its end, so the loop has a bound, which
+    // no run reaches.
+    for _ in 0..u64::MAX {
+        if let InsertOut::Put = state.insert_step(seat)? {
+            return Ok(());
+        }
+    }
+    Err(StepRefused::Memory)
+}
+
 fn insert<O: Spoken>(state: &mut State<O>, row: Row, key: Point) -> Result<Record, Memory>
     requires { stage_at state.old 0 ≡ free }
-    ensures done { IfOk result (Performed O.speech state.old.journal state.new.journal (Insert row key)) }
+    ensures done { IfOk result (Performed O.meaning O.speech state.old state.new (Insert row key)) }
     ensures free { IfOk result (λ _. stage_at state.new 0 ≡ free) }
 {
     let seat = SeatNo::first();
@@ -49,16 +72,14 @@ fn insert<O: Spoken>(state: &mut State<O>, row: Row, key: Point) -> Result<Recor
         Err(OpenRefused::RowUsed) => return Ok(recorded(state, from, Outcome::RowUsed)),
         Err(OpenRefused::Memory) => return Err(Memory),
     }
-    if state.insert_step(seat).is_err() {
-        return Err(Memory);
-    }
-    match state.insert_step(seat) {
-        Ok(_) => Ok(recorded(state, from, Outcome::Added)),
+    match put(state, seat) {
+        Ok(()) => Ok(recorded(state, from, Outcome::Added)),
         Err(StepRefused::IndexFull) => {
             state.abandon(seat, Why::Full);
             Ok(recorded(state, from, Outcome::Full))
         }
         Err(StepRefused::Memory) => Err(Memory),
+        Err(StepRefused::ClockFull) => unreachable!(),
     }
 }
 
@@ -87,16 +108,46 @@ fn query_in<O: Spoken>(alloc: Global, class: &O, query: &AnyQuery) -> Result<Que
     }
 }
 
+/// How many items the seat's scan holds.
+fn held<O: Spoken>(state: &State<O>, seat: SeatNo) -> usize
+    ensures { result ≡ held_count (stage_at state.now seat) }
+{
+    match state.open_of(seat) {
+        OpenKind::Scan { held } => held,
+        OpenKind::Nothing | OpenKind::Insert => 0,
+    }
+}
+
+/// Reads what a scan holds, the last item first, until it holds nothing.
+fn read_on<O: Spoken>(state: &mut State<O>, seat: SeatNo) -> Result<(), Memory>
+    requires first { seat ≡ 0 }
+    requires scanning { IsScanning (stage_at state.old seat) }
+    requires shape { Shape O.meaning (sheets_of state.old.table) }
+    ensures { OnOk result (ReadsToEnd O.meaning state.old state.new seat) }
+{
+    // No clause of a read says that a scan comes to its end, so the loop has a bound, which no run
+    // reaches.
+    for _ in 0..u64::MAX {
+        let held = held(state, seat);
+        if held == 0 {
+            return Ok(());
+        }
+        state.scan_read(seat, held - 1)?;
+    }
+    Err(Memory)
+}
+
 fn find<O: Spoken>(alloc: Global, state: &mut State<O>, query: &AnyQuery) -> Result<Record, Memory>
     requires { stage_at state.old 0 ≡ free }
-    ensures done { IfOk result (Performed O.speech state.old.journal state.new.journal (Find query.now)) }
+    ensures done { IfOk result (Performed O.meaning O.speech state.old state.new (Find query.now)) }
     ensures free { IfOk result (λ _. stage_at state.new 0 ≡ free) }
 {
     let seat = SeatNo::first();
     let from = position(state);
     let query = query_in(alloc, state.class(), query)?;
     state.open_scan(seat, query)?;
-    let _ = state.scan_read(seat, 0)?;
+    let _ = state.pages();
+    read_on(state, seat)?;
     let closed = state.close_scan(seat)?;
     let outcome = Outcome::Found {
         rows: closed.rows,
@@ -112,7 +163,7 @@ pub fn perform<O: Spoken>(
     command: &Command,
 ) -> Result<Record, Memory>
     requires { stage_at state.old 0 ≡ free }
-    ensures done { IfOk result (Performed O.speech state.old.journal state.new.journal command.now) }
+    ensures done { IfOk result (Performed O.meaning O.speech state.old state.new command.now) }
     ensures free { IfOk result (λ _. stage_at state.new 0 ≡ free) }
 {
     match command {

@@ -7,9 +7,9 @@ pub enum Outcome {
     Added,
     /// The row was claimed already.
     RowUsed,
-    /// The page was full, and the insert was given up.
+    /// The index was full, and the insert was given up.
     Full,
-    /// The rows that a scan found, and how many tuples it met.
+    /// The rows that a scan found, ascending, and how many inner, leaf and dead tuples it met.
     Found { rows: Rows, walk: u64 },
 }
 

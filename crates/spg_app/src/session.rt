@@ -2,8 +2,8 @@ ghost use Rattle.std.specs.Prelude.{◌≡◌, [], IfOk};
 ghost use Rattle.spg_core.specs.Stage.{free};
 ghost use Rattle.spg_core.specs.Seen.{stage_at};
 ghost use Rattle.spg_rows.specs.Right.{Right};
-ghost use Rattle.spg_app.specs.Run.{RunOf};
-ghost use Rattle.spg_app.specs.Ending.{Ends};
+ghost use Rattle.spg_app.specs.Run.{RunTo};
+ghost use Rattle.spg_app.specs.Ending.{Ends, made_with};
 
 use crate::command::Command;
 use crate::perform::perform;
@@ -16,6 +16,9 @@ use spg_io::{IoRefused, Sink};
 use spg_opclass::OpClass;
 use std::alloc::Global;
 
+/// The greatest number of pages of an index.
+const MOST_PAGES: u32 = 65_536;
+
 /// Does commands one after another, from an empty index.
 fn perform_all<O: Spoken>(
     alloc: Global,
@@ -24,7 +27,8 @@ fn perform_all<O: Spoken>(
 ) -> Result<Records, Memory>
     requires empty { state.old.journal ≡ [] }
     requires free { stage_at state.old 0 ≡ free }
-    ensures { IfOk result (λ records. RunOf O.speech commands.now state.new.journal records) }
+    ensures run { IfOk result (RunTo O.meaning O.speech commands.now state.new) }
+    ensures origin { IfOk result (λ _. state.new.origin ≡ state.old.origin) }
 {
     let mut records = List::new(alloc);
     for command in commands {
@@ -40,10 +44,11 @@ pub fn perform_script<O: Spoken>(
     class: O,
     commands: &[Command],
 ) -> Result<(State<O>, Records), Memory>
-    ensures run { IfOk result (λ done. RunOf O.speech commands.now done.0.journal done.1) }
+    ensures made { IfOk result (λ done. done.0.origin ≡ made_with) }
+    ensures run { IfOk result (λ done. RunTo O.meaning O.speech commands.now done.0 done.1) }
     ensures right { IfOk result (λ done. Right O.meaning done.0.journal) }
 {
-    let mut state = State::new(alloc, class)?;
+    let mut state = State::new(alloc, class, MOST_PAGES)?;
     let records = perform_all(alloc, &mut state, commands)?;
     let _ = state.journal();
     Ok((state, records))

@@ -54,13 +54,19 @@ fn prints_the_run(rt: HostRuntime) -> Result<(), Fail> {
     Ok(())
 }
 
-#[test]
-fn fills_the_page(rt: HostRuntime) -> Result<(), Fail> {
-    let mut script = String::from_str(rt.alloc(), "class quad\n")?;
+/// 292 points on a line, of which the last is one too many for a root leaf page.
+fn line_of_points(alloc: Global) -> Result<String, AllocError> {
+    let mut script = String::from_str(alloc, "class quad\n")?;
     for i in 1..293u16 {
-        let line = format!(in rt.alloc(); "insert 1.{i} {i},0\n")?;
+        let line = format!(in alloc; "insert 1.{i} {i},0\n")?;
         script.push_str(line.as_str())?;
     }
+    Ok(script)
+}
+
+#[test]
+fn divides_the_root(rt: HostRuntime) -> Result<(), Fail> {
+    let mut script = line_of_points(rt.alloc())?;
     script.push_str("find all\n")?;
     let (status, taken) = ran(&rt, script.as_bytes())?;
     assert_eq!(rt; status, Status::Done);
@@ -68,10 +74,21 @@ fn fills_the_page(rt: HostRuntime) -> Result<(), Fail> {
     assert_eq!(rt; lines.next(), Some(b"292 582 584 full".as_slice()));
     let found = lines.next().unwrap_or(b"");
     assert_eq!(rt;
-        found.starts_with(b"293 584 586 found 291 walk 291 1.1 1.2 "),
+        found.starts_with(b"293 584 586 found 291 walk 292 1.1 1.2 "),
         true
     );
     assert_eq!(rt; found.ends_with(b" 1.290 1.291"), true);
+    Ok(())
+}
+
+#[test]
+fn adds_below_a_divided_root(rt: HostRuntime) -> Result<(), Fail> {
+    let mut script = line_of_points(rt.alloc())?;
+    script.push_str("insert 2.1 200,-5\n")?;
+    let (status, taken) = ran(&rt, script.as_bytes())?;
+    assert_eq!(rt; status, Status::Done);
+    let mut lines = taken.as_slice().split(|b| *b == b'\n').skip(292);
+    assert_eq!(rt; lines.next(), Some(b"293 584 586 added".as_slice()));
     Ok(())
 }
 

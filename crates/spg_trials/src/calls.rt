@@ -64,7 +64,7 @@ fn keeps_lists_and_sets(rt: HostRuntime) -> Result<(), Fail> {
 /// A seat opens and gives up an insert, and another a scan.
 #[test]
 fn gives_up_what_is_open(rt: HostRuntime) -> Result<(), Fail> {
-    let mut state = State::new(rt.alloc(), Quad)?;
+    let mut state = State::new(rt.alloc(), Quad, 4)?;
     let first = SeatNo::first();
     let row = Row::at(1, 1);
     if state
@@ -78,7 +78,7 @@ fn gives_up_what_is_open(rt: HostRuntime) -> Result<(), Fail> {
     state.abandon(first, Why::Given);
     assert_eq!(rt; state.open_of(first), OpenKind::Nothing);
     state.open_scan(first, Query::All)?;
-    assert_eq!(rt; state.open_of(first), OpenKind::Scan { held: 1 });
+    assert_eq!(rt; state.open_of(first), OpenKind::Scan { held: 2 });
     state.abandon(first, Why::Given);
     let dropped = match state.journal().get(1) {
         Some(Event::Drop { why, .. }) => Some(*why),

@@ -53,7 +53,7 @@ fn runs_alike_for_each_class(rt: HostRuntime) -> Result<(), Fail> {
 }
 
 #[test]
-fn fills_the_page_of_a_kd_tree(rt: HostRuntime) -> Result<(), Fail> {
+fn divides_the_root_of_a_kd_tree(rt: HostRuntime) -> Result<(), Fail> {
     let mut commands = String::new(rt.alloc());
     for i in 1..293u16 {
         let line = format!(in rt.alloc(); "insert 1.{i} {i},0\n")?;
@@ -66,7 +66,7 @@ fn fills_the_page_of_a_kd_tree(rt: HostRuntime) -> Result<(), Fail> {
     assert_eq!(rt; lines.next(), Some(b"292 582 584 full".as_slice()));
     let found = lines.next().unwrap_or(b"");
     assert_eq!(rt;
-        found.starts_with(b"293 584 586 found 291 walk 291 1.1 1.2 "),
+        found.starts_with(b"293 584 586 found 291 walk 292 1.1 1.2 "),
         true
     );
     Ok(())

@@ -3,7 +3,6 @@ use Rattle.std.proofs.lemmas.Bool.{false≢true, eqb-true, eq-eqb}
 use Rattle.std.proofs.lemmas.Slice.Eq.{slice_eq-Decides}
 use Rattle.spg_app.specs.declared.command.Command.{Command}
 use Rattle.spg_app.specs.Spelling.{IsCommand, command_text}
-use Rattle.spg_app.specs.Script.{Spells}
 use Rattle.spg_app.specs.Reading.{command_of}
 use Rattle.spg_app.proofs.Spelled.{command_of-text}
 use Rattle.spg_app.proofs.commands.read_command.Goals as goal

@@ -1,7 +1,7 @@
-use Rattle.std.proofs.Common.{◌≡◌, ◌∙◌, ◌==◌, ℕ, true, List, [], ◌∷◌, length, sym, ap, arith}
+use Rattle.std.proofs.Common.{◌≡◌, ◌∙◌, ◌==◌, ℕ, true, List, [], ◌∷◌, length, sym, arith}
 use Rattle.std.proofs.lemmas.Bool.{eqb-true}
 use Rattle.spg_app.specs.Script.{IsFirstBad}
-use Rattle.spg_app.proofs.ScriptLines.{read_class_line, read_more, read_done, read_bad, nothing_bad, class_bad}
+use Rattle.spg_app.proofs.ScriptLines.{read_more, read_bad, nothing_bad, class_bad}
 use Rattle.spg_app.proofs.parse.parse.Goals as goal
 
 empty_bad : (bytes : List ℕ) → (length bytes == 0) ≡ true → IsFirstBad bytes 1

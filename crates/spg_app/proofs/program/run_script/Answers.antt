@@ -1,5 +1,3 @@
-use Rattle.std.proofs.Common.{◌≡◌, ◌∙◌, sym, ap}
-use Rattle.spg_app.specs.Headline.{IsAnswer}
 use Rattle.spg_app.proofs.Complete.{quad_answers, kd_answers}
 use Rattle.spg_app.proofs.program.run_script.Goals as goal
 

@@ -1,0 +1,61 @@
+-- How far the command of a seat has come.
+use Rattle.std.specs.Prelude.{◌≡◌, ◌<◌, ◌++◌, ℕ, [], ◌∷◌, is_none, Option, ⊤}
+use Rattle.spg_base.specs.Row.{RowAt}
+use Rattle.spg_opclass.specs.Meaning.{Meaning}
+use Rattle.spg_opclass.specs.declared.query.Query.{Query}
+use Rattle.spg_forest.specs.Sheets.{Sheets}
+use Rattle.spg_forest.specs.Walk.{weight_of}
+use Rattle.spg_rows.specs.declared.event.Event.TheVariants.{Put}
+use Rattle.spg_tree.specs.Table.{sheets_of}
+use Rattle.spg_scan.specs.Scanning.{counted}
+use Rattle.spg_scan.specs.Rest.{IsAtRest}
+use Rattle.spg_core.specs.Stage.{Stage, free, descending, reading, IsRead}
+use Rattle.spg_core.specs.Seen.{Seen, stage_at, past_of}
+use Rattle.spg_core.specs.Weight.{opened_keys}
+
+-- an insert of this row, with this key or a null
+abbrev pub IsInsertOf : {O Key Recon Cond : Type 0} → RowAt → Option Key → Stage O Key Recon Cond → Type 0
+IsInsertOf row key free = ⊥
+IsInsertOf row key (descending k d) = (k ≡ key) × (d.row ≡ row)
+IsInsertOf row key (reading s) = ⊥
+
+-- no event was written since, and the seat's insert is still open
+pub record GoesOn {O Key Recon Cond : Type 0} (old new : Seen O Key Recon Cond) (seat : ℕ) : Type 0 where
+  pub journal : new.journal ≡ old.journal
+  pub origin : new.origin ≡ old.origin
+  pub insert : (row : RowAt) (key : Option Key) → IsInsertOf row key (stage_at old seat) → IsInsertOf row key (stage_at new seat)
+
+-- the seat's insert has ended, and its row is put
+pub record PutsRow {O Key Recon Cond : Type 0} (old new : Seen O Key Recon Cond) (seat : ℕ) : Type 0 where
+  pub journal : (row : RowAt) (key : Option Key) → IsInsertOf row key (stage_at old seat) → new.journal ≡ old.journal ++ Put seat row ∷ []
+  pub origin : new.origin ≡ old.origin
+  pub stage : stage_at new seat ≡ free
+
+-- the keys of the tree of the seat's insert that were ever inserted take more than 8,160 bytes
+abbrev pub HasOutgrown : {O Key Recon Cond : Type 0} → Meaning Key Recon Cond → Seen O Key Recon Cond → ℕ → Type 0
+HasOutgrown {O} {Key} m seen seat = (row : RowAt) (key : Option Key) → IsInsertOf row key (stage_at seen seat) → 8160 < weight_of m (is_none key) (opened_keys (past_of seen))
+
+-- a scan is open
+abbrev pub IsScanning : {O Key Recon Cond : Type 0} → Stage O Key Recon Cond → Type 0
+IsScanning free = ⊥
+IsScanning (descending key d) = ⊥
+IsScanning (reading s) = ⊤
+
+-- a scan of this query over pages at rest
+abbrev pub IsRestingScan : {O Key Recon Cond : Type 0} → Meaning Key Recon Cond → Sheets → Query O Key Recon Cond → Stage O Key Recon Cond → Type 0
+IsRestingScan m S query free = ⊥
+IsRestingScan m S query (descending key d) = ⊥
+IsRestingScan m S query (reading s) = (s.query ≡ query) × (counted s.met ≡ s.met) × IsAtRest m S s
+
+-- no event was written since, the pages are as they were, and a scan over pages at rest still is one
+pub record ReadsOn {O Key Recon Cond : Type 0} (m : Meaning Key Recon Cond) (old new : Seen O Key Recon Cond) (seat : ℕ) : Type 0 where
+  pub journal : new.journal ≡ old.journal
+  pub origin : new.origin ≡ old.origin
+  pub table : new.table ≡ old.table
+  pub scanning : IsScanning (stage_at old seat) → IsScanning (stage_at new seat)
+  pub scan : (query : Query O Key Recon Cond) → IsRestingScan m (sheets_of old.table) query (stage_at old seat) → IsRestingScan m (sheets_of old.table) query (stage_at new seat)
+
+-- the same, and the scan holds nothing more
+pub record ReadsToEnd {O Key Recon Cond : Type 0} (m : Meaning Key Recon Cond) (old new : Seen O Key Recon Cond) (seat : ℕ) : Type 0 where
+  pub reads : ReadsOn m old new seat
+  pub end : IsRead (stage_at new seat)
