@@ -1,0 +1,5 @@
+pub mod Gathering
+pub mod Adding
+pub mod Leaving
+pub mod MoveLaw
+pub mod Standing

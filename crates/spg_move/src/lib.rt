@@ -1,0 +1,9 @@
+//! Moves of chains and of inner tuples, with redirects in their old places
+//! (`src/backend/access/spgist/README`).
+#![tactic(auto)]
+
+mod chain;
+mod leaves;
+mod moving;
+
+pub use chain::move_chain;
