@@ -5,3 +5,4 @@ pub mod Leaves
 pub mod Follows
 pub mod Starts
 pub mod Rules
+pub mod Below

@@ -30,7 +30,7 @@ use Rattle.spg_tree.specs.Picked.{IsPicked, want_of}
 use Rattle.spg_tree.specs.Descents.{Descending, in_nulls}
 use Rattle.spg_tree.specs.declared.stand.Stand.{Stand}
 use Rattle.spg_tree.specs.declared.stand.Stand.TheVariants.{At}
-use Rattle.spg_move.specs.Below.{IsAtChain, IsChainBelow, IsLink, IsTicked}
+use Rattle.spg_descend.specs.Below.{IsAtChain, IsChainBelow, IsLink, IsTicked}
 use Rattle.spg_descend.specs.Carried.{carried, IsCarried, WayFits}
 use Rattle.spg_descend.specs.Follows.{tuple_place}
 use Rattle.spg_descend.specs.Puts.{IsAtLeaves}

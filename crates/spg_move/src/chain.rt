@@ -9,7 +9,7 @@ ghost use Rattle.spg_tree.specs.declared.stand.StepRefused.TheVariants.{IndexFul
 ghost use Rattle.spg_descend.specs.Carried.{carried, IsCarried};
 ghost use Rattle.spg_descend.specs.Puts.{Fits};
 ghost use Rattle.spg_descend.specs.Rules.{MayMove};
-ghost use Rattle.spg_move.specs.Below.{IsAtChain, IsTicked};
+ghost use Rattle.spg_descend.specs.Below.{IsAtChain, IsTicked};
 ghost use Rattle.spg_move.specs.Moves.{MovesCarried};
 
 use crate::leaves::{bytes_of, leaf_tuple};

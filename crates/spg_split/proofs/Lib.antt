@@ -11,3 +11,17 @@ pub mod RootLaw
 pub mod Picking
 pub mod Standing
 pub mod Joining
+pub mod Sizes
+pub mod Plans
+pub mod Emptying
+pub mod Both
+pub mod Written
+pub mod Housing
+pub mod Deciding
+pub mod TwoPages
+pub mod ChainPages
+pub mod ChainLaw
+pub mod ChainStanding
+pub mod ChainJoining
+pub mod BlocksTouched
+pub mod Outcome

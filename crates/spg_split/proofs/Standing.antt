@@ -43,19 +43,19 @@ pub tuple_fits : {Key Recon Cond : Type 0} (m : Meaning Key Recon Cond) → Code
 tuple_fits m law true w e = rw e (omega arith)
 tuple_fits m law false w e = law.inner_fits w e
 
-give_from : {Key Recon Cond : Type 0} (m : Meaning Key Recon Cond) (r : Option Recon) (vs : List Leaf) → ((l : Leaf) → IsIn l vs → IsSome (key_of m r l.rest)) → GiveKeys m r (rests_of vs)
+pub give_from : {Key Recon Cond : Type 0} (m : Meaning Key Recon Cond) (r : Option Recon) (vs : List Leaf) → ((l : Leaf) → IsIn l vs → IsSome (key_of m r l.rest)) → GiveKeys m r (rests_of vs)
 give_from m r [] h = tt
 give_from m r (v ∷ vs) h = (h v (inl refl), give_from m r vs (λ l a. h l (inr a)))
 
-in_cases : (ls : List Leaf) (new l : Leaf) → IsIn l (ls ++ new ∷ []) → IsIn l ls ⊎ (new ≡ l)
+pub in_cases : (ls : List Leaf) (new l : Leaf) → IsIn l (ls ++ new ∷ []) → IsIn l ls ⊎ (new ≡ l)
 in_cases [] new l a = ⊎_elim (λ e. inr e) (λ b. absurd b) a
 in_cases (k ∷ ls) new l a = ⊎_elim (λ e. inl (inl e)) (λ b. ⊎_elim (λ c. inl (inr c)) (λ e. inr e) (in_cases ls new l b)) a
 
-no_repeat : (ls : List Leaf) (new : Leaf) → NoRepeat ls → ((l : Leaf) → IsIn l ls → l.row ≡ new.row → ⊥) → NoRepeat (ls ++ new ∷ [])
+pub no_repeat : (ls : List Leaf) (new : Leaf) → NoRepeat ls → ((l : Leaf) → IsIn l ls → l.row ≡ new.row → ⊥) → NoRepeat (ls ++ new ∷ [])
 no_repeat [] new a h = ((λ m b. absurd b), tt)
 no_repeat (l ∷ ls) new (a, b) h = ((λ m c e. ⊎_elim (λ d. a m d e) (λ d. h l (inl refl) (sym e ∙ ap (λ (u : Leaf). u.row) (sym d))) (in_cases ls new m c)), no_repeat ls new b (λ k c. h k (inr c)))
 
-slice_first : (ls : List Leaf) (new l : Leaf) (i : ℕ) → slice_get ls i ≡ Some l → slice_get (rests_of (ls ++ new ∷ [])) i ≡ Some l.rest
+pub slice_first : (ls : List Leaf) (new l : Leaf) (i : ℕ) → slice_get ls i ≡ Some l → slice_get (rests_of (ls ++ new ∷ [])) i ≡ Some l.rest
 slice_first [] new l i e = cc
 slice_first (k ∷ ls) new l zero e = let c : k ≡ l = cc in ap (λ (u : Leaf). Some u.rest) c
 slice_first (k ∷ ls) new l (suc i) e = slice_first ls new l i e

@@ -24,26 +24,35 @@ pub total : (List Leaf → ℕ) → (ℕ → List Leaf) → ℕ → ℕ → ℕ
 total g L k zero = 0
 total g L k (suc n) = g (L k) + total g L (suc k) n
 
+pub total_split : (g : List Leaf → ℕ) (L : ℕ → List Leaf) (k a n : ℕ) → a ≤ n → total g L k a + total g L (k + a) (n - a) ≡ total g L k n
+unfolding total
+total_split g L k zero n h = let e : k + 0 ≡ k = omega arith in let f : n - 0 ≡ n = omega arith in let q = ap (λ i. total g L i (n - 0)) e ∙ ap (λ i. total g L k i) f in omega arith
+total_split g L k (suc a) zero h = absurd (omega arith)
+total_split g L k (suc a) (suc n) h =
+    let c = total_split g L (suc k) a n (omega arith) in
+    let e : k + suc a ≡ suc k + a = omega arith in let f : suc n - suc a ≡ n - a = omega arith in
+    let q = ap (λ i. total g L i (suc n - suc a)) e ∙ ap (λ i. total g L (suc k + a) i) f in omega arith
+
 -- g is a sum of h over the leaves
 pub record IsSum (h : Leaf → ℕ) (g : List Leaf → ℕ) : Type 0 where
   pub none : g [] ≡ 0
   pub more : (l : Leaf) (ls : List Leaf) → g (l ∷ ls) ≡ h l + g ls
 
 module _ (h : Leaf → ℕ) (g : List Leaf → ℕ) (G : IsSum h g) where
-  total_none : (nodes : List ℕ) (k n : ℕ) → total g (λ j. taken_by j [] nodes) k n ≡ 0
+  pub total_none : (nodes : List ℕ) (k n : ℕ) → total g (λ j. taken_by j [] nodes) k n ≡ 0
   unfolding total
   total_none nodes k zero = refl
   total_none nodes k (suc n) = let a = G.none in let b = total_none nodes (suc k) n in omega arith
 
   -- a leaf of a node before these
-  total_past : (t : Tuple) (ts : List Tuple) (a : ℕ) (nodes : List ℕ) (k n : ℕ) → a < k → total g (λ j. taken_by j (t ∷ ts) (a ∷ nodes)) k n ≡ total g (λ j. taken_by j ts nodes) k n
+  pub total_past : (t : Tuple) (ts : List Tuple) (a : ℕ) (nodes : List ℕ) (k n : ℕ) → a < k → total g (λ j. taken_by j (t ∷ ts) (a ∷ nodes)) k n ≡ total g (λ j. taken_by j ts nodes) k n
   unfolding total
   total_past t ts a nodes k zero e = refl
   total_past t ts a nodes k (suc n) e =
       let c = ap g (cond-false (nat_eq a k) (leaf_in t ∷ taken_by k ts nodes) (taken_by k ts nodes) (ne_eqb a k (λ q. absurd (omega arith)))) in
       let d = total_past t ts a nodes (suc k) n (omega arith) in omega arith
 
-  total_in : (t : Tuple) (ts : List Tuple) (a : ℕ) (nodes : List ℕ) (k n : ℕ) → k ≤ a → a < k + n → total g (λ j. taken_by j (t ∷ ts) (a ∷ nodes)) k n ≡ h (leaf_in t) + total g (λ j. taken_by j ts nodes) k n
+  pub total_in : (t : Tuple) (ts : List Tuple) (a : ℕ) (nodes : List ℕ) (k n : ℕ) → k ≤ a → a < k + n → total g (λ j. taken_by j (t ∷ ts) (a ∷ nodes)) k n ≡ h (leaf_in t) + total g (λ j. taken_by j ts nodes) k n
   unfolding total
   total_in t ts a nodes k zero e f = absurd (omega arith)
   total_in t ts a nodes k (suc n) e f = ⊎_elim

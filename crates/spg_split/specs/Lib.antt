@@ -5,3 +5,8 @@ pub mod Placing
 pub mod Ends
 pub mod Parts
 pub mod Ways
+pub mod Below
+pub mod Planning
+pub mod Writing
+pub mod Homes
+pub mod Parting

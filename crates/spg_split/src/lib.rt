@@ -2,12 +2,18 @@
 //! "picksplit").
 #![tactic(auto)]
 
+mod below;
 mod division;
+mod homes;
+mod part;
 mod parts;
 mod placing;
+mod plan;
 mod put;
 mod root;
 mod split;
 mod values;
+mod write;
 
+pub use below::split_chain;
 pub use split::{SplitOut, split_leaf};

@@ -1,4 +1,4 @@
-ghost use Rattle.std.specs.Prelude.{◌≡◌, ◌<◌, ◌≤◌, ◌+◌, ◌∷◌, [], ℕ, suc, length, None as Nil, Some as Just, IfSome};
+ghost use Rattle.std.specs.Prelude.{◌≡◌, ◌<◌, ◌≤◌, ◌+◌, ◌-◌, ◌∷◌, ◌++◌, [], ℕ, suc, length, take, drop, None as Nil, Some as Just, IfSome};
 ghost use Rattle.spg_forest.specs.Pages.{all_live};
 ghost use Rattle.spg_forest.specs.Tuples.{Live};
 ghost use Rattle.spg_forest.specs.Sheets.{free_place, size_of, with_tuples};
@@ -69,6 +69,30 @@ fn head_in(ends: Option<Ends>) -> Option<Offset>
     }
 }
 
+/// Adds the leaf tuples of some nodes to a page, those of each as a chain of its own, and sets the
+/// downlinks to the chains.
+pub(crate) fn put_range(
+    page: &mut Page,
+    block: Block,
+    leaves: &[TupleBytes],
+    node_of: &[u16],
+    from: usize,
+    to: usize,
+    links: &mut List<Option<Place>>,
+)
+    requires each { length leaves.now ≤ length node_of.now }
+    requires leaves { leaves.now ≡ all_live (leaves_in leaves.now) }
+    requires within { (from ≤ to) × (to ≤ length links.old) × (length links.old < 65536) }
+    requires room { HaveRooms page.old.tuples (λ j. taken_by j leaves.now node_of.now) from (to - from) }
+    ensures tuples { page.new ≡ with_tuples page.old (placed page.old.tuples (λ j. taken_by j leaves.now node_of.now) from (to - from)) }
+    ensures links { links.new ≡ take from links.old ++ downlinks block page.old.tuples (λ j. taken_by j leaves.now node_of.now) from (to - from) ++ drop to links.old }
+{
+    for node in from..to {
+        let head = put_list(page, leaves, node_of, node as u16);
+        links.set(node, link_to(block, head));
+    }
+}
+
 /// Adds the leaf tuples of each node to a page, as a chain of its own, and sets the downlinks to
 /// the chains.
 pub(crate) fn put_lists(
@@ -85,10 +109,8 @@ pub(crate) fn put_lists(
     ensures tuples { page.new ≡ with_tuples page.old (placed page.old.tuples (λ j. taken_by j leaves.now node_of.now) 0 (length links.old)) }
     ensures links { links.new ≡ downlinks block page.old.tuples (λ j. taken_by j leaves.now node_of.now) 0 (length links.old) }
 {
-    for node in 0..links.len() {
-        let head = put_list(page, leaves, node_of, node as u16);
-        links.set(node, link_to(block, head));
-    }
+    let nodes = links.len();
+    put_range(page, block, leaves, node_of, 0, nodes, links);
 }
 
 /// The downlink to a chain.

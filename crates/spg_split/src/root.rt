@@ -2,7 +2,8 @@ ghost use Rattle.std.specs.Prelude.{◌≡◌, ◌<◌, ◌≤◌, ◌+◌, ◌�
 ghost use Rattle.spg_forest.specs.View.{Place as PlaceAt};
 ghost use Rattle.spg_forest.specs.Tuples.{Inner};
 ghost use Rattle.spg_forest.specs.Sheets.{with_tuples};
-ghost use Rattle.spg_forest.specs.Pages.{tuple_on};
+ghost use Rattle.spg_forest.specs.Pages.{tuple_on, with_tuple};
+ghost use Rattle.spg_page.specs.Kinds.{IsOffset};
 ghost use Rattle.spg_page.specs.Reads.{frame_in};
 ghost use Rattle.spg_split.specs.Dividing.{AreAllLive};
 ghost use Rattle.spg_split.specs.Parts.{bare};
@@ -23,15 +24,16 @@ fn clear_leaves(page: &mut Page)
     }
 }
 
-/// Sets the downlinks of the inner tuple that is first on a page.
-fn set_links(page: &mut Page, links: &[Option<Place>])
-    requires tuples { page.old.tuples ≡ Inner (frame_in (tuple_on page.old.tuples 1)) (bare (length links.now)) ∷ [] }
+/// Sets the downlinks of an inner tuple that leads nowhere yet.
+pub(crate) fn set_links(page: &mut Page, at: Offset, links: &[Option<Place>])
+    requires offset { IsOffset page.old.tuples at }
+    requires inner { tuple_on page.old.tuples at ≡ Inner (frame_in (tuple_on page.old.tuples at)) (bare (length links.now)) }
     requires to { (i : ℕ) (y : PlaceAt) → slice_get links.now i ≡ Just (Just y) → (0 < y.block) × (0 < y.offset) }
     requires count { length links.now < 65536 }
-    ensures { page.new ≡ with_tuples page.old (Inner (frame_in (tuple_on page.old.tuples 1)) links.now ∷ []) }
+    ensures { page.new ≡ with_tuples page.old (with_tuple page.old.tuples at (Inner (frame_in (tuple_on page.old.tuples at)) links.now)) }
 {
     for node in 0..links.len() {
-        page.set_link(Offset(1), node as u16, links[node]);
+        page.set_link(at, node as u16, links[node]);
     }
 }
 
@@ -48,5 +50,5 @@ pub(crate) fn make_inner_root(page: &mut Page, inner: &TupleBytes, links: &[Opti
     clear_leaves(page);
     page.reset(PageKind::Inner, nulls);
     let _ = page.add(inner);
-    set_links(page, links);
+    set_links(page, Offset(1), links);
 }

@@ -1,7 +1,0 @@
-use Rattle.std.proofs.Common.{length}
-use Rattle.spg_split.specs.Placing.{taken_by}
-use Rattle.spg_split.proofs.Lists.{IsPlacing}
-use Rattle.spg_split.proofs.placing.put_lists.Given as goal
-
-abbrev pub invariant-loop-node : goal.invariant-loop-node
-invariant-loop-node l = IsPlacing l.fn.page (λ j. taken_by j l.fn.leaves l.fn.node_of) (length l.fn.links) l.fn.block l.page l.links l.node

@@ -1,0 +1,117 @@
+ghost use Rattle.std.specs.Prelude.{◌≡◌, ◌+◌, ◌^◌, ◌<◌, Option, Some as Just, IfOk, OnErr, IsErrOf};
+ghost use Rattle.spg_forest.specs.Tuples.{Live};
+ghost use Rattle.spg_forest.specs.Shape.{Shape};
+ghost use Rattle.spg_tree.specs.Table.{sheets_of};
+ghost use Rattle.spg_tree.specs.declared.stand.StepRefused.TheVariants.{IndexFull, ClockFull};
+ghost use Rattle.spg_descend.specs.Carried.{carried, IsCarried};
+ghost use Rattle.spg_descend.specs.Puts.{Fits};
+ghost use Rattle.spg_descend.specs.Rules.{MayMove};
+ghost use Rattle.spg_descend.specs.Below.{IsAtChain, IsTicked};
+ghost use Rattle.spg_tree.specs.declared.stand.Stand.TheVariants.{At};
+ghost use Rattle.spg_split.specs.Below.{IsChainSplit};
+ghost use Rattle.spg_split.specs.Ways.{IsChainWay, NotesChain, IsBelowParent};
+ghost use Rattle.spg_split.specs.Splits.{IsSplitFull};
+
+use crate::division::divide;
+use crate::part::{Parting, part_chain};
+use crate::parts::Parts;
+use crate::put::Parted;
+use crate::split::SplitOut;
+use crate::values::values_at_chain;
+use spg_base::{Place, SeatNo};
+use spg_opclass::OpClass;
+use spg_tree::{Descent, PageTable, Stand, StepRefused};
+use std::alloc::Global;
+
+/// Divides the chain at a head, at which an insert stands, and the leaf of the insert.
+fn divide_chain<O: OpClass>(
+    alloc: Global,
+    class: &O,
+    table: &mut PageTable,
+    descent: &Descent<O>,
+    head: Place,
+    parent: Place,
+    node: u16,
+    seat: SeatNo,
+) -> Result<Parting, StepRefused>
+    requires shape { Shape O.meaning (sheets_of table.old) }
+    requires stands { descent.now.stand ≡ At head }
+    requires above { descent.now.parent ≡ Just (parent, node) }
+    requires spot { IsAtChain table.old descent.now }
+    requires of_key { (key : Option O.Key) × IsCarried O.meaning (sheets_of table.old) descent.now key }
+    requires long { MayMove table.old descent.now.stand (Live (carried descent.now) 0) → ⊥ }
+    requires tick { table.old.clock + 1 < 2 ^ 48 }
+    ensures ok { IfOk result (λ done. IsChainWay O.meaning table.old table.new descent.now done.at done.way × IsTicked table.old table.new) }
+    ensures full { IsErrOf result IndexFull → IsSplitFull table.old }
+    ensures clock { IsErrOf result ClockFull → ⊥ }
+    ensures err { OnErr result (table.new ≡ table.old) }
+{
+    let Place { block, offset } = head;
+    let values = values_at_chain(alloc, table.page(block), offset, descent)?;
+    let division = divide(alloc, class, descent.recon(), values.rests.as_slice())?;
+    let parts = Parts::of(alloc, values.rows.as_slice(), division)?;
+    let head = Place { block, offset };
+    part_chain(alloc, table, head, parent, node, parts, seat)
+}
+
+/// Notes in the insert what the division of a chain did.
+fn note_chain<O: OpClass>(descent: &mut Descent<O>, done: Parting) -> SplitOut
+    requires { IsBelowParent descent.old.parent }
+    ensures { NotesChain descent.old descent.new done.at done.way result }
+{
+    let Parting { way, at } = done;
+    match way {
+        Parted::With => SplitOut::Put,
+        Parted::Without { in_one: false } => {
+            descent.place(Stand::At(at), descent.parent());
+            SplitOut::LeftOut
+        }
+        Parted::Without { in_one: true } => {
+            descent.place(Stand::At(at), descent.parent());
+            descent.note_rise();
+            SplitOut::LeftOut
+        }
+    }
+}
+
+/// Divides the chain at which an insert stands below a root, and its own leaf, by the class. The new
+/// inner tuple goes on the page of the tuple above where it fits and that page is no root, else on a
+/// picked inner page of the next parity. The old head becomes a redirect to it with the clock's
+/// moment, the other tuples become placeholders, the downlink of the tuple above is set, and the clock
+/// is raised. Lists stay on the old page, in node order, while each fits there; the first that does not
+/// and all after it go to one other leaf page. `LeftOut` comes exactly where the lists that must go
+/// elsewhere do not fit with the leaf on one page; then it is in none of them, and the insert stands at
+/// the new inner tuple. `ClockFull` comes exactly where the clock is 2^48 - 1, before a page is picked;
+/// `IndexFull` only where a pick needs a new page and there may be none. After a refusal table and
+/// insert are as they were. The latches stay as they are.
+pub fn split_chain<O: OpClass>(
+    alloc: Global,
+    class: &O,
+    table: &mut PageTable,
+    descent: &mut Descent<O>,
+    seat: SeatNo,
+) -> Result<SplitOut, StepRefused>
+    requires shape { Shape O.meaning (sheets_of table.old) }
+    requires spot { IsAtChain table.old descent.old }
+    requires of_key { (key : Option O.Key) × IsCarried O.meaning (sheets_of table.old) descent.old key }
+    requires no_room { Fits table.old descent.old.stand (Live (carried descent.old) 0) → ⊥ }
+    requires long { MayMove table.old descent.old.stand (Live (carried descent.old) 0) → ⊥ }
+    ensures ok { IfOk result (λ out. IsChainSplit O.meaning table.old table.new descent.old descent.new out) }
+    ensures ticked { IfOk result (λ out. IsTicked table.old table.new) }
+    ensures full { IsErrOf result IndexFull → IsSplitFull table.old }
+    ensures clock { IsErrOf result ClockFull → table.old.clock + 1 ≡ 2 ^ 48 }
+    ensures clock_first { table.old.clock + 1 ≡ 2 ^ 48 → IsErrOf result ClockFull }
+    ensures err { OnErr result (table.new ≡ table.old) }
+    ensures err_descent { OnErr result (descent.new ≡ descent.old) }
+{
+    if table.clock() + 1 == 1 << 48 {
+        return Err(StepRefused::ClockFull);
+    }
+    match (descent.stand(), descent.parent()) {
+        (Stand::At(head), Some((parent, node))) => {
+            let done = divide_chain(alloc, class, table, descent, head, parent, node, seat)?;
+            Ok(note_chain(descent, done))
+        }
+        _ => unreachable!(),
+    }
+}
