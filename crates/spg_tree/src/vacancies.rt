@@ -1,4 +1,4 @@
-ghost use Rattle.std.specs.Prelude.{◌≡◌, ◌<◌, ◌≤◌, ◌+◌, ◌*◌, ◌++◌, ◌∷◌, [], ℕ, true, false, length, take, get_or, slice_set, IfOk, OnOk, OnErr};
+ghost use Rattle.std.specs.Prelude.{◌≡◌, ◌<◌, ◌≤◌, ◌+◌, ◌*◌, ◌++◌, ◌∷◌, ◌||◌, [], ℕ, true, false, length, take, get_or, slice_set, IfOk, OnOk, OnErr};
 ghost use Rattle.std.proofs.Common.{replicate};
 ghost use Rattle.spg_tree.specs.Vacancies.{IsNextFrom};
 
@@ -6,27 +6,31 @@ use spg_base::Memory;
 use std::alloc::Global;
 use std::marker::Model;
 
-/// How many blocks a group has.
-const GROUP: usize = 256;
-
-/// Marks at the blocks that may have no items. A search passes over whole groups without marks, so
-/// it reads at most some hundred marks beside those that it meets.
+/// Marks at the blocks that may have no items. Two blocks are a pair, and the pairs have marks of
+/// their own, one at each pair with a marked block, kept in the same way: 18 levels for 131,072
+/// blocks. A search reads at most two marks at a level, and a change a few.
 #[derive(Drop)]
 pub struct Vacancies {
     blocks: Vec<bool>,
-    groups: Vec<bool>,
+    pairs: Option<Box<Vacancies>>,
 }
 
 impl Model for Vacancies {
-    ghost use Rattle.std.specs.Prelude.{List, Bool};
+    ghost use Rattle.std.specs.Prelude.{List, Bool, length};
 
     ghost Value = { List Bool };
 
-    ghost use Rattle.spg_tree.specs.Marked.{IsGrouped};
+    ghost use Rattle.spg_tree.specs.Marked.{IsPaired};
 
     ghost view = { λ v. v.blocks.items };
 
-    ghost invariant = { IsGrouped };
+    ghost invariant = { IsPaired };
+
+    ghost size = { length };
+
+    ghost use Rattle.std.proofs.Common.{arith};
+
+    ghost size_decreases = { λ a h. Prim.grind arith };
 }
 
 impl Vacancies {
@@ -36,7 +40,7 @@ impl Vacancies {
     {
         Vacancies {
             blocks: Vec::new(alloc),
-            groups: Vec::new(alloc),
+            pairs: None,
         }
     }
 
@@ -51,18 +55,33 @@ impl Vacancies {
         Ok(vacancies)
     }
 
+    /// One block, with a mark.
+    fn one(alloc: Global) -> Result<Box<Vacancies>, Memory>
+        ensures { IfOk result (λ vacancies. vacancies.value ≡ true ∷ []) }
+    {
+        let mut blocks = Vec::new(alloc);
+        blocks.push(true)?;
+        let only = Vacancies {
+            blocks,
+            pairs: None,
+        };
+        Ok(Box::new(alloc, only)?)
+    }
+
     /// Adds a block with a mark.
     pub fn push(&mut self) -> Result<(), Memory>
         ensures ok { OnOk result (self.new ≡ self.old ++ true ∷ []) }
         ensures err { OnErr result (self.new ≡ self.old) }
     {
-        let group = self.blocks.len() / GROUP;
-        if group < self.groups.len() {
-            self.groups[group] = true;
-        } else {
-            self.groups.push(true)?;
+        let block = self.blocks.len();
+        self.blocks.try_reserve(1)?;
+        match &mut self.pairs {
+            None if block == 0 => {}
+            None => self.pairs = Some(Vacancies::one(*self.blocks.allocator())?),
+            Some(pairs) if block % 2 == 0 => pairs.push()?,
+            Some(pairs) => pairs.mark(block / 2),
         }
-        self.blocks.push(true)?;
+        let _ = self.blocks.push(true);
         Ok(())
     }
 
@@ -70,7 +89,19 @@ impl Vacancies {
     pub fn truncate(&mut self, count: usize)
         ensures { self.new ≡ take count self.old }
     {
+        if count >= self.blocks.len() {
+            return;
+        }
         self.blocks.truncate(count);
+        if count < 2 {
+            self.pairs = None;
+        } else if let Some(pairs) = &mut self.pairs {
+            let last = (count - 1) / 2;
+            pairs.truncate(last + 1);
+            if !has_mark(&self.blocks, last) {
+                pairs.clear(last);
+            }
+        }
     }
 
     /// Marks a block.
@@ -78,8 +109,13 @@ impl Vacancies {
         requires { block < length self.old }
         ensures { self.new ≡ slice_set self.old block true }
     {
+        if self.blocks[block] {
+            return;
+        }
         self.blocks[block] = true;
-        self.groups[block / GROUP] = true;
+        if let Some(pairs) = &mut self.pairs {
+            pairs.mark(block / 2);
+        }
     }
 
     /// Takes a block's mark away.
@@ -87,7 +123,15 @@ impl Vacancies {
         requires { block < length self.old }
         ensures { self.new ≡ slice_set self.old block false }
     {
+        if !self.blocks[block] {
+            return;
+        }
         self.blocks[block] = false;
+        if let Some(pairs) = &mut self.pairs
+            && !has_mark(&self.blocks, block / 2)
+        {
+            pairs.clear(block / 2);
+        }
     }
 
     /// The lowest marked block from a block on.
@@ -95,46 +139,32 @@ impl Vacancies {
         ensures next { IsNextFrom self.old from result }
         ensures same { self.new ≡ self.old }
     {
-        let mut at = from;
-        while at < self.blocks.len() {
-            if at % GROUP == 0 && self.is_bare(at / GROUP) {
-                at += GROUP;
-            } else if self.blocks[at] {
-                return Some(at);
-            } else {
-                at += 1;
-            }
-        }
-        None
+        self.lowest(from)
     }
 
-    /// Whether a group has no mark, which is then known at once.
-    fn is_bare(&mut self, group: usize) -> bool
-        requires { 256 * group < length self.old }
-        ensures bare { result ≡ true → (b : ℕ) → 256 * group ≤ b → b < 256 * group + 256 → get_or self.old b false ≡ false }
-        ensures same { self.new ≡ self.old }
+    /// What `next` gives. From a bare block on, it is in the next marked pair: its own, if the block is
+    /// the first of that, or a later one.
+    fn lowest(&self, from: usize) -> Option<usize>
+        ensures { IsNextFrom self.now from result }
     {
-        if self.groups[group] {
-            let begin = group * GROUP;
-            let end = self.blocks.len().min(begin + GROUP);
-            if has_mark(self.blocks.as_slice(), begin, end) {
-                return false;
-            }
-            self.groups[group] = false;
+        if from >= self.blocks.len() {
+            return None;
         }
-        true
+        if self.blocks[from] {
+            return Some(from);
+        }
+        let pairs = self.pairs.as_ref()?;
+        let pair = pairs.lowest((from + 1) / 2)?;
+        let first = 2 * pair;
+        Some(if self.blocks[first] { first } else { first + 1 })
     }
 }
 
-/// Whether one of a range's blocks is marked.
-fn has_mark(blocks: &[bool], begin: usize, end: usize) -> bool
-    requires { end ≤ length blocks.now }
-    ensures { result ≡ false → (b : ℕ) → begin ≤ b → b < end → get_or blocks.now b false ≡ false }
+/// Whether one of a pair of blocks is marked.
+fn has_mark(blocks: &[bool], pair: usize) -> bool
+    requires { 2 * pair < length blocks.now }
+    ensures { result ≡ (get_or blocks.now (2 * pair) false || get_or blocks.now (2 * pair + 1) false) }
 {
-    for block in begin..end {
-        if blocks[block] {
-            return true;
-        }
-    }
-    false
+    let second = 2 * pair + 1;
+    blocks[2 * pair] || second < blocks.len() && blocks[second]
 }
