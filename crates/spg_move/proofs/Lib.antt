@@ -4,6 +4,7 @@ pub mod Leaving
 pub mod MoveLaw
 pub mod Standing
 pub mod SplitHomes
+pub mod SplitPages
 pub mod SplitLaw
 pub mod SplitStanding
 pub mod SplitJoin

@@ -1,16 +1,16 @@
 -- The split of an inner tuple as the insert and its callers see it.
+use Rattle.std.proofs.lemmas.List.{length-replicate}
 use Rattle.std.proofs.Common.{◌≡◌, ℕ, ◌+◌, ◌≤◌, ◌<◌, ℤ, Bool, true, false, List, [], ◌∷◌, ⊎_elim, Option, Some, None, get_or, length, refl, sym, ap, ◌∙◌, subst, inl, inr, arith}
 use Rattle.spg_base.specs.Row.{RowAt}
 use Rattle.spg_opclass.specs.Meaning.{Meaning, upper, lower}
-use Rattle.spg_opclass.specs.Laws.{SplitLaw, CodeLaw}
+use Rattle.spg_opclass.specs.Laws.{SplitLaw, CodeLaw, inner_size}
 use Rattle.spg_opclass.specs.declared.view.Choice.TheVariants.{Split}
 use Rattle.spg_forest.specs.View.{Place}
 use Rattle.spg_forest.specs.Spot.{Frame, Spot, Branch, child_of}
 use Rattle.spg_forest.specs.Tuples.{Tuple, Inner, IsAmong}
-use Rattle.spg_forest.specs.Pages.{tuple_on, with_tuple}
+use Rattle.spg_forest.specs.Pages.{tuple_on}
 use Rattle.spg_forest.specs.Classes.{class_of, HasEntry, HasRecon}
-use Rattle.spg_forest.specs.Fit.{FitAt}
-use Rattle.spg_forest.specs.Sheets.{Sheet, Sheets, sheet_at, size_of}
+use Rattle.spg_forest.specs.Sheets.{Sheet, Sheets, sheet_at, size_of, links}
 use Rattle.spg_forest.specs.Shape.{Shape, spots}
 use Rattle.spg_forest.specs.Section.{Leaves, Cost}
 use Rattle.spg_forest.specs.Edits.{tuple_of, spot_of}
@@ -21,23 +21,20 @@ use Rattle.spg_forest.proofs.Keeping.{entry_of, no_entry}
 use Rattle.spg_forest.proofs.Picks.{picked_shape, picked_spots, leaves_after_pick}
 use Rattle.spg_forest.proofs.Sections.{shape_tree, shape_shown}
 use Rattle.spg_forest.proofs.Writes.{high_spot, inner_at}
-use Rattle.spg_page.specs.Kinds.{IsInner}
-use Rattle.spg_page.specs.Changes.{added}
+use Rattle.spg_page.specs.Kinds.{IsOffset, IsInner}
 use Rattle.spg_page.specs.Reads.{frame_in}
-use Rattle.spg_tree.specs.Table.{Table, sheets_of, tuples_at, tuple_at, latch_at, with_tuples_at, with_touched}
+use Rattle.spg_tree.specs.Table.{Table, sheets_of, tuples_at, tuple_at, latch_at}
+use Rattle.spg_tree.specs.Table as table
 use Rattle.spg_tree.specs.Descents.{Descending, in_nulls, risen}
 use Rattle.spg_tree.specs.declared.stand.Stand.{Stand}
 use Rattle.spg_tree.specs.declared.stand.Stand.TheVariants.{Start, Root, At, Empty}
-use Rattle.spg_descend.specs.Below.{IsLink}
 use Rattle.spg_descend.specs.Carried.{IsCarried, WayFits}
 use Rattle.spg_descend.specs.Follows.{IsAtInner, tuple_place}
 use Rattle.spg_descend.specs.Puts.{IsQuiet}
-use Rattle.spg_descend.proofs.PutLaws.{kind_kept}
 use Rattle.spg_split.specs.Parts.{bare}
-use Rattle.spg_split.specs.Writing.{new_place, added_table}
 use Rattle.spg_move.specs.Answers.{IsInnerOf, IsAnswered}
 use Rattle.spg_move.specs.Splits.{PartsTuple, split_cost}
-use Rattle.spg_move.specs.Splitting.{upper_table, parted_table, split_touched, IsParted}
+use Rattle.spg_move.specs.Splitting.{split_touched, MayPart, IsParted}
 use Rattle.spg_move.proofs.SplitHomes.{IsHoused, housed, IsAway, away, touched_few}
 use Rattle.spg_move.proofs.SplitLaw.{IsDivision}
 use Rattle.spg_move.proofs.SplitLaw as law
@@ -221,3 +218,30 @@ module _ {Key Recon Cond : Type 0} (m : Meaning Key Recon Cond) (t : Table) (H :
       link = link_now;
       carries = carries;
     })
+
+  -- ---- what the code has: the place, its page, and the two tuples
+  module _ (at : Place) (page : Sheet) (place_is : at ≡ x) (page_is : page ≡ table.sheet_at t at.block) where
+    tuple_is : tuple_on page.tuples at.offset ≡ tuple_at t x
+    tuple_is = ap (λ (s : Sheet). tuple_on s.tuples at.offset) page_is ∙ ap (tuple_at t) place_is
+
+    pub within_page : IsOffset page.tuples at.offset
+    within_page = subst (λ (s : Sheet). IsOffset s.tuples at.offset) (sym page_is) (subst (λ (o : Place). IsOffset (tuples_at t o.block) o.offset) (sym place_is) (standing.within m t H splits codes d c pre low labels I N K A))
+
+    pub inner_page : IsInner (tuple_on page.tuples at.offset)
+    inner_page = subst IsInner (sym tuple_is) (standing.at_inner m t H splits codes d c pre low labels I N K A).2
+
+    pub small_page : inner_size (lower (frame_in (tuple_on page.tuples at.offset)) low) ≤ 8156
+    small_page = subst (λ (z : Tuple). inner_size (lower (frame_in z) low) ≤ 8156) (sym tuple_is) (standing.lower_small m t H splits codes d c pre low labels I N K A)
+
+    module _ (a b : Tuple) (upper_is : a ≡ up) (lower_is : b ≡ Inner (lower (frame_in (tuple_on page.tuples at.offset)) low) (links (tuple_on page.tuples at.offset))) where
+      pub may_part : MayPart t at a
+      may_part = subst (λ (o : Place). MayPart t o a) (sym place_is) (subst (λ (z : Tuple). MayPart t x z) (sym upper_is) (standing.may_part m t H splits codes d c pre low labels I N K A))
+
+      pub child_node : c < length (links a)
+      child_node =
+          let e = ap (λ (z : Tuple). length (links z)) upper_is in
+          let l : length (bare (length labels)) ≡ length labels = length-replicate (length labels) None in
+          let k = (standing.split m t H splits codes d c pre low labels I N K A).child_there in omega arith
+
+      pub parts_of : (t2 : Table) (seat : ℕ) (d2 : Descending Recon) → IsParted t t2 at c seat a b → d2 ≡ risen d → PartsTuple m t t2 d d2 pre labels
+      parts_of t2 seat d2 P e = parts t2 seat (subst (λ (o : Place). IsParted t t2 o c seat up lo) place_is (subst (λ (z : Tuple). IsParted t t2 at c seat z lo) upper_is (subst (λ (z : Tuple). IsParted t t2 at c seat a z) (lower_is ∙ ap (λ (z : Tuple). Inner (lower (frame_in z) low) (links z)) tuple_is) P))) d2 e

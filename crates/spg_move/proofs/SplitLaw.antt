@@ -225,11 +225,11 @@ module _ {Key Recon Cond : Type 0} (m : Meaning Key Recon Cond) (u : Table) (x :
   changed_c : AreChanged m S Sc
   changed_c = changed_put m S Sb x (Inner v us) changed_b can_b may_c fits_c (inr (λ e. cc))
 
-  pub V2 : Place → Spot
+  abbrev pub V2 : Place → Spot
   V2 = put_at (put_at V q (Branch v us)) y (Branch lo ns)
 
   shown_c : IsShown (pages_of Sc) V2
-  unfolding V2 Vb Va
+  unfolding Vb Va
   shown_c = subst (λ (U : Place → Spot). IsShown (pages_of Sc) U) (written_twice V q y (Branch v bs) (Branch lo ns) (Branch v us) y_not_q) ((inner_at Sb Vb x v bs shown_b can_b x_b).changed v us)
 
   -- ---- what it costs

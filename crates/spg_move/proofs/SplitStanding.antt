@@ -128,7 +128,7 @@ module _ {Key Recon Cond : Type 0} (m : Meaning Key Recon Cond) (t : Table) (H :
     lower_small = codes.inner_fits (lower w low) split.lower_well_formed
 
     pub shorter : size_of up ≤ size_of (Inner w ns)
-    shorter = let a = split.not_longer in let b = length-replicate (length labels) None in let e = each in omega arith
+    shorter = let a = split.not_longer in let b : length (bare (length labels)) ≡ length labels = length-replicate (length labels) None in let e = each in omega arith
 
     pub may_part : MayPart t x up
     may_part = record {
