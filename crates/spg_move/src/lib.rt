@@ -5,5 +5,7 @@
 mod chain;
 mod leaves;
 mod moving;
+mod node;
 
 pub use chain::move_chain;
+pub use node::add_node;
