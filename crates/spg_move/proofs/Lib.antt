@@ -3,3 +3,11 @@ pub mod Adding
 pub mod Leaving
 pub mod MoveLaw
 pub mod Standing
+pub mod NodeTuple
+pub mod NodePicks
+pub mod NodePages
+pub mod NodeStanding
+pub mod NodeLaw
+pub mod NodeWrites
+pub mod NodeShift
+pub mod NodeMoved

@@ -1,3 +1,4 @@
 pub mod Moves
 pub mod Moving
 pub mod Nodes
+pub mod Widening

@@ -6,6 +6,8 @@ mod chain;
 mod leaves;
 mod moving;
 mod node;
+mod node_tuple;
+mod node_write;
 
 pub use chain::move_chain;
 pub use node::add_node;
