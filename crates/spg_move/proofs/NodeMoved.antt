@@ -214,15 +214,15 @@ module _ {Key Recon Cond : Type 0} (m : Meaning Key Recon Cond) (adds : AddLaw m
   shifted_out t2 d2 u seat to R eu ed = go d.stand d.parent refl refl R
     where
       go : (st : Stand) (pa : Option (Place × ℕ)) → d.stand ≡ st → d.parent ≡ pa → IsShiftedAt t t2 d st pa u seat to → IsNodeAdded m t t2 d d2 at label
-      go Start pa es ep r = absurd r
-      go (Root b) pa es ep r = absurd r
-      go (At z) None es ep r = absurd r
-      go (At z) (Some (p, i)) es ep r =
-          let ex : x ≡ z = ap tuple_place es in
-          let a : IsInnerOf t (in_nulls d) (At z) (Some (p, i)) = subst (λ (q : Option (Place × ℕ)). IsInnerOf t (in_nulls d) (At z) q) ep (subst (λ (s : Stand). IsInnerOf t (in_nulls d) s d.parent) es A) in
+      go Start pa eq ep r = absurd r
+      go (Root b) pa eq ep r = absurd r
+      go (At z) None eq ep r = absurd r
+      go (At z) (Some (p, i)) eq ep r =
+          let ex : x ≡ z = ap tuple_place eq in
+          let a : IsInnerOf t (in_nulls d) (At z) (Some (p, i)) = subst (λ (q : Option (Place × ℕ)). IsInnerOf t (in_nulls d) (At z) q) ep (subst (λ (s : Stand). IsInnerOf t (in_nulls d) s d.parent) eq A) in
           let high : 3 ≤ x.block = subst (λ (v : Place). 3 ≤ v.block) (sym ex) a.0.0 in
-          let hung : IsHung t x p i = subst (λ (v : Place). IsHung t v p i) (sym ex) (standing.hung m t H (in_nulls d) z p i a) in
+          let hung : IsHung t x p i = subst (λ (v : Place). IsHung t v p i) (sym ex) (standing.hung_at m t H (in_nulls d) d.stand d.parent z p i eq ep A) in
           let link : IsLink t p i x = subst (λ (v : Place). IsLink t p i v) (sym ex) a.2 in
           let s : IsShifted t t2 (in_nulls d) x p i (widened (tuple_at t x) at label) seat to = subst (λ (v : Tuple). IsShifted t t2 (in_nulls d) x p i v seat to) eu (subst (λ (v : Place). IsShifted t t2 (in_nulls d) v p i u seat to) (sym ex) r) in
           moved_there p i ep high hung link s.picked s.block seat s.picks s.is_picked t2 d2 to s.at s.after ed
-      go Empty pa es ep r = absurd r
+      go Empty pa eq ep r = absurd r

@@ -1,5 +1,5 @@
 -- A node put into an inner tuple that goes to another page.
-use Rattle.std.proofs.Common.{◌≡◌, ℕ, suc, ◌+◌, ◌≤◌, ◌<◌, true, false, List, [], ◌∷◌, ◌⊎◌, ⊎_elim, Option, Some, None, insert, get_or, set, length, length-set, refl, sym, ap, ◌∙◌, subst, inl, inr, arith}
+use Rattle.std.proofs.Common.{◌≡◌, ℕ, suc, ◌+◌, ◌*◌, ◌≤◌, ◌<◌, true, false, List, [], ◌∷◌, ◌⊎◌, ⊎_elim, Option, Some, None, insert, get_or, set, length, length-set, refl, sym, ap, ◌∙◌, subst, inl, inr, arith}
 use mathlib.Core.Path.{fun_ext}
 use Rattle.std.proofs.lemmas.Bool.{cases_eq}
 use Rattle.std.proofs.lemmas.List.{get_or-set_same, get_or-set_other}

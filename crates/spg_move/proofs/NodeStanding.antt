@@ -94,7 +94,7 @@ module _ {Key Recon Cond : Type 0} (m : Meaning Key Recon Cond) (t : Table) (H :
       (H.links.root b p k)
 
   -- what does not fit in its place is not at a root
-  pub not_at_root : (nulls : Bool) (b : ℕ) (pa : Option (Place × ℕ)) (u : Tuple) → IsInnerOf t nulls (Root b) pa → size_of u ≤ 8156 → (FitsInPlace (tuples_at t b) 1 u → ⊥) → ⊥
+  not_at_root : (nulls : Bool) (b : ℕ) (pa : Option (Place × ℕ)) (u : Tuple) → IsInnerOf t nulls (Root b) pa → size_of u ≤ 8156 → (FitsInPlace (tuples_at t b) 1 u → ⊥) → ⊥
   not_at_root nulls b pa u a small n = n (root_fits b u (let h = (root_block nulls).0 in let e = a.0 in omega arith) a.1.0 a.1.2 small)
 
   kind_at : (x : Place) (w : Frame) (ns : List (Option Place)) → tuple_at t x ≡ Inner w ns → IsKindOf m (table.sheet_at t x.block).inner (table.sheet_at t x.block).nulls (Inner w ns)
@@ -117,7 +117,7 @@ module _ {Key Recon Cond : Type 0} (m : Meaning Key Recon Cond) (t : Table) (H :
       let s : spots S x ≡ Branch w ns = ap (spots S) (sym (high_spot x high)) ∙ (inner_at S (spots S) x w ns (shape_shown m S H) can ex).shown in
       no_loop (class_of m) (spots S) t.clock (shape_tree m S H) x i (ap (λ (z : Spot). child_of z i) s ∙ l)
 
-  pub hung : (nulls : Bool) (x p : Place) (i : ℕ) → IsInnerOf t nulls (At x) (Some (p, i)) → IsHung t x p i
+  hung : (nulls : Bool) (x p : Place) (i : ℕ) → IsInnerOf t nulls (At x) (Some (p, i)) → IsHung t x p i
   hung nulls x p i (A, tree, (there, (w, ns, e, l))) =
       let ex = inner_is (tuple_at t x) A.2 in
       let k = kind_at x (frame_in (tuple_at t x)) (links (tuple_at t x)) ex in
@@ -133,6 +133,17 @@ module _ {Key Recon Cond : Type 0} (m : Meaning Key Recon Cond) (t : Table) (H :
         apart = not_itself x p i A.0 A.1 w ns e l;
         node = let c = ap (λ (u : Tuple). length (links u)) e in let h = within_from_some ns i x l in omega arith;
       }
+
+  pub hung_at : (nulls : Bool) (st : Stand) (pa : Option (Place × ℕ)) (x p : Place) (i : ℕ) → st ≡ At x → pa ≡ Some (p, i) → IsInnerOf t nulls st pa → IsHung t x p i
+  hung_at nulls st pa x p i es ep a = hung nulls x p i (subst (λ (q : Option (Place × ℕ)). IsInnerOf t nulls (At x) q) ep (subst (λ (s : Stand). IsInnerOf t nulls s pa) es a))
+
+  -- what does not fit in its place is below a tuple
+  pub no_other : (nulls : Bool) (st : Stand) (pa : Option (Place × ℕ)) (u : Tuple) → IsInnerOf t nulls st pa → size_of u ≤ 8156 → (FitsInPlace (tuples_at t (tuple_place st).block) (tuple_place st).offset u → ⊥) → ((x p : Place) (i : ℕ) → st ≡ At x → pa ≡ Some (p, i) → ⊥) → ⊥
+  no_other nulls Start pa u a small n k = a
+  no_other nulls (Root b) pa u a small n k = not_at_root nulls b pa u a small n
+  no_other nulls (At x) None u a small n k = a
+  no_other nulls (At x) (Some (p, i)) u a small n k = k x p i refl refl
+  no_other nulls Empty pa u a small n k = a
 
 -- the class's answer
 module _ {Key Recon Cond : Type 0} (m : Meaning Key Recon Cond) (adds : AddLaw m) (codes : CodeLaw m) (t : Table) (d : Descending Recon) (at : ℕ) (label : ℤ) (H : Shape m (sheets_of t)) (A : IsInnerOf t (in_nulls d) d.stand d.parent) (main : in_nulls d ≡ false)

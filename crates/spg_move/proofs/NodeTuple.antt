@@ -1,16 +1,15 @@
 -- The nodes of an inner tuple, with one more among them.
-use Rattle.std.proofs.Common.{◌≡◌, ℕ, zero, suc, ◌+◌, ◌≤◌, ◌<◌, List, [], ◌∷◌, ◌++◌, insert, length, map, take, drop, Option, Some, None, refl, sym, ap, ap₂, ◌∙◌, append_assoc, arith}
+use Rattle.std.proofs.Common.{◌≡◌, ℕ, zero, suc, ◌+◌, ◌≤◌, ◌<◌, List, [], ◌∷◌, ◌++◌, insert, length, map, take, drop, Option, Some, None, refl, sym, ap, ap₂, ◌∙◌, subst, append_assoc, length-append, arith, ◌*◌}
 use Rattle.std.specs.List.{AllByRecursion}
 use Rattle.std.specs.Prelude.{IfSome, ℤ}
-use Rattle.std.proofs.lemmas.List.Edits.{length-insert}
-use Rattle.spg_opclass.specs.Meaning.{longer}
+use Rattle.std.proofs.lemmas.List.{length-map}
 use Rattle.spg_forest.specs.View.{Place}
-use Rattle.spg_forest.specs.Spot.{Frame}
 use Rattle.spg_forest.specs.Tuples.{Tuple, Inner}
+use Rattle.spg_forest.specs.Sheets.{size_of}
 use Rattle.spg_page.specs.declared.tuple.Node.{Node}
 use Rattle.spg_page.specs.declared.tuple.InnerTuple.{InnerTuple}
 use Rattle.spg_page.specs.Told.{labels_of, links_of, frame_of}
-use Rattle.spg_page.specs.Spelling.{IsNode, IsInner, IsPlace}
+use Rattle.spg_page.specs.Spelling.{IsNode, IsInner, IsPlace, padded}
 use Rattle.spg_move.specs.Widening.{widened}
 
 map_insert : {A B : Type 0} (f : A → B) (xs : List A) (i : ℕ) (x : A) → map f (insert xs i x) ≡ insert (map f xs) i (f x)
@@ -43,7 +42,7 @@ can_write (n ∷ ns) a = (go n.link a.0.link, can_write ns a.1)
     go None h = tt
     go (Some to) h = (h.1, h.0.offset_from)
 
-pub insert_written : (t : InnerTuple) (at : ℕ) (label : ℤ) → IsInner t → AllByRecursion CanWrite (insert t.nodes at (new_node label))
+insert_written : (t : InnerTuple) (at : ℕ) (label : ℤ) → IsInner t → AllByRecursion CanWrite (insert t.nodes at (new_node label))
 insert_written t at label h = all_insert CanWrite t.nodes at (new_node label) (can_write t.nodes h.nodes) tt
 
 -- the tuple that is spelled
@@ -52,3 +51,15 @@ pub widened_told : (t : InnerTuple) (u : Tuple) (at : ℕ) (label : ℤ) (ns : L
 widened_told t u at label ns e f =
     ap₂ (λ (ls : List ℤ) (ks : List (Option Place)). Inner (record { all_same = t.all_same; prefix = t.prefix; labels = ls }) ks) (ap labels_of f ∙ map_insert (λ (n : Node). n.label) t.nodes at (new_node label)) (ap links_of f ∙ map_insert (λ (n : Node). n.link) t.nodes at (new_node label))
     ∙ ap (λ (v : Tuple). widened v at label) e
+
+insert_some : {A : Type 0} (xs : List A) (i : ℕ) (x : A) → 0 < length (insert xs i x)
+insert_some xs i x = let a = length-append (take i xs) (x ∷ drop i xs) in omega arith
+
+-- what the spelling asks
+pub may_spell : (t : InnerTuple) (u : Tuple) (at : ℕ) (label : ℤ) (ns : List Node) → Inner (frame_of t) (links_of t.nodes) ≡ u → ns ≡ insert t.nodes at (new_node label) → IsInner t → size_of (widened u at label) ≤ 8156 →
+    (0 < length ns) × AllByRecursion CanWrite ns × (8 + padded (length t.prefix) + 8 * length ns ≤ 8156)
+may_spell t u at label ns e f h small = (
+  (let a = insert_some t.nodes at (new_node label) in let b = ap length f in omega arith),
+  subst (λ (ks : List Node). AllByRecursion CanWrite ks) (sym f) (insert_written t at label h),
+  let a = ap size_of (widened_told t u at label ns e f) in let b = ap (λ n. 8 * n) (length-map ns (λ (n : Node). n.link)) in omega arith,
+)

@@ -1,4 +1,4 @@
-ghost use Rattle.std.specs.Prelude.{◌≡◌, ◌+◌, ◌^◌, false, Option, OnOk, IfOk, OnErr, IsErrOf};
+ghost use Rattle.std.specs.Prelude.{◌≡◌, ◌≤◌, ◌+◌, ◌^◌, false, Option, OnOk, IfOk, OnErr, IsErrOf};
 ghost use Rattle.spg_opclass.specs.declared.view.Choice.TheVariants.{Add};
 ghost use Rattle.spg_forest.specs.Sheets.{size_of};
 ghost use Rattle.spg_forest.specs.Shape.{Shape};
@@ -46,7 +46,6 @@ fn shift_tuple<O: OpClass>(
 ) -> Result<Place, StepRefused>
     requires shape { Shape O.meaning (sheets_of table.old) }
     requires spot { IsInnerOf table.old (in_nulls descent.now) descent.now.stand descent.now.parent }
-    requires main { in_nulls descent.now ≡ false }
     requires size { size_of longer.now ≤ 8156 }
     requires no_room { FitsInPlace (tuples_at table.old (tuple_place descent.now.stand).block) (tuple_place descent.now.stand).offset longer.now → ⊥ }
     ensures ok { IfOk result (λ to. IsShiftedFrom table.old table.new descent.now longer.now seat to) }

@@ -46,15 +46,14 @@ pub(crate) fn widen_here(table: &mut PageTable, at: &Place, longer: &TupleBytes)
     table.set_touched(touched);
 }
 
-/// Adds a tuple to a page that has room, and tells where it is.
-fn add_on(table: &mut PageTable, block: Block, tuple: &TupleBytes) -> Place
+/// Adds a tuple to a page that has room, and tells at which offset.
+fn add_on(table: &mut PageTable, block: Block, tuple: &TupleBytes) -> Offset
     requires block { (0 < block) × (block < length table.old.pages) }
     requires room { size_of tuple.now + 4 ≤ room_of (tuples_at table.old block) 1 }
-    ensures at { result ≡ new_place table.old block }
+    ensures at { result ≡ (new_place table.old block).offset }
     ensures table { table.new ≡ added_table table.old block tuple.now }
 {
-    let offset = table.page_mut(block).add(tuple);
-    Place { block, offset }
+    table.page_mut(block).add(tuple)
 }
 
 /// Puts the longer tuple on another page. A redirect with the clock's moment stays, and the node of
@@ -75,12 +74,13 @@ fn write_shifted(
     ensures at { result ≡ new_place table.old block }
     ensures table { table.new ≡ shifted_table table.old block at.now parent.now node longer.now }
 {
-    let to = add_on(table, block, longer);
-    let redirect = TupleBytes::redirect(to, Stamp::at(table.clock()));
+    let offset = add_on(table, block, longer);
+    let stamp = Stamp::at(table.clock());
+    let redirect = TupleBytes::redirect(Place { block, offset }, stamp);
     put_at(table, at, &redirect);
-    table.relink(*parent, node, Some(to));
+    table.relink(*parent, node, Some(Place { block, offset }));
     table.raise_clock();
-    to
+    Place { block, offset }
 }
 
 /// Adds a block that was there before, where it is not the other one.
