@@ -16,17 +16,17 @@ use Rattle.spg_split.specs.Writing.{new_place, added_table}
 use Rattle.spg_move.specs.Widening.{FitsInPlace, put_table, left_table, shifted_table, IsHung}
 
 -- where nothing stands no node is
-pub no_node : (u : Tuple) (i : ℕ) → i < length (links u) → u ≡ Placeholder → ⊥
+no_node : (u : Tuple) (i : ℕ) → i < length (links u) → u ≡ Placeholder → ⊥
 no_node u i h e = let a = ap (λ (v : Tuple). length (links v)) e in absurd (omega arith)
 
 module _ (t : Table) (x p : Place) (i b : ℕ) (u : Tuple) (h : IsHung t x p i) (there : (0 < b) × (b < length t.pages)) (apart : x.block ≡ b → ⊥) where
-  abbrev pub y : Place
+  abbrev y : Place
   y = new_place t b
 
-  abbrev pub ta : Table
+  abbrev ta : Table
   ta = added_table t b u
 
-  abbrev pub tx : Table
+  abbrev tx : Table
   tx = left_table t b x u
 
   abbrev red : Tuple
@@ -35,7 +35,7 @@ module _ (t : Table) (x p : Place) (i b : ℕ) (u : Tuple) (h : IsHung t x p i) 
   pub can_y : CanPut (sheets_of t) y
   can_y = record { block = there.1; positive = omega arith; within = let f = free_place_length (tuples_at t b) in omega arith }
 
-  pub y_free : tuple_at t y ≡ Placeholder
+  y_free : tuple_at t y ≡ Placeholder
   y_free = free_place_free (tuples_at t b)
 
   pub y_not_x : y ≡ x → ⊥
@@ -44,28 +44,22 @@ module _ (t : Table) (x p : Place) (i b : ℕ) (u : Tuple) (h : IsHung t x p i) 
   pub p_not_y : p ≡ y → ⊥
   p_not_y e = no_node (tuple_at t p) i h.node (ap (tuple_at t) e ∙ y_free)
 
-  pub count_a : length ta.pages ≡ length t.pages
+  count_a : length ta.pages ≡ length t.pages
   count_a = length-set t.pages b (with_tuples (sheet_at t b) (added (tuples_at t b) u))
 
-  pub count_x : length tx.pages ≡ length t.pages
-  count_x = length-set ta.pages x.block (with_tuples (sheet_at ta x.block) (with_tuple (tuples_at ta x.block) x.offset red)) ∙ count_a
-
-  pub x_page : tuples_at ta x.block ≡ tuples_at t x.block
+  x_page : tuples_at ta x.block ≡ tuples_at t x.block
   x_page = ap (λ (s : Sheet). s.tuples) (sheet_other (sheets_of t) b (with_tuples (sheet_at t b) (added (tuples_at t b) u)) x.block apart)
 
-  pub x_there : (0 < x.block) × (x.block < length ta.pages)
+  x_there : (0 < x.block) × (x.block < length ta.pages)
   x_there = let a = h.here in let c = count_a in (a.0, omega arith)
 
-  pub x_within : IsOffset (tuples_at ta x.block) x.offset
+  x_within : IsOffset (tuples_at ta x.block) x.offset
   x_within = subst (λ (ts : List Tuple). IsOffset ts x.offset) (sym x_page) h.within
-
-  pub x_room : (to : Place) (stamp : ℕ) → FitsInPlace (tuples_at ta x.block) x.offset (Redirect to stamp)
-  x_room to stamp = subst (λ (ts : List Tuple). FitsInPlace ts x.offset (Redirect to stamp)) (sym x_page) (let a = h.size in omega arith)
 
   pub can_x : CanPut (sheets_of ta) x
   can_x = let a = x_within in record { block = x_there.1; positive = a.0; within = let k = a.1 in omega arith }
 
-  pub p_tuple : tuple_at tx p ≡ tuple_at t p
+  p_tuple : tuple_at tx p ≡ tuple_at t p
   p_tuple =
       ap (λ (F : Place → Tuple). F p) (tuple_put (sheets_of ta) x red can_x) ∙ put_at_other (tuple_at ta) x red p h.apart
       ∙ ap (λ (F : Place → Tuple). F p) (tuple_put (sheets_of t) y u can_y) ∙ put_at_other (tuple_at t) y u p p_not_y
@@ -73,15 +67,6 @@ module _ (t : Table) (x p : Place) (i b : ℕ) (u : Tuple) (h : IsHung t x p i) 
   pub p_node : i < length (links (tuple_at tx p))
   p_node = subst (λ (v : Tuple). i < length (links v)) (sym p_tuple) h.node
 
-  pub p_within : IsOffset (tuples_at tx p.block) p.offset
-  p_within = (h.above_within.0, stands_within (tuples_at tx p.block) p.offset (no_node (tuple_at tx p) i p_node))
-
-  pub p_there : (0 < p.block) × (p.block < length tx.pages)
-  p_there = let a = h.above in let c = count_x in (a.0, omega arith)
-
   -- what the code does one after another
   pub left_is : (ta2 tx2 : Table) (to : Place) (r : Tuple) (stamp clock : ℕ) → ta2 ≡ ta → to ≡ y → r ≡ Redirect to stamp → stamp ≡ clock → clock ≡ ta2.clock → tx2 ≡ put_table ta2 x r → tx2 ≡ tx
   left_is ta2 tx2 to r stamp clock ea et er es ec ex = ex ∙ ap₂ (λ (z : Table) (v : Tuple). put_table z x v) ea (er ∙ ap₂ Redirect et (es ∙ ec ∙ ap (λ (z : Table). z.clock) ea))
-
-  pub shifted_is : (tx2 t3 t4 : Table) (to : Place) → tx2 ≡ tx → to ≡ y → t3 ≡ with_link tx2 p i (Some to) → t4 ≡ with_clock t3 (t3.clock + 1) → t4 ≡ shifted_table t b x p i u
-  shifted_is tx2 t3 t4 to ex et e3 e4 = e4 ∙ ap (λ (z : Table). with_clock z (z.clock + 1)) (e3 ∙ ap₂ (λ (z : Table) (v : Place). with_link z p i (Some v)) ex et)

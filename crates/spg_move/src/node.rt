@@ -80,16 +80,17 @@ fn note_shift<O: OpClass>(descent: &mut Descent<O>, to: Place)
     descent.note_node();
 }
 
-/// Puts a node with this label, -32,768 to 32,767, and an empty downlink into the inner tuple at which
-/// an insert stands: at a root, or at a place to which the node of the tuple above leads. The node
-/// stands at the position `at`, from 0 to the number of nodes; the other nodes keep their order and
-/// their downlinks. Where the longer tuple fits in its place it stays there, and so it always does at a
-/// root. Else it goes to a picked inner page of the same tree and of the same parity as its old block;
-/// the old place becomes a redirect to it with the clock's moment, the downlink of the tuple above is
-/// set, the clock is raised, and the insert stands at the new place. `ClockFull` comes only where the
-/// tuple must move and the clock is 2^48 - 1, before a page is picked; `IndexFull` only where the pick
-/// needs a new page and there may be none. After a refusal table and insert are as they were. The
-/// latches stay as they are.
+/// Puts a node with this label and an empty downlink into the inner tuple at which an insert stands:
+/// that of a root, or one to which the node of the tuple above leads. The node has the position `at`,
+/// from 0 to the number of nodes; the other nodes keep their order and their downlinks. Where the
+/// longer tuple fits in its place it stays there, and at a root it always fits. Else it goes to a
+/// picked inner page of the same tree and of the same parity as its old block; the old place becomes a
+/// redirect to it with the clock's moment, the downlink of the tuple above is set, the clock is raised
+/// by one, and the insert stands at the new place. In both cases the insert notes that it has added a
+/// node, and the touched blocks are those changed or added, each once. `ClockFull` comes only where the
+/// longer tuple does not fit and the clock is 2^48 - 1, before a page is picked; `IndexFull` only where
+/// the pick needs a new page and there may be none. After a refusal table and insert are as they were.
+/// The latches stay as they are.
 pub fn add_node<O: OpClass>(
     alloc: Global,
     table: &mut PageTable,
