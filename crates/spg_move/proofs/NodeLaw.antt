@@ -1,5 +1,5 @@
 -- A node put into an inner tuple that stays in its place.
-use Rattle.std.proofs.Common.{◌≡◌, ℕ, suc, ◌+◌, ◌≤◌, ◌<◌, false, List, [], ◌∷◌, ◌⊎◌, Option, Some, None, get_or, length, length-set, refl, sym, ap, ◌∙◌, subst, inl, inr, arith}
+use Rattle.std.proofs.Common.{◌≡◌, ℕ, ◌≤◌, false, List, [], ◌∷◌, Option, Some, None, get_or, length-set, refl, sym, ap, ◌∙◌, subst, inl, arith}
 use Rattle.std.specs.Prelude.{ℤ}
 use Rattle.spg_opclass.specs.Meaning.{Meaning}
 use Rattle.spg_opclass.specs.Laws.{AddLaw, CodeLaw}
@@ -8,7 +8,7 @@ use Rattle.spg_forest.specs.View.{Place}
 use Rattle.spg_forest.specs.Spot.{Frame, Branch, put_at}
 use Rattle.spg_forest.specs.Tuples.{Tuple, Inner}
 use Rattle.spg_forest.specs.Pages.{with_tuple}
-use Rattle.spg_forest.specs.Sheets.{Sheet, Sheets, sheet_at, with_tuples, weight}
+use Rattle.spg_forest.specs.Sheets.{Sheets, sheet_at, with_tuples, weight}
 use Rattle.spg_forest.specs.Shape.{Shape, spots}
 use Rattle.spg_forest.specs.Section.{Leaves}
 use Rattle.spg_forest.specs.Walk.{spread}
@@ -28,7 +28,7 @@ use Rattle.spg_tree.specs.Descents.{Descending, in_nulls, with_node}
 use Rattle.spg_tree.specs.declared.stand.Stand.{Stand}
 use Rattle.spg_tree.specs.declared.stand.Stand.TheVariants.{Start, Root, At, Empty}
 use Rattle.spg_descend.specs.Carried.{carried, IsCarried, WayFits}
-use Rattle.spg_descend.specs.Follows.{IsAtInner, tuple_place}
+use Rattle.spg_descend.specs.Follows.{IsAtInner}
 use Rattle.spg_descend.specs.Puts.{IsQuiet}
 use Rattle.spg_descend.proofs.PutLaws.{kind_kept}
 use Rattle.spg_split.proofs.ChainPages.{Stage, begin_stage}

@@ -1,5 +1,5 @@
 -- What comes of an inner tuple that goes to a picked page with one more node.
-use Rattle.std.proofs.Common.{◌≡◌, ℕ, suc, ◌+◌, ◌≤◌, ◌<◌, Bool, true, false, List, [], ◌∷◌, ◌⊎◌, Option, Some, None, get_or, set, length, refl, sym, ap, ◌∙◌, subst, inl, inr, arith}
+use Rattle.std.proofs.Common.{◌≡◌, ℕ, ◌+◌, ◌≤◌, ◌<◌, Bool, false, List, Option, Some, None, get_or, set, length, refl, sym, ap, ◌∙◌, subst, inl, inr, arith}
 use Rattle.std.specs.Prelude.{ℤ}
 use Rattle.spg_opclass.specs.Meaning.{Meaning}
 use Rattle.spg_opclass.specs.Laws.{AddLaw, CodeLaw}
@@ -13,7 +13,7 @@ use Rattle.spg_forest.specs.Fit.{FitAt}
 use Rattle.spg_forest.specs.Sheets.{Sheet, Sheets, sheet_at, size_of, links}
 use Rattle.spg_forest.specs.Shape.{Shape, IsTupleOf, spots}
 use Rattle.spg_forest.specs.Section.{Leaves}
-use Rattle.spg_forest.specs.Edits.{tuple_of, spot_of}
+use Rattle.spg_forest.specs.Edits.{tuple_of}
 use Rattle.spg_forest.specs.Changes.{IsLonger}
 use Rattle.spg_forest.specs.Puts.{IsComing}
 use Rattle.spg_forest.proofs.Keeping.{leaves_coming}

@@ -1,14 +1,14 @@
 -- The pages while a node is put into an inner tuple: what each write shows, and what it costs.
-use Rattle.std.proofs.Common.{◌≡◌, ℕ, suc, ◌+◌, ◌≤◌, ◌<◌, Bool, true, List, ◌⊎◌, Option, Some, None, get_or, length, length-set, refl, sym, ap, ◌∙◌, subst, inl, inr, arith}
+use Rattle.std.proofs.Common.{◌≡◌, ℕ, ◌+◌, ◌≤◌, ◌<◌, Bool, true, List, Option, Some, None, get_or, length, length-set, refl, sym, ap, ◌∙◌, subst, inl, inr, arith}
 use Rattle.spg_opclass.specs.Meaning.{Meaning}
 use Rattle.spg_forest.specs.View.{Place, Leaf}
 use Rattle.spg_forest.specs.Spot.{Frame, Spot, Branch, put_at}
-use Rattle.spg_forest.specs.Tuples.{Tuple, Inner, Live, Redirect, Placeholder}
+use Rattle.spg_forest.specs.Tuples.{Tuple, Inner, Live}
 use Rattle.spg_forest.specs.Pages.{with_tuple, IsShown}
 use Rattle.spg_forest.specs.Sheets.{Sheets, sheet_at, with_tuples, pages_of, weight}
 use Rattle.spg_forest.specs.Shape.{Shape, IsTupleOf, AreNodes}
 use Rattle.spg_forest.specs.Walk.{spread, spread_at, is_live}
-use Rattle.spg_forest.specs.Edits.{tuple_of, put, CanPut, MayStand, AreChanged, spot_of}
+use Rattle.spg_forest.specs.Edits.{tuple_of, put, CanPut, MayStand, spot_of}
 use Rattle.spg_forest.proofs.Edits.{write_shown}
 use Rattle.spg_forest.proofs.Joins.{put_inner, put_nulls}
 use Rattle.spg_forest.proofs.Plain.{IsPlain}

@@ -1,14 +1,14 @@
 -- A node put into an inner tuple that goes to another page.
-use Rattle.std.proofs.Common.{◌≡◌, ℕ, suc, ◌+◌, ◌*◌, ◌≤◌, ◌<◌, true, false, List, [], ◌∷◌, ◌⊎◌, ⊎_elim, Option, Some, None, insert, get_or, set, length, length-set, refl, sym, ap, ◌∙◌, subst, inl, inr, arith}
+use Rattle.std.proofs.Common.{◌≡◌, ℕ, suc, ◌+◌, ◌*◌, ◌≤◌, ◌<◌, true, List, ⊎_elim, Option, Some, None, insert, get_or, set, length, length-set, refl, sym, ap, ◌∙◌, subst, arith}
 use mathlib.Core.Path.{fun_ext}
 use Rattle.std.proofs.lemmas.Bool.{cases_eq}
 use Rattle.std.proofs.lemmas.List.{get_or-set_same, get_or-set_other}
 use Rattle.spg_opclass.specs.Meaning.{Meaning}
 use Rattle.spg_forest.specs.View.{Place}
-use Rattle.spg_forest.specs.Spot.{Frame, Spot, Branch, Forward, Nothing, put_at}
+use Rattle.spg_forest.specs.Spot.{Frame, Spot, Branch, Forward, put_at}
 use Rattle.spg_forest.specs.Tuples.{Tuple, Inner, Live, Redirect, Placeholder, IsAmong}
-use Rattle.spg_forest.specs.Pages.{place, tuple_on, with_tuple, moved, IsShown}
-use Rattle.spg_forest.specs.Sheets.{Sheet, Sheets, sheet_at, with_tuples, pages_of, weight, size_of, free_place, linked}
+use Rattle.spg_forest.specs.Pages.{tuple_on, with_tuple, moved, IsShown}
+use Rattle.spg_forest.specs.Sheets.{Sheets, sheet_at, pages_of, weight, size_of, linked}
 use Rattle.spg_forest.specs.Shape.{Shape, AreNodes, IsKindOf, IsTupleOf, spots}
 use Rattle.spg_forest.specs.Section.{Leaves, Cost}
 use Rattle.spg_forest.specs.Walk.{spread, spread_at}

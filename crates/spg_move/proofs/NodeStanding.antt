@@ -1,5 +1,5 @@
 -- An insert at an inner tuple into which a node is put: what is known of the tuple and of that above it.
-use Rattle.std.proofs.Common.{◌≡◌, ℕ, suc, ◌+◌, ◌-◌, ◌*◌, ◌≤◌, ◌<◌, Bool, true, false, List, [], ◌∷◌, ◌⊎◌, ⊎_elim, Option, Some, None, option_map, insert, get_or, length, refl, sym, ap, ◌∙◌, subst, arith}
+use Rattle.std.proofs.Common.{◌≡◌, ℕ, ◌+◌, ◌*◌, ◌≤◌, ◌<◌, Bool, true, false, List, [], ◌∷◌, ⊎_elim, Option, Some, None, option_map, insert, get_or, length, refl, sym, ap, ◌∙◌, subst, arith}
 use Rattle.std.specs.Prelude.{ℤ}
 use Rattle.std.proofs.lemmas.Bool.{cases_lt}
 use Rattle.std.proofs.lemmas.List.Edits.{length-insert}
@@ -9,10 +9,10 @@ use Rattle.spg_opclass.specs.declared.view.Choice.TheVariants.{Add}
 use Rattle.spg_forest.specs.View.{Place}
 use Rattle.spg_forest.specs.Spot.{Frame, Spot, Branch, child_of}
 use Rattle.spg_forest.specs.Tuples.{Tuple, Inner, Live, Dead, Redirect, Placeholder}
-use Rattle.spg_forest.specs.Pages.{place, tuple_on, page_of, all_live}
+use Rattle.spg_forest.specs.Pages.{place, tuple_on, page_of}
 use Rattle.spg_forest.specs.Classes.{class_of, key_of, HasRecon}
 use Rattle.spg_forest.specs.Fit.{FitAt}
-use Rattle.spg_forest.specs.Sheets.{Sheet, Sheets, sheet_at, pages_of, size_of, weight, links}
+use Rattle.spg_forest.specs.Sheets.{Sheets, pages_of, size_of, weight, links}
 use Rattle.spg_forest.specs.Shape.{Shape, AreNodes, IsKindOf, IsTupleOf, spots}
 use Rattle.spg_forest.specs.Edits.{spot_of, CanPut}
 use Rattle.spg_forest.specs.Changes.{IsLonger}
@@ -24,7 +24,6 @@ use Rattle.spg_forest.proofs.Rework.{widened_by_insert}
 use Rattle.spg_forest.proofs.Relocate.{no_loop, within_from_some}
 use Rattle.spg_forest.proofs.Sections.{shape_shown, shape_tree}
 use Rattle.spg_forest.proofs.Writes.{inner_at, high_spot}
-use Rattle.spg_page.specs.Changes.{free_of}
 use Rattle.spg_page.specs.Kinds.{IsOffset, IsInner}
 use Rattle.spg_page.specs.Reads.{frame_in}
 use Rattle.spg_tree.specs.Table.{Table, sheets_of, tuples_at, tuple_at}
@@ -32,7 +31,6 @@ use Rattle.spg_tree.specs.Table as table
 use Rattle.spg_tree.specs.Descents.{Descending, in_nulls}
 use Rattle.spg_tree.specs.declared.stand.Stand.{Stand}
 use Rattle.spg_tree.specs.declared.stand.Stand.TheVariants.{Start, Root, At, Empty}
-use Rattle.spg_descend.specs.Below.{IsLink}
 use Rattle.spg_descend.specs.Carried.{IsCarried, root_of}
 use Rattle.spg_descend.specs.Follows.{IsAtInner, tuple_place}
 use Rattle.spg_descend.proofs.EmptyLaw.{inner_within}

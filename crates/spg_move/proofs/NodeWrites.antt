@@ -1,19 +1,17 @@
 -- The tables between the writes of an inner tuple that goes to another page.
-use Rattle.std.proofs.Common.{◌≡◌, ℕ, suc, ◌+◌, ◌≤◌, ◌<◌, List, Option, Some, length, length-set, sym, ap, ap₂, ◌∙◌, subst, arith}
+use Rattle.std.proofs.Common.{◌≡◌, ℕ, ◌<◌, List, length, length-set, sym, ap, ap₂, ◌∙◌, subst, arith}
 use Rattle.spg_forest.specs.View.{Place}
 use Rattle.spg_forest.specs.Tuples.{Tuple, Redirect, Placeholder}
-use Rattle.spg_forest.specs.Pages.{tuple_on, with_tuple}
-use Rattle.spg_forest.specs.Sheets.{Sheet, with_tuples, size_of, free_place, links}
-use Rattle.spg_forest.specs.Edits.{tuple_of, CanPut}
+use Rattle.spg_forest.specs.Sheets.{Sheet, with_tuples, links}
+use Rattle.spg_forest.specs.Edits.{CanPut}
 use Rattle.spg_forest.proofs.Edits.{sheet_other, tuple_put}
-use Rattle.spg_forest.proofs.Joins.{stands_within}
 use Rattle.spg_forest.proofs.Spots.{put_at_other}
 use Rattle.spg_page.specs.Changes.{added}
 use Rattle.spg_page.specs.Kinds.{IsOffset}
 use Rattle.spg_page.proofs.SheetFacts.{free_place_free, free_place_length}
-use Rattle.spg_tree.specs.Table.{Table, sheets_of, sheet_at, tuples_at, tuple_at, with_link, with_clock}
+use Rattle.spg_tree.specs.Table.{Table, sheets_of, sheet_at, tuples_at, tuple_at}
 use Rattle.spg_split.specs.Writing.{new_place, added_table}
-use Rattle.spg_move.specs.Widening.{FitsInPlace, put_table, left_table, shifted_table, IsHung}
+use Rattle.spg_move.specs.Widening.{put_table, left_table, IsHung}
 
 -- where nothing stands no node is
 no_node : (u : Tuple) (i : ℕ) → i < length (links u) → u ≡ Placeholder → ⊥

@@ -1,5 +1,5 @@
 -- An inner tuple with one more node, and the tables in which it stands.
-use Rattle.std.specs.Prelude.{◌≡◌, ℕ, suc, ℤ, ◌+◌, ◌-◌, ◌%◌, ◌<◌, ◌≤◌, Bool, List, [], ◌∷◌, ◌++◌, length, insert, Option, Some, None}
+use Rattle.std.specs.Prelude.{◌≡◌, ℕ, ℤ, ◌+◌, ◌-◌, ◌%◌, ◌<◌, ◌≤◌, Bool, List, [], ◌∷◌, ◌++◌, length, insert, Option, Some, None}
 use Rattle.std.specs.List.{range_with_len}
 use Rattle.spg_opclass.specs.Meaning.{longer}
 use Rattle.spg_forest.specs.View.{Place}
@@ -15,7 +15,7 @@ use Rattle.spg_tree.specs.Descents.{Descending, in_nulls}
 use Rattle.spg_tree.specs.Pick.{Picks}
 use Rattle.spg_tree.specs.Picked.{IsPicked, want_of}
 use Rattle.spg_tree.specs.declared.stand.Stand.{Stand}
-use Rattle.spg_tree.specs.declared.stand.Stand.TheVariants.{Start, Root, At, Empty}
+use Rattle.spg_tree.specs.declared.stand.Stand.TheVariants.{At}
 use Rattle.spg_tree.specs.declared.want.Want.{Want}
 use Rattle.spg_split.specs.Homes.{another}
 use Rattle.spg_split.specs.Writing.{new_place, added_table}

@@ -1,4 +1,4 @@
-use Rattle.std.proofs.Common.{◌≡◌, ℤ, ◌≤◌, List, length, ap, ap₂, sym, ◌∙◌, subst}
+use Rattle.std.proofs.Common.{◌≡◌, ℤ, ◌≤◌, length, ap, ap₂, sym, ◌∙◌, subst}
 use Rattle.std.specs.Int.{w16}
 use Rattle.std.proofs.lemmas.Int.{to_z-of_z}
 use Rattle.spg_forest.specs.View.{Place}
@@ -33,7 +33,7 @@ pub returns-then-fits_in_place-clause-ok : goal.returns-then-fits_in_place-claus
 returns-then-fits_in_place-clause-ok g c =
     let eh : c.place_of-here.result ≡ tuple_place c.args.descent.now.stand = c.place_of-here.ensures ∙ ap tuple_place c.stand.ensures in
     let el : c.in_ok-longer.longer ≡ widened (tuple_at c.args.table.now (tuple_place c.args.descent.now.stand)) c.args.at c.args.label =
-        c.in_ok-longer.ensures ∙ ap (λ (z : ℤ). widened (tuple_on c.page.result.now.tuples c.place_of-here.result.offset) c.args.at z) (to_z-of_z w16 c.args.label c.ranges.label) ∙ ap (λ (s : Sheet). widened (tuple_on s.tuples c.place_of-here.result.offset) c.args.at c.args.label) c.page.ensures ∙ ap (λ (z : Place). widened (tuple_at c.args.table.now z) c.args.at c.args.label) eh in
+    c.in_ok-longer.ensures ∙ ap (λ (z : ℤ). widened (tuple_on c.page.result.now.tuples c.place_of-here.result.offset) c.args.at z) (to_z-of_z w16 c.args.label c.ranges.label) ∙ ap (λ (s : Sheet). widened (tuple_on s.tuples c.place_of-here.result.offset) c.args.at c.args.label) c.page.ensures ∙ ap (λ (z : Place). widened (tuple_at c.args.table.now z) c.args.at c.args.label) eh in
     let room : FitsInPlace c.page-2.result.now.tuples c.place_of-here.result.offset c.in_ok-longer.longer = c.fits_in_place.ensures.0 c.if-fits_in_place.true in
     added_here g.O.OpClass.meaning g.O.OpClass.adds g.O.OpClass.codes c.args.table.now c.args.descent.now c.args.at c.args.label c.requires.shape c.requires.spot c.requires.main c.requires.of_key c.requires.answer
     (subst (λ (u : Tuple). FitsInPlace (tuples_at c.args.table.now (tuple_place c.args.descent.now.stand).block) (tuple_place c.args.descent.now.stand).offset u) el
@@ -44,5 +44,5 @@ pub returns-clause-ok : goal.returns-clause-ok
 returns-clause-ok g c =
     let eh : c.place_of-here.result ≡ tuple_place c.args.descent.now.stand = c.place_of-here.ensures ∙ ap tuple_place c.stand.ensures in
     let el : c.in_ok-longer.longer ≡ widened (tuple_at c.args.table.now (tuple_place c.args.descent.now.stand)) c.args.at c.args.label =
-        c.in_ok-longer.ensures ∙ ap (λ (z : ℤ). widened (tuple_on c.page.result.now.tuples c.place_of-here.result.offset) c.args.at z) (to_z-of_z w16 c.args.label c.ranges.label) ∙ ap (λ (s : Sheet). widened (tuple_on s.tuples c.place_of-here.result.offset) c.args.at c.args.label) c.page.ensures ∙ ap (λ (z : Place). widened (tuple_at c.args.table.now z) c.args.at c.args.label) eh in
+    c.in_ok-longer.ensures ∙ ap (λ (z : ℤ). widened (tuple_on c.page.result.now.tuples c.place_of-here.result.offset) c.args.at z) (to_z-of_z w16 c.args.label c.ranges.label) ∙ ap (λ (s : Sheet). widened (tuple_on s.tuples c.place_of-here.result.offset) c.args.at c.args.label) c.page.ensures ∙ ap (λ (z : Place). widened (tuple_at c.args.table.now z) c.args.at c.args.label) eh in
     shifted_out g.O.OpClass.meaning g.O.OpClass.adds g.O.OpClass.codes c.args.table.now c.args.descent.now c.args.at c.args.label c.requires.shape c.requires.spot c.requires.main c.requires.of_key c.requires.answer c.shift_tuple.new.table c.note_shift.new.descent c.in_ok-longer.longer c.args.seat c.in_ok-to.to c.in_ok-to.ensures.ok el c.note_shift.ensures

@@ -1,4 +1,4 @@
-use Rattle.std.proofs.Common.{◌≡◌, sym, ◌∙◌}
+use Rattle.std.proofs.Common.{sym, ◌∙◌}
 use Rattle.spg_tree.specs.Descents.{in_nulls}
 use Rattle.spg_move.proofs.NodeStanding.{hung_at, no_other}
 use Rattle.spg_move.proofs.node.shift_tuple.Goals as goal
