@@ -1,5 +1,5 @@
 -- Where an open insert stands in a table, and what a section of it does.
-use Rattle.std.specs.Prelude.{◌≡◌, ◌⊎◌, ◌<◌, ℕ, Bool, true, false, List, length, get_or, Option, Some, None, if◌then◌else◌}
+use Rattle.std.specs.Prelude.{◌≡◌, ◌⊎◌, ◌<◌, ◌+◌, ℕ, Bool, true, false, List, length, get_or, Option, Some, None, if◌then◌else◌}
 use Rattle.spg_opclass.specs.Meaning.{Meaning}
 use Rattle.spg_forest.specs.View.{Place}
 use Rattle.spg_forest.specs.Spot.{Frame}
@@ -52,6 +52,10 @@ IsRootFull t d = (d.stand ≡ Root (root_of (in_nulls d))) × ((sheet_at (sheets
 -- the tree has outgrown its root page, or does so with the leaf of the insert
 abbrev pub IsOutgrown : {Recon : Type 0} → Table → Descending Recon → Type 0
 IsOutgrown t d = HasInnerRoot t (in_nulls d) ⊎ IsRootFull t d
+
+-- fewer than 4 blocks are left below the limit
+abbrev pub IsNearLimit : Table → Type 0
+IsNearLimit t = t.limit < length t.pages + 4
 
 -- a root is an inner tuple only where it was one, or where the insert has outgrown it
 abbrev pub RootsGrow : {Recon : Type 0} → Table → Table → Descending Recon → Type 0

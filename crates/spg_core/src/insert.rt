@@ -1,4 +1,4 @@
-ghost use Rattle.std.specs.Prelude.{◌≡◌, ◌⊎◌, ◌<◌, Option, Some as Just, false, IfOk, OnErr, IsErrOf, length};
+ghost use Rattle.std.specs.Prelude.{◌≡◌, ◌⊎◌, ◌<◌, Option, Some as Just, false, IfOk, OnErr, IsErrOf, IfSome, length, ◌+◌, ◌^◌};
 ghost use Rattle.spg_forest.specs.Tuples.{Live};
 ghost use Rattle.spg_forest.specs.Shape.{Shape, IsRestOf};
 ghost use Rattle.spg_forest.specs.Sheets.{links};
@@ -11,14 +11,17 @@ ghost use Rattle.spg_tree.specs.declared.stand.StepRefused.TheVariants.{IndexFul
 ghost use Rattle.spg_descend.specs.Carried.{carried, IsCarried};
 ghost use Rattle.spg_descend.specs.Follows.{IsAtInner, tuple_place};
 ghost use Rattle.spg_descend.specs.Puts.{Fits};
-ghost use Rattle.spg_descend.specs.Rules.{IsAtNoInner};
-ghost use Rattle.spg_core.specs.Stepping.{Stands, IsOutgrown, IsStepOut, named};
+ghost use Rattle.spg_descend.specs.Leaves.{stand_block};
+ghost use Rattle.spg_descend.specs.Rules.{IsAtNoInner, MayMove};
+ghost use Rattle.spg_split.specs.Splits.{IsAtRoot};
+ghost use Rattle.spg_core.specs.Stepping.{Stands, SamePages, IsOutgrown, IsNearLimit, IsStepOut, named};
 
 use crate::answer::InsertOut;
 use spg_base::{Block, Bytes, Memory, Offset, Place, SeatNo};
 use spg_descend::{Entered, PutOut, Rule, enter_root, follow, put_leaf, release_latches, rule_at};
 use spg_opclass::{Choice, InnerView, OpClass};
-use spg_split::{SplitOut, split_leaf};
+use spg_move::move_chain;
+use spg_split::{SplitOut, split_chain, split_leaf};
 use spg_tree::{Descent, PageTable, Stand, StepRefused};
 use std::alloc::Global;
 
@@ -40,6 +43,17 @@ fn begin<O: OpClass>(table: &mut PageTable, descent: &mut Descent<O>, seat: Seat
     match enter_root(table, descent, seat) {
         Entered::In => InsertOut::Descended,
         Entered::Busy { block, by } => InsertOut::Restarted { block, by },
+    }
+}
+
+/// The block on which an insert stands.
+fn stand_block(stand: Stand) -> Option<Block>
+    ensures { result ≡ stand_block stand }
+{
+    match stand {
+        Stand::Root(block) => Some(block),
+        Stand::At(place) => Some(place.block),
+        Stand::Start | Stand::Empty => None,
     }
 }
 
@@ -173,7 +187,7 @@ fn put<O: OpClass>(
     requires of_key { (key : Option O.Key) × IsCarried O.meaning (sheets_of table.old) descent.old key }
     requires stands { Stands table.old descent.old }
     ensures ok { IfOk result (λ out. IsStepOut O.meaning table.old table.new descent.old descent.new seat out) }
-    ensures full { IsErrOf result IndexFull → IsOutgrown table.old descent.old }
+    ensures full { IsErrOf result IndexFull → IsOutgrown table.old descent.old × IsNearLimit table.old }
     ensures clock { IsErrOf result ClockFull → ⊥ }
     ensures err { OnErr result (table.new ≡ table.old) }
     ensures err_descent { OnErr result (descent.new ≡ descent.old) }
@@ -188,7 +202,7 @@ fn put<O: OpClass>(
 }
 
 /// Divides the leaves of a root leaf page on which the leaf of an insert does not fit.
-fn divide<O: OpClass>(
+fn divide_root<O: OpClass>(
     alloc: Global,
     class: &O,
     table: &mut PageTable,
@@ -196,20 +210,17 @@ fn divide<O: OpClass>(
     seat: SeatNo,
 ) -> Result<InsertOut, StepRefused>
     requires shape { Shape O.meaning (sheets_of table.old) }
+    requires root { IsAtRoot descent.old.stand }
     requires elsewhere { IsAtNoInner table.old descent.old.stand }
     requires no_room { Fits table.old descent.old.stand (Live (carried descent.old) 0) → ⊥ }
     requires of_key { (key : Option O.Key) × IsCarried O.meaning (sheets_of table.old) descent.old key }
     requires stands { Stands table.old descent.old }
     ensures ok { IfOk result (λ out. IsStepOut O.meaning table.old table.new descent.old descent.new seat out) }
-    ensures full { IsErrOf result IndexFull → IsOutgrown table.old descent.old }
+    ensures full { IsErrOf result IndexFull → IsOutgrown table.old descent.old × IsNearLimit table.old }
     ensures clock { IsErrOf result ClockFull → ⊥ }
     ensures err { OnErr result (table.new ≡ table.old) }
     ensures err_descent { OnErr result (descent.new ≡ descent.old) }
 {
-    match descent.stand() {
-        Stand::Root(_) => {}
-        _ => return Err(StepRefused::IndexFull),
-    }
     match split_leaf(alloc, class, table, descent, seat)? {
         SplitOut::Put => {
             release_latches(table, descent, seat);
@@ -217,6 +228,87 @@ fn divide<O: OpClass>(
         }
         SplitOut::LeftOut => Ok(InsertOut::Restructured),
     }
+}
+
+/// Takes the latch of the block on which the insert stands now, in place of that of a block on which
+/// it stood, which is kept where it still is the one above.
+fn hold_anew<O: OpClass>(
+    table: &mut PageTable,
+    descent: &Descent<O>,
+    was: Option<Block>,
+    seat: SeatNo,
+)
+    requires here { IfSome (stand_block descent.now.stand) (λ b. b < length table.old.pages) }
+    requires was { IfSome was (λ b. b < length table.old.pages) }
+    ensures { SamePages table.old table.new }
+{
+    let now = stand_block(descent.stand());
+    let above = descent.parent().map(|(place, _)| place.block);
+    if let Some(block) = now {
+        table.try_latch(block, seat);
+    }
+    if let Some(block) = was {
+        if now != was && above != was {
+            table.release(block, seat);
+        }
+    }
+}
+
+/// Divides the chain of an insert, which is too long to move.
+fn divide_chain<O: OpClass>(
+    alloc: Global,
+    class: &O,
+    table: &mut PageTable,
+    descent: &mut Descent<O>,
+    seat: SeatNo,
+) -> Result<InsertOut, StepRefused>
+    requires shape { Shape O.meaning (sheets_of table.old) }
+    requires below { IsAtRoot descent.old.stand → ⊥ }
+    requires elsewhere { IsAtNoInner table.old descent.old.stand }
+    requires no_room { Fits table.old descent.old.stand (Live (carried descent.old) 0) → ⊥ }
+    requires long { MayMove table.old descent.old.stand (Live (carried descent.old) 0) → ⊥ }
+    requires of_key { (key : Option O.Key) × IsCarried O.meaning (sheets_of table.old) descent.old key }
+    requires stands { Stands table.old descent.old }
+    ensures ok { IfOk result (λ out. IsStepOut O.meaning table.old table.new descent.old descent.new seat out) }
+    ensures full { IsErrOf result IndexFull → IsOutgrown table.old descent.old × IsNearLimit table.old }
+    ensures clock { IsErrOf result ClockFull → table.old.clock + 1 ≡ 2 ^ 48 }
+    ensures err { OnErr result (table.new ≡ table.old) }
+    ensures err_descent { OnErr result (descent.new ≡ descent.old) }
+{
+    let was = stand_block(descent.stand());
+    match split_chain(alloc, class, table, descent, seat)? {
+        SplitOut::Put => {
+            release_latches(table, descent, seat);
+            Ok(InsertOut::Put)
+        }
+        SplitOut::LeftOut => {
+            hold_anew(table, descent, was, seat);
+            Ok(InsertOut::Restructured)
+        }
+    }
+}
+
+/// Moves the short chain of an insert to another page, with the insert's leaf behind its head.
+fn move_away<O: OpClass>(
+    alloc: Global,
+    table: &mut PageTable,
+    descent: &Descent<O>,
+    seat: SeatNo,
+) -> Result<InsertOut, StepRefused>
+    requires shape { Shape O.meaning (sheets_of table.old) }
+    requires elsewhere { IsAtNoInner table.old descent.now.stand }
+    requires no_room { Fits table.old descent.now.stand (Live (carried descent.now) 0) → ⊥ }
+    requires short { MayMove table.old descent.now.stand (Live (carried descent.now) 0) }
+    requires of_key { (key : Option O.Key) × IsCarried O.meaning (sheets_of table.old) descent.now key }
+    requires stands { Stands table.old descent.now }
+    ensures ok { IfOk result (λ out. IsStepOut O.meaning table.old table.new descent.now descent.now seat out) }
+    ensures full { IsErrOf result IndexFull → IsOutgrown table.old descent.now × IsNearLimit table.old }
+    ensures clock { IsErrOf result ClockFull → table.old.clock + 1 ≡ 2 ^ 48 }
+    ensures err { OnErr result (table.new ≡ table.old) }
+{
+    move_chain(alloc, table, descent, seat)?;
+    release_latches(table, descent, seat);
+    Ok(InsertOut::Put)
 }
 
 /// The next section of an open insert. After a refusal table and insert are as they were.
@@ -232,8 +324,8 @@ pub(crate) fn step<O: OpClass>(
     requires of_key { (key : Option O.Key) × IsCarried O.meaning (sheets_of table.old) descent.old key }
     requires stands { Stands table.old descent.old }
     ensures ok { IfOk result (λ out. IsStepOut O.meaning table.old table.new descent.old descent.new seat out) }
-    ensures full { IsErrOf result IndexFull → IsOutgrown table.old descent.old }
-    ensures clock { IsErrOf result ClockFull → ⊥ }
+    ensures full { IsErrOf result IndexFull → IsOutgrown table.old descent.old × IsNearLimit table.old }
+    ensures clock { IsErrOf result ClockFull → table.old.clock + 1 ≡ 2 ^ 48 }
     ensures err { OnErr result (table.new ≡ table.old) }
     ensures err_descent { OnErr result (descent.new ≡ descent.old) }
 {
@@ -241,7 +333,10 @@ pub(crate) fn step<O: OpClass>(
         Rule::Start => Ok(begin(table, descent, seat)),
         Rule::Choose => Ok(go_down(alloc, class, table, descent, seat)?),
         Rule::Put => put(alloc, table, descent, seat),
-        Rule::Part => divide(alloc, class, table, descent, seat),
-        Rule::Move => Err(StepRefused::IndexFull),
+        Rule::Move => move_away(alloc, table, descent, seat),
+        Rule::Part => match descent.stand() {
+            Stand::Root(_) => divide_root(alloc, class, table, descent, seat),
+            _ => divide_chain(alloc, class, table, descent, seat),
+        },
     }
 }
