@@ -1,4 +1,4 @@
-ghost use Rattle.std.specs.Prelude.{◌≡◌, ◌⊎◌, ◌<◌, Option, Some as Just, false, IfOk, OnErr, IsErrOf, IfSome, length, ◌+◌, ◌^◌};
+ghost use Rattle.std.specs.Prelude.{◌≡◌, ◌⊎◌, ◌<◌, Option, Some as Just, false, IfOk, OnErr, IsErrOf, length, ◌+◌, ◌^◌};
 ghost use Rattle.spg_forest.specs.Tuples.{Live};
 ghost use Rattle.spg_forest.specs.Shape.{Shape, IsRestOf};
 ghost use Rattle.spg_forest.specs.Sheets.{links};
@@ -11,16 +11,16 @@ ghost use Rattle.spg_tree.specs.declared.stand.StepRefused.TheVariants.{IndexFul
 ghost use Rattle.spg_descend.specs.Carried.{carried, IsCarried};
 ghost use Rattle.spg_descend.specs.Follows.{IsAtInner, tuple_place};
 ghost use Rattle.spg_descend.specs.Puts.{Fits};
-ghost use Rattle.spg_descend.specs.Leaves.{stand_block};
 ghost use Rattle.spg_descend.specs.Rules.{IsAtNoInner, MayMove};
 ghost use Rattle.spg_split.specs.Splits.{IsAtRoot};
-ghost use Rattle.spg_core.specs.Stepping.{Stands, SamePages, IsOutgrown, IsNearLimit, IsStepOut, named};
+ghost use Rattle.spg_core.specs.Stepping.{Stands, IsOutgrown, IsNearLimit, IsStepOut, named};
 
 use crate::answer::InsertOut;
+use crate::latches::{hold_anew, stand_block};
 use spg_base::{Block, Bytes, Memory, Offset, Place, SeatNo};
 use spg_descend::{Entered, PutOut, Rule, enter_root, follow, put_leaf, release_latches, rule_at};
-use spg_opclass::{Choice, InnerView, OpClass};
 use spg_move::move_chain;
+use spg_opclass::{Choice, InnerView, OpClass};
 use spg_split::{SplitOut, split_chain, split_leaf};
 use spg_tree::{Descent, PageTable, Stand, StepRefused};
 use std::alloc::Global;
@@ -43,17 +43,6 @@ fn begin<O: OpClass>(table: &mut PageTable, descent: &mut Descent<O>, seat: Seat
     match enter_root(table, descent, seat) {
         Entered::In => InsertOut::Descended,
         Entered::Busy { block, by } => InsertOut::Restarted { block, by },
-    }
-}
-
-/// The block on which an insert stands.
-fn stand_block(stand: Stand) -> Option<Block>
-    ensures { result ≡ stand_block stand }
-{
-    match stand {
-        Stand::Root(block) => Some(block),
-        Stand::At(place) => Some(place.block),
-        Stand::Start | Stand::Empty => None,
     }
 }
 
@@ -227,30 +216,6 @@ fn divide_root<O: OpClass>(
             Ok(InsertOut::Put)
         }
         SplitOut::LeftOut => Ok(InsertOut::Restructured),
-    }
-}
-
-/// Takes the latch of the block on which the insert stands now, in place of that of a block on which
-/// it stood, which is kept where it still is the one above.
-fn hold_anew<O: OpClass>(
-    table: &mut PageTable,
-    descent: &Descent<O>,
-    was: Option<Block>,
-    seat: SeatNo,
-)
-    requires here { IfSome (stand_block descent.now.stand) (λ b. b < length table.old.pages) }
-    requires was { IfSome was (λ b. b < length table.old.pages) }
-    ensures { SamePages table.old table.new }
-{
-    let now = stand_block(descent.stand());
-    let above = descent.parent().map(|(place, _)| place.block);
-    if let Some(block) = now {
-        table.try_latch(block, seat);
-    }
-    if let Some(block) = was {
-        if now != was && above != was {
-            table.release(block, seat);
-        }
     }
 }
 

@@ -1,4 +1,4 @@
-ghost use Rattle.std.specs.Prelude.{◌≡◌, ◌≢◌, ◌<◌, ◌≤◌, ◌+◌, ◌↔◌, ◌⊎◌, [], ℕ, true, false, Option, Some, None, IfOk, OnOk, OnErr, IsErrOf, IsTrue};
+ghost use Rattle.std.specs.Prelude.{◌≡◌, ◌≢◌, ◌<◌, ◌≤◌, ◌+◌, ◌^◌, ◌↔◌, ◌⊎◌, [], ℕ, true, false, Option, Some, None, IfOk, OnOk, OnErr, IsErrOf, IsTrue};
 ghost use Rattle.spg_base.specs.declared.recorded.Origin.{Origin};
 ghost use Rattle.spg_forest.specs.Shape.{Represents};
 ghost use Rattle.spg_forest.specs.Walk.{weight_of};
@@ -10,6 +10,7 @@ ghost use Rattle.spg_rows.specs.History.{open_of};
 ghost use Rattle.spg_tree.specs.Table.{Table, sheets_of, start_table};
 ghost use Rattle.spg_core.specs.Stage.{free, IsInserting, IsRead, IsStageOf, held_count, given_up, kind_of};
 ghost use Rattle.spg_core.specs.Seen.{stage_at, past_of, IsPresentWith};
+ghost use Rattle.spg_core.specs.Stepping.{IsNearLimit};
 ghost use Rattle.spg_core.specs.Kept.{RootsAreHeavy};
 ghost use Rattle.spg_core.specs.Counts.{IsStat};
 ghost use Rattle.spg_core.specs.Sections.{IsNew, OpensInsert, IsInsertOut, IsHeavy, OpensScan, ReadsItem, ClosesScan, GivesUp};
@@ -172,14 +173,15 @@ impl<O: OpClass> State<O> {
     /// The next section of an insert. `Descended` where it comes to the root, or from an inner tuple
     /// to the child or the empty downlink of a node. `Restructured` where the leaves are divided
     /// without its own. `Put` where the row is put, and the insert has ended. `IndexFull` only where
-    /// the keys of its tree that were ever inserted take more than 8,160 bytes: where a page is
-    /// wanted and there may be none, and so far also where a chain below a root has no room.
+    /// a page is wanted and there may be none: fewer than 4 blocks are left below the limit, and the
+    /// keys of its tree that were ever inserted take more than 8,160 bytes. `ClockFull` only where a
+    /// chain below a root moves or is divided and the clock is 2^48 - 1.
     pub fn insert_step(&mut self, seat: SeatNo) -> Result<InsertOut, StepRefused>
         requires first { seat ≡ 0 }
         requires inserting { IsInserting (stage_at self.old seat) }
         ensures ok { IfOk result (λ out. IsInsertOut self.old self.new seat out) }
-        ensures full { IsErrOf result StepRefused.IndexFull → IsHeavy O.meaning self.old seat }
-        ensures clock { IsErrOf result StepRefused.ClockFull → ⊥ }
+        ensures full { IsErrOf result StepRefused.IndexFull → IsHeavy O.meaning self.old seat × IsNearLimit self.old.table }
+        ensures clock { IsErrOf result StepRefused.ClockFull → self.old.table.clock + 1 ≡ 2 ^ 48 }
         ensures err { OnErr result (self.new ≡ self.old) }
     {
         let out = step_slot(

@@ -8,7 +8,9 @@ use Rattle.spg_core.specs.Stage.{Stage, IsInserting}
 use Rattle.spg_core.specs.Seen.{Seen}
 use Rattle.spg_core.specs.Operations.{StepsFrom, IsOutgrownBy}
 use Rattle.spg_core.specs.Sections.{IsOutOf, IsHeavyFor}
-use Rattle.spg_core.proofs.Slots.{stage_is, inserting_open}
+use Rattle.spg_core.specs.Stepping.{IsNearLimit}
+use Rattle.spg_tree.specs.Table.{Table}
+use Rattle.spg_core.proofs.Slots.{stage_is, table_is, inserting_open}
 use Rattle.spg_core.proofs.Steps.{kept_still, room_left}
 use Rattle.spg_core.proofs.Inserts.{can_step, heavy_for, kept_step, put_row, kept_put, row_claimed, steps_length, seen_step, seen_put}
 use Rattle.spg_core.proofs.state.State.insert_step.Goals as goal
@@ -29,9 +31,11 @@ returns-in_err-out-clause-full g c = λ h.
     let s = c.self.inside in
     let seat = c.args.seat in
     let slot = get_or s.slots.items seat Free in
-    let out : IsOutgrownBy s.table slot = search rules in
-    subst (λ (x : Stage _ _ _ _). IsHeavyFor g.O.OpClass.meaning c.args.self.now x) (sym (stage_is s c.args.self.now c.self.view_is seat))
-    (heavy_for g.O.OpClass.meaning g.O.OpClass.codes s c.self.invariant seat c.args.self.now c.self.view_is slot (c.self.invariant.slots seat) out)
+    let both : IsOutgrownBy s.table slot × IsNearLimit s.table = search rules in (
+      subst (λ (x : Stage _ _ _ _). IsHeavyFor g.O.OpClass.meaning c.args.self.now x) (sym (stage_is s c.args.self.now c.self.view_is seat))
+          (heavy_for g.O.OpClass.meaning g.O.OpClass.codes s c.self.invariant seat c.args.self.now c.self.view_is slot (c.self.invariant.slots seat) both.0),
+      subst (λ (t : Table). IsNearLimit t) (sym (table_is s c.args.self.now c.self.view_is seat)) both.1,
+    )
 
 pub end_insert-row-requires-clause-seats : goal.end_insert-row-requires-clause-seats
 end_insert-row-requires-clause-seats g c κs within =
