@@ -14,6 +14,7 @@ ghost use Rattle.spg_descend.specs.Puts.{Fits};
 ghost use Rattle.spg_descend.specs.Rules.{IsAtNoInner, MayMove};
 ghost use Rattle.spg_split.specs.Splits.{IsAtRoot};
 ghost use Rattle.spg_core.specs.Stepping.{Stands, IsOutgrown, IsNearLimit, IsStepOut, named};
+ghost use Rattle.spg_core.specs.Latches.{InsertHolds, HoldsAfter};
 
 use crate::answer::InsertOut;
 use crate::latches::{hold_anew, stand_block};
@@ -38,8 +39,10 @@ fn begin<O: OpClass>(table: &mut PageTable, descent: &mut Descent<O>, seat: Seat
     requires shape { Shape O.meaning (sheets_of table.old) }
     requires start { descent.old.stand ≡ Start }
     requires stands { Stands table.old descent.old }
-    ensures { IsStepOut O.meaning table.old table.new descent.old descent.new seat result }
+    ensures ok { IsStepOut O.meaning table.old table.new descent.old descent.new seat result }
+    ensures latches { InsertHolds table.old seat descent.old → HoldsAfter table.new seat descent.new result }
 {
+    let _count = table.page_count();
     match enter_root(table, descent, seat) {
         Entered::In => InsertOut::Descended,
         Entered::Busy { block, by } => InsertOut::Restarted { block, by },
@@ -149,9 +152,11 @@ fn go_down<O: OpClass>(
     requires of_key { (key : Option O.Key) × IsCarried O.meaning (sheets_of table.old) descent.old key }
     requires stands { Stands table.old descent.old }
     ensures ok { IfOk result (λ out. IsStepOut O.meaning table.old table.new descent.old descent.new seat out) }
+    ensures latches { IfOk result (λ out. InsertHolds table.old seat descent.old → HoldsAfter table.new seat descent.new out) }
     ensures err { OnErr result (table.new ≡ table.old) }
     ensures err_descent { OnErr result (descent.new ≡ descent.old) }
 {
+    let _count = table.page_count();
     let chosen = choose(alloc, class, table, descent)?;
     let entered = follow(alloc, class, table, descent, seat, chosen.node, chosen.rest)?;
     if chosen.by_turn {
@@ -176,6 +181,7 @@ fn put<O: OpClass>(
     requires of_key { (key : Option O.Key) × IsCarried O.meaning (sheets_of table.old) descent.old key }
     requires stands { Stands table.old descent.old }
     ensures ok { IfOk result (λ out. IsStepOut O.meaning table.old table.new descent.old descent.new seat out) }
+    ensures latches { IfOk result (λ out. InsertHolds table.old seat descent.old → HoldsAfter table.new seat descent.new out) }
     ensures full { IsErrOf result IndexFull → IsOutgrown table.old descent.old × IsNearLimit table.old }
     ensures clock { IsErrOf result ClockFull → ⊥ }
     ensures err { OnErr result (table.new ≡ table.old) }
@@ -205,6 +211,7 @@ fn divide_root<O: OpClass>(
     requires of_key { (key : Option O.Key) × IsCarried O.meaning (sheets_of table.old) descent.old key }
     requires stands { Stands table.old descent.old }
     ensures ok { IfOk result (λ out. IsStepOut O.meaning table.old table.new descent.old descent.new seat out) }
+    ensures latches { IfOk result (λ out. InsertHolds table.old seat descent.old → HoldsAfter table.new seat descent.new out) }
     ensures full { IsErrOf result IndexFull → IsOutgrown table.old descent.old × IsNearLimit table.old }
     ensures clock { IsErrOf result ClockFull → ⊥ }
     ensures err { OnErr result (table.new ≡ table.old) }
@@ -235,6 +242,7 @@ fn divide_chain<O: OpClass>(
     requires of_key { (key : Option O.Key) × IsCarried O.meaning (sheets_of table.old) descent.old key }
     requires stands { Stands table.old descent.old }
     ensures ok { IfOk result (λ out. IsStepOut O.meaning table.old table.new descent.old descent.new seat out) }
+    ensures latches { IfOk result (λ out. InsertHolds table.old seat descent.old → HoldsAfter table.new seat descent.new out) }
     ensures full { IsErrOf result IndexFull → IsOutgrown table.old descent.old × IsNearLimit table.old }
     ensures clock { IsErrOf result ClockFull → table.old.clock + 1 ≡ 2 ^ 48 }
     ensures err { OnErr result (table.new ≡ table.old) }
@@ -247,6 +255,7 @@ fn divide_chain<O: OpClass>(
             Ok(InsertOut::Put)
         }
         SplitOut::LeftOut => {
+            let _count = table.page_count();
             hold_anew(table, descent, was, seat);
             Ok(InsertOut::Restructured)
         }
@@ -267,6 +276,7 @@ fn move_away<O: OpClass>(
     requires of_key { (key : Option O.Key) × IsCarried O.meaning (sheets_of table.old) descent.now key }
     requires stands { Stands table.old descent.now }
     ensures ok { IfOk result (λ out. IsStepOut O.meaning table.old table.new descent.now descent.now seat out) }
+    ensures latches { IfOk result (λ out. InsertHolds table.old seat descent.now → HoldsAfter table.new seat descent.now out) }
     ensures full { IsErrOf result IndexFull → IsOutgrown table.old descent.now × IsNearLimit table.old }
     ensures clock { IsErrOf result ClockFull → table.old.clock + 1 ≡ 2 ^ 48 }
     ensures err { OnErr result (table.new ≡ table.old) }
@@ -289,6 +299,7 @@ pub(crate) fn step<O: OpClass>(
     requires of_key { (key : Option O.Key) × IsCarried O.meaning (sheets_of table.old) descent.old key }
     requires stands { Stands table.old descent.old }
     ensures ok { IfOk result (λ out. IsStepOut O.meaning table.old table.new descent.old descent.new seat out) }
+    ensures latches { IfOk result (λ out. InsertHolds table.old seat descent.old → HoldsAfter table.new seat descent.new out) }
     ensures full { IsErrOf result IndexFull → IsOutgrown table.old descent.old × IsNearLimit table.old }
     ensures clock { IsErrOf result ClockFull → table.old.clock + 1 ≡ 2 ^ 48 }
     ensures err { OnErr result (table.new ≡ table.old) }
