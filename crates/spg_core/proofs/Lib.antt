@@ -2,6 +2,9 @@ pub mod Stands
 pub mod Chooses
 pub mod Moves
 pub mod Weights
+pub mod Trees
+pub mod Limits
+pub mod Holding
 pub mod Founds
 pub mod Slots
 pub mod Steps

@@ -3,9 +3,10 @@ use Rattle.std.proofs.Common.{◌≡◌, ℕ, ◌<◌, Bool, true, false, List, 
 use Rattle.spg_opclass.specs.Meaning.{Meaning}
 use Rattle.spg_forest.specs.View.{Place}
 use Rattle.spg_forest.specs.Tuples.{Live}
+use Rattle.spg_forest.specs.Pages.{moved}
 use Rattle.spg_forest.specs.Sheets.{Sheets, sheet_at, links}
 use Rattle.spg_forest.specs.Shape.{Shape, IsRestOf}
-use Rattle.spg_forest.specs.Section.{Adds}
+use Rattle.spg_forest.specs.Section.{Adds, Leaves, Cost}
 use Rattle.spg_forest.specs.Follows.{GoesBelow}
 use Rattle.spg_page.specs.Reads.{frame_in}
 use Rattle.spg_tree.specs.Table.{Table, sheets_of, tuple_at, latch_at, with_latch}
@@ -15,16 +16,20 @@ use Rattle.spg_tree.specs.declared.stand.Stand.TheVariants.{Start, Root, At, Emp
 use Rattle.spg_descend.specs.Carried.{carried, root_of, IsCarried}
 use Rattle.spg_descend.specs.Leaves.{released, stand_block, parent_block, is_held}
 use Rattle.spg_descend.specs.Follows.{IsAtInner, tuple_place, link_of, stand_below, latched, left_behind, table_below, FollowsNode, CarriesBelow}
-use Rattle.spg_descend.specs.Puts.{IsAtLeaves, IsAtEmpty, Fits, IsQuiet, PutsCarried, cost_at}
-use Rattle.spg_descend.specs.Rules.{IsThere, IsAtNoInner}
+use Rattle.spg_descend.specs.Below.{IsChainBelow, IsAtChain, IsTicked}
+use Rattle.spg_descend.specs.Puts.{IsAtLeaves, IsAtEmpty, Fits}
+use Rattle.spg_descend.specs.Rules.{IsThere, IsAtNoInner, MayMove}
 use Rattle.spg_descend.specs.declared.enter.Entered.TheVariants.{In}
 use Rattle.spg_descend.proofs.Starts.{spots_are_there}
-use Rattle.spg_split.specs.Splits.{IsAtRoot, IsCalm, PartsWith, split_cost}
+use Rattle.spg_split.specs.Splits.{IsAtRoot, IsCalm, split_cost}
+use Rattle.spg_split.specs.Below.{IsLedTo, SplitsWithout, IsChainSplit}
+use Rattle.spg_split.specs.declared.split.SplitOut.TheVariants.{LeftOut}
 use Rattle.spg_core.specs.declared.answer.InsertOut.TheVariants as outs
-use Rattle.spg_core.specs.Stepping.{HasInnerRoot, StandsAt, Stands, SamePages, GoesOn, IsRootFull, IsOutgrown, RootsGrow, IsStepOut}
+use Rattle.spg_core.specs.Stepping.{HasInnerRoot, StandsAt, Stands, SamePages, GoesOn, IsRootFull, RootsGrow, IsStepOut}
 use Rattle.spg_core.proofs.Stands.{root_range, stand_put, stands_same, child_stands, released_same, latched_same, same_trans, root_leaf}
+use Rattle.spg_core.proofs.Trees.{place_tree}
 
-pub released_touched : (t : Table) (b : Option ℕ) (seat : ℕ) → (released t b seat).touched ≡ t.touched
+released_touched : (t : Table) (b : Option ℕ) (seat : ℕ) → (released t b seat).touched ≡ t.touched
 released_touched t None seat = refl
 released_touched t (Some b) seat = elim (is_held (latch_at t b) seat) as (λ h. (cond h (with_latch t b None) t).touched ≡ t.touched) [ true ↦ refl | false ↦ refl ]
 
@@ -68,13 +73,16 @@ there_of {Key} {Recon} m t d H at = go d.stand d.parent refl refl at
         (⊎_elim (λ z. inl (subst (λ (s : Stand). IsAtInner t s) (sym e) z)) (λ z. inr (inl (subst (λ (s : Stand). IsAtLeaves (sheets_of t) (in_nulls d) s) (sym e) z))) k))
     go Empty p e q a = tt
 
--- at an empty downlink the root is an inner tuple
-pub empty_outgrown : {Recon : Type 0} (t : Table) (d : Descending Recon) → Stands t d → d.stand ≡ Empty → IsOutgrown t d
-empty_outgrown t d at e = inl (subst (λ (s : Stand). StandsAt t (in_nulls d) s d.parent) e at).0
+-- latches given free leave the pages and what was touched as they are
+freed_same : (t : Table) (a b : Option ℕ) (seat : ℕ) → SamePages t (released (released t a seat) b seat)
+freed_same t a b seat = same_trans t (released t a seat) (released (released t a seat) b seat) (released_same t a seat) (released_same (released t a seat) b seat)
 
--- below the root it is one too
-pub below_outgrown : {Recon : Type 0} (t : Table) (d : Descending Recon) → Stands t d → IsAtNoInner t d.stand → (IsAtRoot d.stand → ⊥) → IsOutgrown t d
-below_outgrown t d at off low = inl (go d.stand d.parent at off.0 low)
+freed_touched : (t : Table) (a b : Option ℕ) (seat : ℕ) → (released (released t a seat) b seat).touched ≡ t.touched
+freed_touched t a b seat = released_touched (released t a seat) b seat ∙ released_touched t a seat
+
+-- below the root of its tree the root is an inner tuple
+pub below_root : {Recon : Type 0} (t : Table) (d : Descending Recon) → Stands t d → IsAtNoInner t d.stand → (IsAtRoot d.stand → ⊥) → HasInnerRoot t (in_nulls d)
+below_root t d at off low = go d.stand d.parent at off.0 low
   where
     go : (st : Stand) (p : Option (Place × ℕ)) → StandsAt t (in_nulls d) st p → (st ≡ Start → ⊥) → (IsAtRoot st → ⊥) → HasInnerRoot t (in_nulls d)
     go Start p a n l = absurd (n refl)
@@ -106,20 +114,15 @@ root_leaves {Key} {Recon} m t d H at off low = ⊎_elim (λ a. a) (λ a. absurd 
     go (At x) l a = l
     go Empty l a = l
 
--- an insert whose leaf was put where it fits
-pub put_out : {Key Recon Cond : Type 0} (m : Meaning Key Recon Cond) (t t1 t2 : Table) (d d2 : Descending Recon) (seat : ℕ) → IsAtNoInner t d.stand → PutsCarried m t t1 d → IsQuiet t t1 → SamePages t1 t2 → t2.touched ≡ t1.touched → d2.row ≡ d.row → IsStepOut m t t2 d d2 seat outs.Put
-put_out {Key} {Recon} m t t1 t2 d d2 seat off puts quiet (eS, el) et er = (
-  off,
-  (λ key C. (
-    cost_at d.stand,
-    (λ x. x),
-    subst (λ (bs : List ℕ). Adds m (sheets_of t) (sheets_of t2) bs (cost_at d.stand) d.row key (λ x. x)) (sym et)
-        (subst (λ (S : Sheets). Adds m (sheets_of t) S t1.touched (cost_at d.stand) d.row key (λ x. x)) (sym eS) (puts key C)),
-  )),
-  el ∙ quiet.limit,
-  λ nulls h. inl (sym (quiet.roots (root_of nulls) (root_range nulls).1) ∙ ap (λ (S : Sheets). (sheet_at S (root_of nulls)).inner) (sym eS) ∙ h),
-  er,
-)
+-- ---- which roots are inner tuples after a section
+
+-- the pages then are those of t1
+grow_same : {Recon : Type 0} (t t1 t2 : Table) (d : Descending Recon) → SamePages t1 t2 → RootsGrow t t1 d → RootsGrow t t2 d
+grow_same t t1 t2 d same grow nulls h = grow nulls (ap (λ (S : Sheets). (sheet_at S (root_of nulls)).inner) (sym same.0) ∙ h)
+
+-- each root page keeps its kind
+pub kinds_grow : {Recon : Type 0} (t t1 : Table) (d : Descending Recon) → ((b : ℕ) → b < 3 → (sheet_at (sheets_of t1) b).inner ≡ (sheet_at (sheets_of t) b).inner) → RootsGrow t t1 d
+kinds_grow t t1 d kinds nulls h = inl (sym (kinds (root_of nulls) (root_range nulls).1) ∙ h)
 
 root_other : (a b : Bool) → (root_of a ≡ root_of b) → a ≡ b
 root_other true true e = refl
@@ -127,48 +130,113 @@ root_other true false e = absurd (omega arith)
 root_other false true e = absurd (omega arith)
 root_other false false e = refl
 
--- which roots a division makes inner tuples
-pub calm_grow : {Recon : Type 0} (t t1 t2 : Table) (d : Descending Recon) → IsCalm t t1 d.stand → SamePages t1 t2 → IsRootFull t d → RootsGrow t t2 d
-calm_grow t t1 t2 d calm (eS, el) full nulls h = go nulls (in_nulls d) refl
+-- which roots a division at a root makes inner tuples
+pub calm_grow : {Recon : Type 0} (t t1 : Table) (d : Descending Recon) → IsCalm t t1 d.stand → IsRootFull t d → RootsGrow t t1 d
+calm_grow t t1 d calm full nulls h = pick (same_bool nulls (in_nulls d))
   where
     same_kind : (Root (root_of (in_nulls d)) ≡ Root (root_of nulls) → ⊥) → HasInnerRoot t nulls
-    same_kind n = sym (calm.roots (root_of nulls) (root_range nulls).1 (λ e. n (sym full.0 ∙ e))) ∙ ap (λ (S : Sheets). (sheet_at S (root_of nulls)).inner) (sym eS) ∙ h
+    same_kind n = sym (calm.roots (root_of nulls) (root_range nulls).1 (λ e. n (sym full.0 ∙ e))) ∙ h
 
     root_same : (a b : ℕ) → Root a ≡ Root b → a ≡ b
     root_same a b e = cc
 
-    go : (a b : Bool) → in_nulls d ≡ b → HasInnerRoot t nulls ⊎ ((nulls ≡ in_nulls d) × IsRootFull t d)
-    go a b e = pick (same_bool nulls (in_nulls d))
-      where
-        same_bool : (u v : Bool) → (u ≡ v) ⊎ (u ≡ v → ⊥)
-        same_bool true true = inl refl
-        same_bool true false = inr (λ q. cc)
-        same_bool false true = inr (λ q. cc)
-        same_bool false false = inl refl
+    same_bool : (u v : Bool) → (u ≡ v) ⊎ (u ≡ v → ⊥)
+    same_bool true true = inl refl
+    same_bool true false = inr (λ q. cc)
+    same_bool false true = inr (λ q. cc)
+    same_bool false false = inl refl
 
-        pick : (nulls ≡ in_nulls d) ⊎ (nulls ≡ in_nulls d → ⊥) → HasInnerRoot t nulls ⊎ ((nulls ≡ in_nulls d) × IsRootFull t d)
-        pick (inl q) = inr (q, full)
-        pick (inr n) = inl (same_kind (λ e. n (sym (root_other (in_nulls d) nulls (root_same (root_of (in_nulls d)) (root_of nulls) e)))))
+    pick : (nulls ≡ in_nulls d) ⊎ (nulls ≡ in_nulls d → ⊥) → HasInnerRoot t nulls ⊎ ((nulls ≡ in_nulls d) × IsRootFull t d)
+    pick (inl q) = inr (q, full)
+    pick (inr n) = inl (same_kind (λ e. n (sym (root_other (in_nulls d) nulls (root_same (root_of (in_nulls d)) (root_of nulls) e)))))
 
--- an insert whose leaf was put by a division
-pub part_out : {Key Recon Cond : Type 0} (m : Meaning Key Recon Cond) (t t1 t2 : Table) (d d2 : Descending Recon) (seat : ℕ) → IsAtNoInner t d.stand → PartsWith m t t1 d → IsCalm t t1 d.stand → IsRootFull t d → SamePages t1 t2 → t2.touched ≡ t1.touched → d2.row ≡ d.row →
-    IsStepOut m t t2 d d2 seat outs.Put
-part_out {Key} {Recon} m t t1 t2 d d2 seat off parts calm full (eS, el) et er = (
+-- ---- what comes of a section
+
+-- the row of an insert was put, and its latches were given free
+pub put_out : {Key Recon Cond : Type 0} (m : Meaning Key Recon Cond) (t t1 t2 : Table) (d d2 : Descending Recon) (seat : ℕ) → IsAtNoInner t d.stand →
+    ((key : Option Key) → IsCarried m (sheets_of t) d key → (cost : Cost) × (f : Place → Place) × Adds m (sheets_of t) (sheets_of t1) t1.touched cost d.row key f) → t1.limit ≡ t.limit → RootsGrow t t1 d →
+    t2 ≡ released (released t1 (stand_block d2.stand) seat) (parent_block d2.parent) seat → d2.row ≡ d.row → IsStepOut m t t2 d d2 seat outs.Put
+put_out {Key} {Recon} m t t1 t2 d d2 seat off adds limit grow freed row =
+    let a = stand_block d2.stand in
+    let b = parent_block d2.parent in
+    let (eS, el) : SamePages t1 t2 = subst (λ (z : Table). SamePages t1 z) (sym freed) (freed_same t1 a b seat) in
+    let et : t2.touched ≡ t1.touched = ap (λ (z : Table). z.touched) freed ∙ freed_touched t1 a b seat in (
+      off,
+      (λ key C.
+          let (cost, f, A) = adds key C in (
+            cost,
+            f,
+            subst (λ (bs : List ℕ). Adds m (sheets_of t) (sheets_of t2) bs cost d.row key f) (sym et) (subst (λ (S : Sheets). Adds m (sheets_of t) S t1.touched cost d.row key f) (sym eS) A),
+          )),
+      el ∙ limit,
+      grow_same t t1 t2 d (eS, el) grow,
+      row,
+    )
+
+-- the leaves were divided without that of an insert, and then its latches were changed
+left_out : {Key Recon Cond : Type 0} (m : Meaning Key Recon Cond) (t t1 t2 : Table) (d d2 : Descending Recon) (seat : ℕ) (cost : Cost) (f : Place → Place) → IsAtNoInner t d.stand →
+    Leaves m (sheets_of t) (sheets_of t1) t1.touched cost 0 f → t1.limit ≡ t.limit → RootsGrow t t1 d → GoesOn m t t1 d d2 → SamePages t1 t2 → t2.touched ≡ t1.touched → IsStepOut m t t2 d d2 seat outs.Restructured
+left_out {Key} {Recon} m t t1 t2 d d2 seat cost f off L limit grow (row, nulls, at, carries) (eS, el) et = (
   off,
-  (λ key C. (
-    split_cost d.stand 1,
-    (λ x. x),
-    subst (λ (bs : List ℕ). Adds m (sheets_of t) (sheets_of t2) bs (split_cost d.stand 1) d.row key (λ x. x)) (sym et)
-        (subst (λ (S : Sheets). Adds m (sheets_of t) S t1.touched (split_cost d.stand 1) d.row key (λ x. x)) (sym eS) (parts key C)),
-  )),
-  el ∙ calm.limit,
-  calm_grow t t1 t2 d calm (eS, el) full,
-  er,
+  (cost, f, subst (λ (bs : List ℕ). Leaves m (sheets_of t) (sheets_of t2) bs cost 0 f) (sym et) (subst (λ (S : Sheets). Leaves m (sheets_of t) S t1.touched cost 0 f) (sym eS) L)),
+  el ∙ limit,
+  grow_same t t1 t2 d (eS, el) grow,
+  (row, nulls, stands_same t1 t2 (in_nulls d2) d2.stand d2.parent (eS, el) at, λ key C. subst (λ (S : Sheets). IsCarried m S d2 key) (sym eS) (carries key C)),
 )
 
--- latches given free leave the pages and what was touched as they are
-pub freed_same : (t : Table) (a b : Option ℕ) (seat : ℕ) → SamePages t (released (released t a seat) b seat)
-freed_same t a b seat = same_trans t (released t a seat) (released (released t a seat) b seat) (released_same t a seat) (released_same (released t a seat) b seat)
+-- ---- an insert at a chain below a root
 
-pub freed_touched : (t : Table) (a b : Option ℕ) (seat : ℕ) → (released (released t a seat) b seat).touched ≡ t.touched
-freed_touched t a b seat = released_touched (released t a seat) b seat ∙ released_touched t a seat
+-- it stands at the chain
+pub at_chain : {Recon : Type 0} (t : Table) (d : Descending Recon) → Stands t d → IsAtNoInner t d.stand → (IsAtRoot d.stand → ⊥) → (d.stand ≡ Empty → ⊥) → IsAtChain t d
+at_chain t d at off low full = go d.stand d.parent at off.0 off.1 low full
+  where
+    go : (st : Stand) (p : Option (Place × ℕ)) → StandsAt t (in_nulls d) st p → (st ≡ Start → ⊥) → (IsAtInner t st → ⊥) → (IsAtRoot st → ⊥) → (st ≡ Empty → ⊥) → IsChainBelow t (in_nulls d) st p
+    go Start p a s i l e = absurd (s refl)
+    go (Root b) p a s i l e = absurd (l tt)
+    go (At x) None a s i l e = absurd a
+    go (At x) (Some (p, j)) (a, b, c, k) s i l e = (⊎_elim (λ z. absurd (i z)) (λ z. z) k, c)
+    go Empty p a s i l e = absurd (e refl)
+
+-- at an empty downlink a leaf fits
+pub not_empty : {Recon : Type 0} (t : Table) (d : Descending Recon) → (Fits t d.stand (Live (carried d) 0) → ⊥) → d.stand ≡ Empty → ⊥
+not_empty t d room e = room (subst (λ (s : Stand). Fits t s (Live (carried d) 0)) (sym e) tt)
+
+-- a chain that may move is below a root
+pub moves_below : {Recon : Type 0} (t : Table) (d : Descending Recon) → MayMove t d.stand (Live (carried d) 0) → IsAtRoot d.stand → ⊥
+moves_below t d may low = go d.stand may low
+  where
+    go : (st : Stand) → MayMove t st (Live (carried d) 0) → IsAtRoot st → ⊥
+    go Start h l = l
+    go (Root b) h l = h
+    go (At x) h l = l
+    go Empty h l = l
+
+-- the insert stands at the inner tuple that took the chain's place
+stands_led : (t : Table) (nulls : Bool) (z : Place) (parent : Option (Place × ℕ)) → HasInnerRoot t nulls → (sheet_at (sheets_of t) z.block).nulls ≡ nulls → IsLedTo t parent z → IsAtInner t (At z) → StandsAt t nulls (At z) parent
+stands_led t nulls z None root tree led inner = led
+stands_led t nulls z (Some (p, i)) root tree led inner = (root, tree, led, inl inner)
+
+-- it goes on from there
+chain_goes : {Key Recon Cond : Type 0} (m : Meaning Key Recon Cond) (t t1 : Table) (d d2 : Descending Recon) (z : Place) (spread : ℕ) → ((key : Option Key) × IsCarried m (sheets_of t) d key) → HasInnerRoot t (in_nulls d) → IsTicked t t1 →
+    (d2.row ≡ d.row) → (in_nulls d2 ≡ in_nulls d) → (d2.stand ≡ At z) → (d2.parent ≡ d.parent) → SplitsWithout m t t1 d d2 z spread → GoesOn m t t1 d d2
+chain_goes {Key} {Recon} m t t1 d d2 z spread (key, C) root ticked row nulls stand parent W =
+    let H : Shape m (sheets_of t1) = W.leaves.section.shape in
+    let tree : (sheet_at (sheets_of t1) z.block).nulls ≡ in_nulls d2 = place_tree m (sheets_of t1) H d2 key z (W.carries key C) stand in
+    let root1 : HasInnerRoot t1 (in_nulls d) = ticked.roots (root_of (in_nulls d)) (root_range (in_nulls d)).1 ∙ root in
+    let at : StandsAt t1 (in_nulls d2) (At z) d.parent = stands_led t1 (in_nulls d2) z d.parent (subst (λ (b : Bool). HasInnerRoot t1 b) (sym nulls) root1) tree W.link W.inner in (
+      row,
+      nulls,
+      subst (λ (p : Option (Place × ℕ)). StandsAt t1 (in_nulls d2) d2.stand p) (sym parent) (subst (λ (s : Stand). StandsAt t1 (in_nulls d2) s d.parent) (sym stand) at),
+      W.carries,
+    )
+
+-- a chain was divided without the leaf of the insert
+pub chain_out : {Key Recon Cond : Type 0} (m : Meaning Key Recon Cond) (t t1 t2 : Table) (d d2 : Descending Recon) (seat : ℕ) → ((key : Option Key) × IsCarried m (sheets_of t) d key) → IsAtNoInner t d.stand → HasInnerRoot t (in_nulls d) → IsTicked t t1 →
+    IsChainSplit m t t1 d d2 LeftOut → SamePages t1 t2 → t2.touched ≡ t1.touched → IsStepOut m t t2 d d2 seat outs.Restructured
+chain_out {Key} {Recon} m t t1 t2 d d2 seat of_key off root ticked (z, ways) same et = ⊎_elim
+    (λ (e, W). one 0 (ap (λ (x : Descending Recon). x.row) e) (ap (λ (x : Descending Recon). in_nulls x) e) (ap (λ (x : Descending Recon). x.stand) e) (ap (λ (x : Descending Recon). x.parent) e) W)
+    (λ (e, W). one 1 (ap (λ (x : Descending Recon). x.row) e) (ap (λ (x : Descending Recon). in_nulls x) e) (ap (λ (x : Descending Recon). x.stand) e) (ap (λ (x : Descending Recon). x.parent) e) W)
+    ways
+  where
+    one : (spread : ℕ) → d2.row ≡ d.row → in_nulls d2 ≡ in_nulls d → d2.stand ≡ At z → d2.parent ≡ d.parent → SplitsWithout m t t1 d d2 z spread → IsStepOut m t t2 d d2 seat outs.Restructured
+    one spread row nulls stand parent W = left_out m t t1 t2 d d2 seat (split_cost d.stand spread) (moved (tuple_place d.stand) z) off W.leaves ticked.limit (kinds_grow t t1 d ticked.roots) (chain_goes m t t1 d d2 z spread of_key root ticked row nulls stand parent W) same et

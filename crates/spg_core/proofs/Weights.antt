@@ -183,6 +183,10 @@ is_null {Key} m (Some s) whole key e = go (m.rebuild s whole) e
 pub nulls_key : {Key Recon Cond : Type 0} (m : Meaning Key Recon Cond) (S : Sheets) (d : Descending Recon) (key : Option Key) → IsCarried m S d key → in_nulls d ≡ is_none key
 nulls_key m S d key C = is_null m d.start d.whole key C.of.gives
 
+-- so is what it has rebuilt
+pub recon_key : {Key Recon Cond : Type 0} (m : Meaning Key Recon Cond) (S : Sheets) (d : Descending Recon) (key : Option Key) → IsCarried m S d key → is_none d.recon ≡ is_none key
+recon_key m S d key C = is_null m d.recon d.rest key C.rebuilt
+
 -- ---- an insert at its root, a leaf page on which its leaf does not fit
 
 module _ {O Key Recon Cond : Type 0} (m : Meaning Key Recon Cond) (K : CodeLaw m) (past : History O Key Recon Cond) (sane : Sane past) (t : Table) (d : Descending Recon) (key : Option Key) (seat : ℕ) (R : Represents m (sheets_of t) (IsPresentWith past))

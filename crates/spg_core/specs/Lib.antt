@@ -1,4 +1,5 @@
 pub mod Stepping
+pub mod Latches
 pub mod Weight
 pub mod Stage
 pub mod Seen

@@ -1,16 +1,17 @@
 -- Where an open insert stands in a table, and what a section of it does.
-use Rattle.std.specs.Prelude.{◌≡◌, ◌⊎◌, ◌<◌, ℕ, Bool, true, false, List, length, get_or, Option, Some, None, if◌then◌else◌}
+use Rattle.std.specs.Prelude.{◌≡◌, ◌⊎◌, ◌<◌, ◌+◌, ℕ, Bool, true, false, length, Option, Some, None, if◌then◌else◌}
 use Rattle.spg_opclass.specs.Meaning.{Meaning}
 use Rattle.spg_forest.specs.View.{Place}
 use Rattle.spg_forest.specs.Spot.{Frame}
-use Rattle.spg_forest.specs.Tuples.{Inner, Live}
+use Rattle.spg_forest.specs.Tuples.{Live}
 use Rattle.spg_forest.specs.Sheets.{sheet_at}
 use Rattle.spg_forest.specs.Section.{Adds, Leaves, Cost}
-use Rattle.spg_tree.specs.Table.{Table, sheets_of, latch_at, tuple_at}
+use Rattle.spg_tree.specs.Table.{Table, sheets_of, latch_at}
 use Rattle.spg_tree.specs.Descents.{Descending, in_nulls}
 use Rattle.spg_tree.specs.declared.stand.Stand.{Stand}
 use Rattle.spg_tree.specs.declared.stand.Stand.TheVariants.{Start, Root, At, Empty}
 use Rattle.spg_descend.specs.Carried.{carried, root_of, IsCarried}
+use Rattle.spg_descend.specs.Below.{IsLink}
 use Rattle.spg_descend.specs.Follows.{IsAtInner}
 use Rattle.spg_descend.specs.Puts.{IsAtLeaves, IsAtEmpty, Fits}
 use Rattle.spg_descend.specs.Rules.{IsAtNoInner}
@@ -20,10 +21,6 @@ use Rattle.spg_core.specs.declared.answer.InsertOut.TheVariants.{Descended, Rest
 -- the root of a tree is an inner tuple
 abbrev pub HasInnerRoot : Table → Bool → Type 0
 HasInnerRoot t nulls = (sheet_at (sheets_of t) (root_of nulls)).inner ≡ true
-
--- node i of the inner tuple at p leads there
-abbrev pub IsLink : Table → Place → ℕ → Place → Type 0
-IsLink t p i x = (p.block < length t.pages) × ((w : Frame) × (ns : List (Option Place)) × (tuple_at t p ≡ Inner w ns) × (get_or ns i None ≡ Some x))
 
 -- the insert stands at the root of its tree; or below an inner root, at what the node of the tuple above leads to, or at its empty downlink
 abbrev pub StandsAt : Table → Bool → Stand → Option (Place × ℕ) → Type 0
@@ -52,6 +49,10 @@ IsRootFull t d = (d.stand ≡ Root (root_of (in_nulls d))) × ((sheet_at (sheets
 -- the tree has outgrown its root page, or does so with the leaf of the insert
 abbrev pub IsOutgrown : {Recon : Type 0} → Table → Descending Recon → Type 0
 IsOutgrown t d = HasInnerRoot t (in_nulls d) ⊎ IsRootFull t d
+
+-- fewer than 4 blocks are left below the limit
+abbrev pub IsNearLimit : Table → Type 0
+IsNearLimit t = t.limit < length t.pages + 4
 
 -- a root is an inner tuple only where it was one, or where the insert has outgrown it
 abbrev pub RootsGrow : {Recon : Type 0} → Table → Table → Descending Recon → Type 0

@@ -1,4 +1,4 @@
-ghost use Rattle.std.specs.Prelude.{◌≡◌, ◌⊎◌, ◌<◌, Option, Some as Just, false, IfOk, OnErr, IsErrOf, length};
+ghost use Rattle.std.specs.Prelude.{◌≡◌, ◌⊎◌, ◌<◌, Option, Some as Just, false, IfOk, OnErr, IsErrOf, length, ◌+◌, ◌^◌};
 ghost use Rattle.spg_forest.specs.Tuples.{Live};
 ghost use Rattle.spg_forest.specs.Shape.{Shape, IsRestOf};
 ghost use Rattle.spg_forest.specs.Sheets.{links};
@@ -11,14 +11,18 @@ ghost use Rattle.spg_tree.specs.declared.stand.StepRefused.TheVariants.{IndexFul
 ghost use Rattle.spg_descend.specs.Carried.{carried, IsCarried};
 ghost use Rattle.spg_descend.specs.Follows.{IsAtInner, tuple_place};
 ghost use Rattle.spg_descend.specs.Puts.{Fits};
-ghost use Rattle.spg_descend.specs.Rules.{IsAtNoInner};
-ghost use Rattle.spg_core.specs.Stepping.{Stands, IsOutgrown, IsStepOut, named};
+ghost use Rattle.spg_descend.specs.Rules.{IsAtNoInner, MayMove};
+ghost use Rattle.spg_split.specs.Splits.{IsAtRoot};
+ghost use Rattle.spg_core.specs.Stepping.{Stands, IsOutgrown, IsNearLimit, IsStepOut, named};
+ghost use Rattle.spg_core.specs.Latches.{InsertHolds, HoldsAfter};
 
 use crate::answer::InsertOut;
+use crate::latches::{hold_anew, stand_block};
 use spg_base::{Block, Bytes, Memory, Offset, Place, SeatNo};
 use spg_descend::{Entered, PutOut, Rule, enter_root, follow, put_leaf, release_latches, rule_at};
+use spg_move::move_chain;
 use spg_opclass::{Choice, InnerView, OpClass};
-use spg_split::{SplitOut, split_leaf};
+use spg_split::{SplitOut, split_chain, split_leaf};
 use spg_tree::{Descent, PageTable, Stand, StepRefused};
 use std::alloc::Global;
 
@@ -35,8 +39,10 @@ fn begin<O: OpClass>(table: &mut PageTable, descent: &mut Descent<O>, seat: Seat
     requires shape { Shape O.meaning (sheets_of table.old) }
     requires start { descent.old.stand ≡ Start }
     requires stands { Stands table.old descent.old }
-    ensures { IsStepOut O.meaning table.old table.new descent.old descent.new seat result }
+    ensures ok { IsStepOut O.meaning table.old table.new descent.old descent.new seat result }
+    ensures latches { InsertHolds table.old seat descent.old → HoldsAfter table.new seat descent.new result }
 {
+    let _count = table.page_count();
     match enter_root(table, descent, seat) {
         Entered::In => InsertOut::Descended,
         Entered::Busy { block, by } => InsertOut::Restarted { block, by },
@@ -146,9 +152,11 @@ fn go_down<O: OpClass>(
     requires of_key { (key : Option O.Key) × IsCarried O.meaning (sheets_of table.old) descent.old key }
     requires stands { Stands table.old descent.old }
     ensures ok { IfOk result (λ out. IsStepOut O.meaning table.old table.new descent.old descent.new seat out) }
+    ensures latches { IfOk result (λ out. InsertHolds table.old seat descent.old → HoldsAfter table.new seat descent.new out) }
     ensures err { OnErr result (table.new ≡ table.old) }
     ensures err_descent { OnErr result (descent.new ≡ descent.old) }
 {
+    let _count = table.page_count();
     let chosen = choose(alloc, class, table, descent)?;
     let entered = follow(alloc, class, table, descent, seat, chosen.node, chosen.rest)?;
     if chosen.by_turn {
@@ -173,7 +181,8 @@ fn put<O: OpClass>(
     requires of_key { (key : Option O.Key) × IsCarried O.meaning (sheets_of table.old) descent.old key }
     requires stands { Stands table.old descent.old }
     ensures ok { IfOk result (λ out. IsStepOut O.meaning table.old table.new descent.old descent.new seat out) }
-    ensures full { IsErrOf result IndexFull → IsOutgrown table.old descent.old }
+    ensures latches { IfOk result (λ out. InsertHolds table.old seat descent.old → HoldsAfter table.new seat descent.new out) }
+    ensures full { IsErrOf result IndexFull → IsOutgrown table.old descent.old × IsNearLimit table.old }
     ensures clock { IsErrOf result ClockFull → ⊥ }
     ensures err { OnErr result (table.new ≡ table.old) }
     ensures err_descent { OnErr result (descent.new ≡ descent.old) }
@@ -188,7 +197,7 @@ fn put<O: OpClass>(
 }
 
 /// Divides the leaves of a root leaf page on which the leaf of an insert does not fit.
-fn divide<O: OpClass>(
+fn divide_root<O: OpClass>(
     alloc: Global,
     class: &O,
     table: &mut PageTable,
@@ -196,20 +205,18 @@ fn divide<O: OpClass>(
     seat: SeatNo,
 ) -> Result<InsertOut, StepRefused>
     requires shape { Shape O.meaning (sheets_of table.old) }
+    requires root { IsAtRoot descent.old.stand }
     requires elsewhere { IsAtNoInner table.old descent.old.stand }
     requires no_room { Fits table.old descent.old.stand (Live (carried descent.old) 0) → ⊥ }
     requires of_key { (key : Option O.Key) × IsCarried O.meaning (sheets_of table.old) descent.old key }
     requires stands { Stands table.old descent.old }
     ensures ok { IfOk result (λ out. IsStepOut O.meaning table.old table.new descent.old descent.new seat out) }
-    ensures full { IsErrOf result IndexFull → IsOutgrown table.old descent.old }
+    ensures latches { IfOk result (λ out. InsertHolds table.old seat descent.old → HoldsAfter table.new seat descent.new out) }
+    ensures full { IsErrOf result IndexFull → IsOutgrown table.old descent.old × IsNearLimit table.old }
     ensures clock { IsErrOf result ClockFull → ⊥ }
     ensures err { OnErr result (table.new ≡ table.old) }
     ensures err_descent { OnErr result (descent.new ≡ descent.old) }
 {
-    match descent.stand() {
-        Stand::Root(_) => {}
-        _ => return Err(StepRefused::IndexFull),
-    }
     match split_leaf(alloc, class, table, descent, seat)? {
         SplitOut::Put => {
             release_latches(table, descent, seat);
@@ -217,6 +224,66 @@ fn divide<O: OpClass>(
         }
         SplitOut::LeftOut => Ok(InsertOut::Restructured),
     }
+}
+
+/// Divides the chain of an insert, which is too long to move.
+fn divide_chain<O: OpClass>(
+    alloc: Global,
+    class: &O,
+    table: &mut PageTable,
+    descent: &mut Descent<O>,
+    seat: SeatNo,
+) -> Result<InsertOut, StepRefused>
+    requires shape { Shape O.meaning (sheets_of table.old) }
+    requires below { IsAtRoot descent.old.stand → ⊥ }
+    requires elsewhere { IsAtNoInner table.old descent.old.stand }
+    requires no_room { Fits table.old descent.old.stand (Live (carried descent.old) 0) → ⊥ }
+    requires long { MayMove table.old descent.old.stand (Live (carried descent.old) 0) → ⊥ }
+    requires of_key { (key : Option O.Key) × IsCarried O.meaning (sheets_of table.old) descent.old key }
+    requires stands { Stands table.old descent.old }
+    ensures ok { IfOk result (λ out. IsStepOut O.meaning table.old table.new descent.old descent.new seat out) }
+    ensures latches { IfOk result (λ out. InsertHolds table.old seat descent.old → HoldsAfter table.new seat descent.new out) }
+    ensures full { IsErrOf result IndexFull → IsOutgrown table.old descent.old × IsNearLimit table.old }
+    ensures clock { IsErrOf result ClockFull → table.old.clock + 1 ≡ 2 ^ 48 }
+    ensures err { OnErr result (table.new ≡ table.old) }
+    ensures err_descent { OnErr result (descent.new ≡ descent.old) }
+{
+    let was = stand_block(descent.stand());
+    match split_chain(alloc, class, table, descent, seat)? {
+        SplitOut::Put => {
+            release_latches(table, descent, seat);
+            Ok(InsertOut::Put)
+        }
+        SplitOut::LeftOut => {
+            let _count = table.page_count();
+            hold_anew(table, descent, was, seat);
+            Ok(InsertOut::Restructured)
+        }
+    }
+}
+
+/// Moves the short chain of an insert to another page, with the insert's leaf behind its head.
+fn move_away<O: OpClass>(
+    alloc: Global,
+    table: &mut PageTable,
+    descent: &Descent<O>,
+    seat: SeatNo,
+) -> Result<InsertOut, StepRefused>
+    requires shape { Shape O.meaning (sheets_of table.old) }
+    requires elsewhere { IsAtNoInner table.old descent.now.stand }
+    requires no_room { Fits table.old descent.now.stand (Live (carried descent.now) 0) → ⊥ }
+    requires short { MayMove table.old descent.now.stand (Live (carried descent.now) 0) }
+    requires of_key { (key : Option O.Key) × IsCarried O.meaning (sheets_of table.old) descent.now key }
+    requires stands { Stands table.old descent.now }
+    ensures ok { IfOk result (λ out. IsStepOut O.meaning table.old table.new descent.now descent.now seat out) }
+    ensures latches { IfOk result (λ out. InsertHolds table.old seat descent.now → HoldsAfter table.new seat descent.now out) }
+    ensures full { IsErrOf result IndexFull → IsOutgrown table.old descent.now × IsNearLimit table.old }
+    ensures clock { IsErrOf result ClockFull → table.old.clock + 1 ≡ 2 ^ 48 }
+    ensures err { OnErr result (table.new ≡ table.old) }
+{
+    move_chain(alloc, table, descent, seat)?;
+    release_latches(table, descent, seat);
+    Ok(InsertOut::Put)
 }
 
 /// The next section of an open insert. After a refusal table and insert are as they were.
@@ -232,8 +299,9 @@ pub(crate) fn step<O: OpClass>(
     requires of_key { (key : Option O.Key) × IsCarried O.meaning (sheets_of table.old) descent.old key }
     requires stands { Stands table.old descent.old }
     ensures ok { IfOk result (λ out. IsStepOut O.meaning table.old table.new descent.old descent.new seat out) }
-    ensures full { IsErrOf result IndexFull → IsOutgrown table.old descent.old }
-    ensures clock { IsErrOf result ClockFull → ⊥ }
+    ensures latches { IfOk result (λ out. InsertHolds table.old seat descent.old → HoldsAfter table.new seat descent.new out) }
+    ensures full { IsErrOf result IndexFull → IsOutgrown table.old descent.old × IsNearLimit table.old }
+    ensures clock { IsErrOf result ClockFull → table.old.clock + 1 ≡ 2 ^ 48 }
     ensures err { OnErr result (table.new ≡ table.old) }
     ensures err_descent { OnErr result (descent.new ≡ descent.old) }
 {
@@ -241,7 +309,10 @@ pub(crate) fn step<O: OpClass>(
         Rule::Start => Ok(begin(table, descent, seat)),
         Rule::Choose => Ok(go_down(alloc, class, table, descent, seat)?),
         Rule::Put => put(alloc, table, descent, seat),
-        Rule::Part => divide(alloc, class, table, descent, seat),
-        Rule::Move => Err(StepRefused::IndexFull),
+        Rule::Move => move_away(alloc, table, descent, seat),
+        Rule::Part => match descent.stand() {
+            Stand::Root(_) => divide_root(alloc, class, table, descent, seat),
+            _ => divide_chain(alloc, class, table, descent, seat),
+        },
     }
 }

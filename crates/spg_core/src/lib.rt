@@ -3,6 +3,7 @@
 
 mod answer;
 mod insert;
+mod latches;
 mod operations;
 mod slot;
 mod stat;

@@ -1,4 +1,4 @@
-ghost use Rattle.std.specs.Prelude.{◌≡◌, ◌<◌, [], ℕ, false, Option, length, slice_set, slice_index_or, IfOk, OnErr, IsErrOf, IfSome, ◌≤◌, vec_capacity};
+ghost use Rattle.std.specs.Prelude.{◌≡◌, ◌<◌, ◌+◌, ◌^◌, [], ℕ, false, Option, length, slice_set, slice_index_or, IfOk, OnErr, IsErrOf, IfSome, ◌≤◌, vec_capacity};
 ghost use Rattle.spg_forest.specs.Shape.{Shape};
 ghost use Rattle.spg_rows.specs.Table.{state_in};
 ghost use Rattle.spg_rows.specs.declared.table.RowState.TheVariants as row_state;
@@ -7,7 +7,8 @@ ghost use Rattle.spg_tree.specs.declared.stand.StepRefused.TheVariants.{IndexFul
 ghost use Rattle.spg_core.specs.declared.slot.Slot.TheVariants as kept;
 ghost use Rattle.spg_core.specs.Slot.{GivesBack};
 ghost use Rattle.spg_core.specs.Operations.{CanStep, StepsSlot, IsOutgrownBy, CanRead, ReadsSlot, CanClose, ClosesSlot, CanRelease, IsInsert, IsRowOf};
-ghost use Rattle.spg_core.specs.Stepping.{SamePages};
+ghost use Rattle.spg_core.specs.Stepping.{SamePages, IsNearLimit};
+ghost use Rattle.spg_core.specs.Latches.{SlotHolds, NoLatches};
 ghost use Rattle.spg_scan.specs.Scanning.{IsClosing, emptied};
 
 use crate::answer::InsertOut;
@@ -34,8 +35,8 @@ pub(crate) fn step_slot<O: OpClass>(
     requires shape { Shape O.meaning (sheets_of table.old) }
     requires insert { CanStep O.meaning table.old (slice_index_or slots.old.items seat kept.Free) }
     ensures ok { IfOk result (λ out. StepsSlot O.meaning table.old table.new slots.old.items slots.new.items seat out) }
-    ensures full { IsErrOf result IndexFull → IsOutgrownBy table.old (slice_index_or slots.old.items seat kept.Free) }
-    ensures clock { IsErrOf result ClockFull → ⊥ }
+    ensures full { IsErrOf result IndexFull → IsOutgrownBy table.old (slice_index_or slots.old.items seat kept.Free) × IsNearLimit table.old }
+    ensures clock { IsErrOf result ClockFull → table.old.clock + 1 ≡ 2 ^ 48 }
     ensures err { OnErr result (table.new ≡ table.old) }
     ensures err_slots { OnErr result (slots.new.items ≡ slots.old.items) }
 {
@@ -132,6 +133,7 @@ pub(crate) fn release_slot<O: OpClass>(
 )
     requires { CanRelease table.old rows.old slot.now }
     ensures pages { SamePages table.old table.new }
+    ensures latches { SlotHolds table.old seat slot.now → NoLatches table.new }
     ensures rows { GivesBack slot.now rows.old rows.new }
 {
     if let Slot::Insert { descent, .. } = slot {

@@ -1,5 +1,5 @@
 -- What the division of leaves does.
-use Rattle.std.specs.Prelude.{◌≡◌, ℕ, ◌<◌, ◌⊎◌, Option}
+use Rattle.std.specs.Prelude.{◌≡◌, ℕ, ◌<◌, ◌⊎◌, Option, None}
 use Rattle.spg_opclass.specs.Meaning.{Meaning}
 use Rattle.spg_forest.specs.Sheets.{sheet_at}
 use Rattle.spg_forest.specs.Section.{Adds, Leaves, Cost}
@@ -51,6 +51,6 @@ abbrev pub IsSplitOut : {Key Recon Cond : Type 0} → Meaning Key Recon Cond →
 IsSplitOut m t t2 d d2 Put = PartsWith m t t2 d × IsCalm t t2 d.stand × (d2 ≡ d)
 IsSplitOut m t t2 d d2 LeftOut = IsCalm t t2 d.stand × (((d2 ≡ d) × PartsWithout m t t2 d d2 0) ⊎ ((d2 ≡ risen d) × PartsWithout m t t2 d d2 1))
 
--- a pick of the section needs a new block that is not below the limit
+-- a pick of the section needs a new block that is not below the limit; where two are picked, the second may have any parity
 abbrev pub IsSplitFull : Table → Type 0
-IsSplitFull t = ((w : Want) × IsFull t w) ⊎ ((w v : Want) × IsTwoFull t w v)
+IsSplitFull t = ((w : Want) × IsFull t w) ⊎ ((w v : Want) × (v.parity ≡ None) × IsTwoFull t w v)

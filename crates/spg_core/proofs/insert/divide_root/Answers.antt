@@ -1,0 +1,46 @@
+use Rattle.std.proofs.Common.{rules, ⊎_elim, ap, subst, inr}
+use Rattle.spg_tree.specs.Descents.{Descending}
+use Rattle.spg_split.specs.Splits.{IsSplitOut, IsSplitFull, split_cost}
+use Rattle.spg_split.specs.declared.split.SplitOut.{SplitOut}
+use Rattle.spg_core.proofs.Moves.{put_out, calm_grow, root_full, root_leaves}
+use Rattle.spg_core.proofs.Limits.{split_near}
+use Rattle.spg_core.proofs.Holding.{put_free, holds_same}
+use Rattle.spg_core.proofs.insert.divide_root.Goals as goal
+
+pub split_leaf-requires-clause-spot : goal.split_leaf-requires-clause-spot
+split_leaf-requires-clause-spot g c κs within = root_leaves g.O.OpClass.meaning c.args.table.now c.args.descent.now c.requires.shape c.requires.stands c.requires.elsewhere c.requires.root
+
+pub returns-in-Put-clause-ok : goal.returns-in-Put-clause-ok
+returns-in-Put-clause-ok g c =
+    let m = g.O.OpClass.meaning in
+    let t = c.args.table.now in
+    let d = c.args.descent.now in
+    let t1 = c.split_leaf.new.table in
+    let d2 = c.split_leaf.new.descent in
+    let full = root_full m t d c.requires.shape c.requires.stands c.requires.elsewhere c.requires.no_room c.requires.root in
+    let (parts, calm, e) = subst (λ (o : SplitOut). IsSplitOut m t t1 d d2 o) c.in-Put.is c.in_ok-split_leaf.ensures.ok in
+    put_out m t t1 c.release_latches.new.table d d2 c.args.seat c.requires.elsewhere (λ key C. (split_cost d.stand 1, λ x. x, parts key C)) calm.limit (calm_grow t t1 d calm full) c.release_latches.ensures.table (ap (λ (z : Descending _). z.row) e)
+
+pub returns-in_err-split_leaf-clause-full : goal.returns-in_err-split_leaf-clause-full
+returns-in_err-split_leaf-clause-full g c = λ h.
+    let full : IsSplitFull c.args.table.now = search rules in
+    (inr (root_full g.O.OpClass.meaning c.args.table.now c.args.descent.now c.requires.shape c.requires.stands c.requires.elsewhere c.requires.no_room c.requires.root), split_near c.args.table.now full)
+
+pub returns-in-Put-clause-latches : goal.returns-in-Put-clause-latches
+returns-in-Put-clause-latches g c = λ h.
+    let t = c.args.table.now in
+    let d = c.args.descent.now in
+    let t1 = c.split_leaf.new.table in
+    let d2 = c.split_leaf.new.descent in
+    let (parts, calm, e) = subst (λ (o : SplitOut). IsSplitOut g.O.OpClass.meaning t t1 d d2 o) c.in-Put.is c.in_ok-split_leaf.ensures.ok in
+    put_free t t1 c.release_latches.new.table c.args.seat d d2 calm.latches (ap (λ (z : Descending _). z.stand) e) (ap (λ (z : Descending _). z.parent) e) c.release_latches.ensures.table h
+
+pub returns-in-LeftOut-clause-latches : goal.returns-in-LeftOut-clause-latches
+returns-in-LeftOut-clause-latches g c = λ h.
+    let t = c.args.table.now in
+    let d = c.args.descent.now in
+    let t1 = c.split_leaf.new.table in
+    let d2 = c.split_leaf.new.descent in
+    let (calm, ways) = subst (λ (o : SplitOut). IsSplitOut g.O.OpClass.meaning t t1 d d2 o) c.in-LeftOut.is c.in_ok-split_leaf.ensures.ok in
+    ⊎_elim (λ w. holds_same t t1 c.args.seat d d2 calm.latches (ap (λ (z : Descending _). z.stand) w.0) (ap (λ (z : Descending _). z.parent) w.0) h)
+    (λ w. holds_same t t1 c.args.seat d d2 calm.latches (ap (λ (z : Descending _). z.stand) w.0) (ap (λ (z : Descending _). z.parent) w.0) h) ways
