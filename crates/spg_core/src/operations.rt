@@ -36,7 +36,7 @@ pub(crate) fn step_slot<O: OpClass>(
     requires insert { CanStep O.meaning table.old (slice_index_or slots.old.items seat kept.Free) }
     ensures ok { IfOk result (λ out. StepsSlot O.meaning table.old table.new slots.old.items slots.new.items seat out) }
     ensures full { IsErrOf result IndexFull → IsOutgrownBy table.old (slice_index_or slots.old.items seat kept.Free) × IsNearLimit table.old }
-    ensures clock { IsErrOf result ClockFull → table.old.clock + 1 ≡ 2 ^ 48 }
+    ensures clock { IsErrOf result ClockFull → IsOutgrownBy table.old (slice_index_or slots.old.items seat kept.Free) × (table.old.clock + 1 ≡ 2 ^ 48) }
     ensures err { OnErr result (table.new ≡ table.old) }
     ensures err_slots { OnErr result (slots.new.items ≡ slots.old.items) }
 {

@@ -187,7 +187,7 @@ impl<O: OpClass> State<O> {
         ensures latches { IfOk result (λ out. LatchesAfter self.new seat out) }
         ensures within { ChangesHeld self.old.table self.new.table seat }
         ensures full { IsErrOf result StepRefused.IndexFull → IsHeavy O.meaning self.old seat × IsNearLimit self.old.table }
-        ensures clock { IsErrOf result StepRefused.ClockFull → self.old.table.clock + 1 ≡ 2 ^ 48 }
+        ensures clock { IsErrOf result StepRefused.ClockFull → IsHeavy O.meaning self.old seat × (self.old.table.clock + 1 ≡ 2 ^ 48) }
         ensures err { OnErr result (self.new ≡ self.old) }
     {
         let out = step_slot(

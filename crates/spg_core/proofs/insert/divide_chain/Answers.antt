@@ -1,4 +1,4 @@
-use Rattle.std.proofs.Common.{rules, ℕ, ◌<◌, length, ⊎_elim, sym, ap, ◌∙◌, subst, inl}
+use Rattle.std.proofs.Common.{rules, ℕ, ◌≡◌, ◌+◌, ◌^◌, ◌<◌, length, ⊎_elim, sym, ap, ◌∙◌, subst, inl}
 use Rattle.spg_forest.specs.Pages.{moved}
 use Rattle.spg_tree.specs.Descents.{Descending}
 use Rattle.spg_descend.specs.Below.{IsTicked}
@@ -22,6 +22,11 @@ pub returns-in_err-split_chain-clause-full : goal.returns-in_err-split_chain-cla
 returns-in_err-split_chain-clause-full g c = λ h.
     let full : IsSplitFull c.args.table.now = search rules in
     (inl (below_root c.args.table.now c.args.descent.now c.requires.stands c.requires.elsewhere c.requires.below), split_near c.args.table.now full)
+
+pub returns-in_err-split_chain-clause-clock : goal.returns-in_err-split_chain-clause-clock
+returns-in_err-split_chain-clause-clock g c = λ h.
+    let at_end : c.args.table.now.clock + 1 ≡ 2 ^ 48 = search rules in
+    (inl (below_root c.args.table.now c.args.descent.now c.requires.stands c.requires.elsewhere c.requires.below), at_end)
 
 pub returns-in-Put-clause-ok : goal.returns-in-Put-clause-ok
 returns-in-Put-clause-ok g c =

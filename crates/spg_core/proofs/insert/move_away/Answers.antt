@@ -1,9 +1,9 @@
-use Rattle.std.proofs.Common.{refl}
+use Rattle.std.proofs.Common.{rules, ◌≡◌, ◌+◌, ◌^◌, inl, refl}
 use Rattle.spg_forest.specs.Pages.{moved}
 use Rattle.spg_descend.specs.Below.{IsTicked}
 use Rattle.spg_descend.specs.Follows.{tuple_place}
 use Rattle.spg_move.specs.Moves.{move_cost}
-use Rattle.spg_core.proofs.Moves.{put_out, kinds_grow, at_chain, not_empty, moves_below}
+use Rattle.spg_core.proofs.Moves.{put_out, kinds_grow, at_chain, not_empty, moves_below, below_root}
 use Rattle.spg_core.proofs.Holding.{put_free}
 use Rattle.spg_core.proofs.insert.move_away.Goals as goal
 
@@ -12,6 +12,13 @@ move_chain-requires-clause-spot g c κs within =
     let t = c.args.table.now in
     let d = c.args.descent.now in
     at_chain t d c.requires.stands c.requires.elsewhere (moves_below t d c.requires.short) (not_empty t d c.requires.no_room)
+
+pub returns-in_err-move_chain-clause-clock : goal.returns-in_err-move_chain-clause-clock
+returns-in_err-move_chain-clause-clock g c = λ h.
+    let t = c.args.table.now in
+    let d = c.args.descent.now in
+    let at_end : t.clock + 1 ≡ 2 ^ 48 = search rules in
+    (inl (below_root t d c.requires.stands c.requires.elsewhere (moves_below t d c.requires.short)), at_end)
 
 pub returns-clause-ok : goal.returns-clause-ok
 returns-clause-ok g c =
