@@ -1,6 +1,7 @@
 -- What is spelled is read.
-use Rattle.std.proofs.Common.{◌≡◌, ◌<◌, ◌≤◌, ◌+◌, ◌-◌, ◌*◌, ◌/◌, ◌%◌, ◌^◌, inl, inr, ℕ, zero, suc, Bool, true, false, List, [], ◌∷◌, ◌++◌, length, drop, Some, None, refl, sym, ap, ◌∙◌, arith, cond, ◌==◌, ◌||◌, ltb, ℤ, pos, negsuc, length-append, append-nil, FitsSigned}
-use Rattle.std.specs.Prelude.{codes}
+use Rattle.std.proofs.Common.{◌≡◌, ◌<◌, ◌≤◌, ◌+◌, ◌-◌, ◌*◌, ◌/◌, ◌%◌, ◌^◌, inl, inr, ℕ, zero, suc, Bool, true, false, List, [], ◌∷◌, ◌++◌, length, drop, Option, Some, None, IfSome, refl, sym, ap, ◌∙◌, arith, cond, ◌==◌, ◌||◌, ltb, ℤ, pos, negsuc, length-append, append-nil, FitsSigned}
+use Rattle.std.specs.Prelude.{codes, bytes_eq}
+use Rattle.std.proofs.lemmas.Slice.Eq.{bytes_eq-Decides}
 use Rattle.std.specs.Int.{w32}
 use Rattle.std.specs.Fmt.{decimal, signed_decimal}
 use Rattle.std.specs.List.{AllByRecursion}
@@ -16,11 +17,11 @@ use Rattle.spg_base.specs.declared.point.Point.{Point}
 use Rattle.spg_base.specs.declared.point.PointCond.{PointCond}
 use Rattle.spg_base.specs.declared.point.PointCond.TheVariants.{Eq, Left, Right, Below, Above, Inside}
 use Rattle.spg_app.specs.declared.command.AnyQuery.{AnyQuery}
-use Rattle.spg_app.specs.declared.command.AnyQuery.TheVariants.{All, Where}
+use Rattle.spg_app.specs.declared.command.AnyQuery.TheVariants.{All, Null, Where}
 use Rattle.spg_app.specs.declared.command.Command.{Command}
 use Rattle.spg_app.specs.declared.command.Command.TheVariants.{Insert, Find}
-use Rattle.spg_app.specs.Spelling.{corners_text, cond_text, conds_text, asked_text, command_text, IsRow, IsPoint, IsCond, IsAsked, IsCommand}
-use Rattle.spg_app.specs.Reading.{len_before, value_from, split_at, coordinate_of, row_of, point_of, inside_of, cond_of, first_cond_of, conds_of, insert_of, find_of, command_of}
+use Rattle.spg_app.specs.Spelling.{corners_text, cond_text, conds_text, asked_text, key_text, command_text, IsRow, IsPoint, IsCond, IsAsked, IsCommand}
+use Rattle.spg_app.specs.Reading.{len_before, value_from, split_at, coordinate_of, row_of, point_of, inside_of, cond_of, first_cond_of, conds_of, key_of, insert_of, find_of, command_of}
 
 -- ---- no byte of a text is this one
 
@@ -125,12 +126,32 @@ unfolding point_of
 point_of-text point is =
     rw (split_at-front 44 (signed_decimal point.x) (signed_decimal point.y) (HasNo-signed 44 point.x (omega arith) is.x), coordinate_of-signed point.x is.x, coordinate_of-signed point.y is.y) refl
 
-insert_of-text : (row : RowAt) (key : Point) → IsRow row → IsPoint key → insert_of (row_text row ++ 32 ∷ point_text key) ≡ Some (Insert row key)
+not_true : (b : Bool) → (b ≡ true → ⊥) → b ≡ false
+not_true true other = absurd (other refl)
+not_true false other = refl
+
+null_no_point : point_of (codes "null") ≡ None
+unfolding point_of split_at
+null_no_point = refl
+
+-- no point is spelled as a null is
+point_no_null : (point : Point) → IsPoint point → bytes_eq (point_text point) (codes "null") ≡ false
+point_no_null point is = not_true (bytes_eq (point_text point) (codes "null")) (λ same.
+    let read : point_of (codes "null") ≡ Some point = sym (ap point_of ((bytes_eq-Decides (point_text point) (codes "null")).0 same)) ∙ point_of-text point is in
+    let clash : None ≡ Some point = sym null_no_point ∙ read in
+    (cc))
+
+pub key_of-text : (key : Option Point) → IfSome key IsPoint → key_of (key_text key) ≡ Some key
+unfolding key_of
+key_of-text None is = refl
+key_of-text (Some point) is = rw (point_no_null point is, point_of-text point is) refl
+
+insert_of-text : (row : RowAt) (key : Option Point) → IsRow row → IfSome key IsPoint → insert_of (row_text row ++ 32 ∷ key_text key) ≡ Some (Insert row key)
 unfolding insert_of
-insert_of-text row key is_row is_point =
+insert_of-text row key is_row is_key =
     let apart : HasNo 32 (row_text row) = HasNo-append 32 (decimal row.block) (46 ∷ decimal row.offset) (HasNo-decimal 32 row.block (omega arith) (omega (arith, is_row.block)))
     (HasNo-cons 32 46 (decimal row.offset) refl (HasNo-decimal 32 row.offset (omega arith) (omega (arith, is_row.offset)))) in
-    rw (split_at-front 32 (row_text row) (point_text key) apart) (rw (row_of-text row is_row, point_of-text key is_point) refl)
+    rw (split_at-front 32 (row_text row) (key_text key) apart) (rw (row_of-text row is_row, key_of-text key is_key) refl)
 
 -- ---- conditions
 
@@ -223,6 +244,7 @@ conds_of-text (suc n) c (d ∷ conds) few each =
 find_of-text : (query : AnyQuery) → IsAsked query → find_of (asked_text query) ≡ Some (Find query)
 unfolding find_of
 find_of-text All is = refl
+find_of-text Null is = refl
 find_of-text (Where []) is = absurd (omega (arith, is.some))
 find_of-text (Where (c ∷ conds)) is = rw (conds_of-text 8 c conds is.few (recursion_from_All IsCond (c ∷ conds) is.each)) refl
 

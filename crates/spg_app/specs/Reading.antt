@@ -8,7 +8,7 @@ use Rattle.spg_base.specs.Row.{RowAt}
 use Rattle.spg_base.specs.declared.point.Point.{Point}
 use Rattle.spg_base.specs.declared.point.PointCond.{PointCond}
 use Rattle.spg_base.specs.declared.point.PointCond.TheVariants.{Eq, Left, Right, Below, Above, Inside}
-use Rattle.spg_app.specs.declared.command.AnyQuery.TheVariants.{All, Where}
+use Rattle.spg_app.specs.declared.command.AnyQuery.TheVariants.{All, Null, Where}
 use Rattle.spg_app.specs.declared.command.Command.{Command}
 use Rattle.spg_app.specs.declared.command.Command.TheVariants.{Insert, Find}
 
@@ -117,15 +117,20 @@ unfoldable pub conds_of : ℕ → List ℕ → Option (List PointCond)
 conds_of zero bytes = None
 conds_of (suc n) bytes = more_conds (conds_of n) (first_cond_of bytes)
 
+unfoldable pub key_of : List ℕ → Option (Option Point)
+key_of bytes = if bytes_eq bytes (codes "null") then Some None else (point_of bytes >>= λ p. Some (Some p))
+
 unfoldable pub insert_of : List ℕ → Option Command
 insert_of bytes = do
   parts ← split_at 32 bytes
   row ← row_of parts.0
-  key ← point_of parts.1
+  key ← key_of parts.1
   Some (Insert row key)
 
 unfoldable pub find_of : List ℕ → Option Command
-find_of bytes = if starts_with nat_eq bytes (codes "where ") then (conds_of 8 (drop 6 bytes) >>= λ conds. Some (Find (Where conds))) else Some (Find All)
+find_of bytes =
+    if bytes_eq bytes (codes "null") then Some (Find Null)
+    else (if starts_with nat_eq bytes (codes "where ") then (conds_of 8 (drop 6 bytes) >>= λ conds. Some (Find (Where conds))) else Some (Find All))
 
 unfoldable pub command_of : List ℕ → Option Command
 command_of bytes =

@@ -1,5 +1,5 @@
 -- When a journal and a list of records are a run of a list of commands.
-use Rattle.std.specs.Prelude.{◌≡◌, ◌<◌, ◌≤◌, ◌⊎◌, ◌-◌, ◌++◌, ℕ, true, false, List, [], ◌∷◌, length, take, drop, reverse, slice_get, Some, IsSomeAnd, ⊤}
+use Rattle.std.specs.Prelude.{◌≡◌, ◌<◌, ◌≤◌, ◌⊎◌, ◌-◌, ◌++◌, ℕ, true, false, List, [], ◌∷◌, length, take, drop, reverse, slice_get, Some, is_none, option_map, IsSomeAnd, ⊤}
 use Rattle.std.specs.List.{AllZip, AllByRecursion}
 use Rattle.spg_opclass.specs.Meaning.{Meaning}
 use Rattle.spg_forest.specs.Walk.{weight_of}
@@ -14,28 +14,31 @@ use Rattle.spg_core.specs.Weight.{opened_keys}
 use Rattle.spg_app.specs.declared.command.Command.{Command}
 use Rattle.spg_app.specs.declared.command.Command.TheVariants.{Insert, Find}
 use Rattle.spg_app.specs.declared.record.Outcome.{Outcome}
-use Rattle.spg_app.specs.declared.record.Outcome.TheVariants.{Added, RowUsed, Full, Found}
+use Rattle.spg_app.specs.declared.record.Outcome.TheVariants.{Added, RowUsed, Full, ClockFull, Found}
 use Rattle.spg_app.specs.declared.record.Record.{Record}
 use Rattle.spg_app.specs.Speech.{Speech, query_in}
 use Rattle.spg_app.specs.Walks.{TellsWalk, TellsWalks, AreFinds}
 
 -- the events of a command of a seat with this outcome, in order
 abbrev pub Does : {O Key Recon Cond : Type 0} → Speech Key Cond → ℕ → Command → Outcome → List (Event O Key Recon Cond) → Type 0
-Does speech seat (Insert row key) Added events = events ≡ OpenInsert seat row (Some (speech.key_in key)) ∷ Put seat row ∷ []
+Does speech seat (Insert row key) Added events = events ≡ OpenInsert seat row (option_map speech.key_in key) ∷ Put seat row ∷ []
 Does speech seat (Insert row key) RowUsed events = events ≡ []
-Does speech seat (Insert row key) Full events = events ≡ OpenInsert seat row (Some (speech.key_in key)) ∷ Drop seat row why.Full ∷ []
+Does speech seat (Insert row key) Full events = events ≡ OpenInsert seat row (option_map speech.key_in key) ∷ Drop seat row why.Full ∷ []
+Does speech seat (Insert row key) ClockFull events = events ≡ OpenInsert seat row (option_map speech.key_in key) ∷ Drop seat row why.Clock ∷ []
 Does speech seat (Insert row key) (Found rows walk) events = ⊥
 Does speech seat (Find query) (Found rows walk) events = events ≡ OpenScan seat (query_in speech query) ∷ CloseScan seat rows ∷ []
 Does speech seat (Find query) Added events = ⊥
 Does speech seat (Find query) RowUsed events = ⊥
 Does speech seat (Find query) Full events = ⊥
+Does speech seat (Find query) ClockFull events = ⊥
 
--- what the journal says where the command begins and where it ends: whether the row of an insert is claimed before, and where the index is full, that the keys
--- of the main tree that were ever inserted, with this one, take more than 8,160 bytes
+-- what the journal says where the command begins and where it ends: whether the row of an insert is claimed before, and where the index or its clock is full, that the
+-- keys of the insert's tree that were ever inserted, with this one, take more than 8,160 bytes
 abbrev pub IsDue : {O Key Recon Cond : Type 0} → Meaning Key Recon Cond → Command → Outcome → History O Key Recon Cond → History O Key Recon Cond → Type 0
 IsDue m (Insert row key) Added before past = is_claimed row before ≡ false
 IsDue m (Insert row key) RowUsed before past = is_claimed row before ≡ true
-IsDue m (Insert row key) Full before past = (is_claimed row before ≡ false) × (8160 < weight_of m false (opened_keys past))
+IsDue m (Insert row key) Full before past = (is_claimed row before ≡ false) × (8160 < weight_of m (is_none key) (opened_keys past))
+IsDue m (Insert row key) ClockFull before past = (is_claimed row before ≡ false) × (8160 < weight_of m (is_none key) (opened_keys past))
 IsDue m (Insert row key) (Found rows walk) before past = ⊤
 IsDue m (Find query) outcome before past = ⊤
 

@@ -6,7 +6,7 @@ use Rattle.spg_base.specs.declared.point.PointCond.{PointCond}
 use Rattle.spg_opclass.specs.declared.query.Query.{Query}
 use Rattle.spg_opclass.specs.declared.query.Query.TheVariants as query
 use Rattle.spg_app.specs.declared.command.AnyQuery.{AnyQuery}
-use Rattle.spg_app.specs.declared.command.AnyQuery.TheVariants.{All, Where}
+use Rattle.spg_app.specs.declared.command.AnyQuery.TheVariants.{All, Null, Where}
 use Rattle.spg_app.specs.Spelling.{cond_text, conds_text}
 
 pub record Speech (Key Cond : Type 0) : Type 0 where
@@ -20,6 +20,7 @@ pub record Speech (Key Cond : Type 0) : Type 0 where
 -- the query of a class that a script asks
 abbrev pub query_in : {O Key Recon Cond : Type 0} → Speech Key Cond → AnyQuery → Query O Key Recon Cond
 query_in speech All = query.All
+query_in speech Null = query.Null
 query_in speech (Where conds) = query.Where (map speech.cond_in conds)
 
 -- a key, or a null

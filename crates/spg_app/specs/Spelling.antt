@@ -1,5 +1,5 @@
 -- How classes, conditions, queries and commands are spelled in a script.
-use Rattle.std.specs.Prelude.{ℕ, ◌<◌, ◌≤◌, ◌^◌, ◌≤ℤ◌, ℤ, List, [], ◌∷◌, ◌++◌, length, codes, FitsSigned, All as Each, ⊤}
+use Rattle.std.specs.Prelude.{ℕ, ◌<◌, ◌≤◌, ◌^◌, ◌≤ℤ◌, ℤ, List, [], ◌∷◌, ◌++◌, length, Option, Some, None, codes, FitsSigned, IfSome, All as Each, ⊤}
 use Rattle.std.specs.Int.{w32}
 use Rattle.std.specs.Fmt.{signed_decimal}
 use Rattle.spg_base.specs.Row.{RowAt}
@@ -10,7 +10,7 @@ use Rattle.spg_base.specs.declared.point.PointCond.TheVariants.{Eq, Left, Right,
 use Rattle.spg_app.specs.declared.command.ClassName.{ClassName}
 use Rattle.spg_app.specs.declared.command.ClassName.TheVariants.{Quad, Kd}
 use Rattle.spg_app.specs.declared.command.AnyQuery.{AnyQuery}
-use Rattle.spg_app.specs.declared.command.AnyQuery.TheVariants.{All, Where}
+use Rattle.spg_app.specs.declared.command.AnyQuery.TheVariants.{All, Null, Where}
 use Rattle.spg_app.specs.declared.command.Command.{Command}
 use Rattle.spg_app.specs.declared.command.Command.TheVariants.{Insert, Find}
 
@@ -40,11 +40,17 @@ conds_text spell word (c ∷ conds) = word ++ spell c ++ conds_text spell (codes
 -- a query
 abbrev pub asked_text : AnyQuery → List ℕ
 asked_text All = codes "all"
+asked_text Null = codes "null"
 asked_text (Where conds) = conds_text cond_text (codes "where ") conds
+
+-- a key: a point or a null
+abbrev pub key_text : Option Point → List ℕ
+key_text None = codes "null"
+key_text (Some point) = point_text point
 
 -- a command
 abbrev pub command_text : Command → List ℕ
-command_text (Insert row key) = codes "insert " ++ row_text row ++ 32 ∷ point_text key
+command_text (Insert row key) = codes "insert " ++ row_text row ++ 32 ∷ key_text key
 command_text (Find query) = codes "find " ++ asked_text query
 
 -- a row's numbers are in range
@@ -75,9 +81,10 @@ pub record IsConds (conds : List PointCond) : Type 0 where
 
 abbrev pub IsAsked : AnyQuery → Type 0
 IsAsked All = ⊤
+IsAsked Null = ⊤
 IsAsked (Where conds) = IsConds conds
 
 -- a command's numbers are in range
 abbrev pub IsCommand : Command → Type 0
-IsCommand (Insert row key) = IsRow row × IsPoint key
+IsCommand (Insert row key) = IsRow row × IfSome key IsPoint
 IsCommand (Find query) = IsAsked query

@@ -8,7 +8,7 @@ use Rattle.spg_scan.specs.Scanning.{counted}
 use Rattle.spg_app.specs.declared.command.Command.{Command}
 use Rattle.spg_app.specs.declared.command.Command.TheVariants.{Insert, Find}
 use Rattle.spg_app.specs.declared.record.Outcome.{Outcome}
-use Rattle.spg_app.specs.declared.record.Outcome.TheVariants.{Added, RowUsed, Full, Found}
+use Rattle.spg_app.specs.declared.record.Outcome.TheVariants.{Added, RowUsed, Full, ClockFull, Found}
 use Rattle.spg_app.specs.declared.record.Record.{Record}
 use Rattle.spg_app.specs.Speech.{Speech, query_in}
 
@@ -24,6 +24,7 @@ TellsWalk {Key} {Recon} {Cond} O m speech S (Find query) (Found rows walk) =
 TellsWalk O m speech S (Find query) Added = ⊤
 TellsWalk O m speech S (Find query) RowUsed = ⊤
 TellsWalk O m speech S (Find query) Full = ⊤
+TellsWalk O m speech S (Find query) ClockFull = ⊤
 TellsWalk O m speech S (Insert row key) outcome = ⊤
 
 -- all of them are finds

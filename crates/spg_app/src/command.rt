@@ -12,6 +12,8 @@ pub enum ClassName {
 pub enum AnyQuery {
     /// Every row.
     All,
+    /// The rows whose key is a null.
+    Null,
     /// The rows whose point meets each of 1 to 8 conditions.
     Where(List<PointCond>),
 }
@@ -19,8 +21,8 @@ pub enum AnyQuery {
 /// One command of a script.
 #[derive(Debug, Drop)]
 pub enum Command {
-    /// Puts a row with its point into the index.
-    Insert { row: Row, key: Point },
+    /// Puts a row with its point, or with a null, into the index.
+    Insert { row: Row, key: Option<Point> },
     /// Finds rows.
     Find { query: AnyQuery },
 }

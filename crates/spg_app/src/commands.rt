@@ -1,5 +1,5 @@
 ghost use Rattle.std.specs.Prelude.{◌≡◌, ◌↔◌, IsTrue, IfOk, IfSome, IfNone};
-ghost use Rattle.spg_app.specs.Spelling.{IsCommand};
+ghost use Rattle.spg_app.specs.Spelling.{IsCommand, IsPoint};
 ghost use Rattle.spg_app.specs.Script.{Spells};
 ghost use Rattle.spg_app.specs.Reading.{insert_of, find_of, command_of};
 ghost use Rattle.spg_app.specs.declared.command.Command.{Command};
@@ -7,9 +7,9 @@ ghost use Rattle.spg_app.specs.declared.command.Command.{Command};
 use crate::bytes::split;
 use crate::command::{AnyQuery, Command};
 use crate::conditions::{are_conds, conds};
-use crate::numbers::{point, row};
+use crate::numbers::{key, row};
 use crate::spelling::command_text;
-use spg_base::Memory;
+use spg_base::{Memory, Point};
 use std::alloc::Global;
 
 #[tactic(auto, unfolding(crate::specs::Reading::insert_of))]
@@ -18,7 +18,7 @@ fn insert(bytes: &[u8]) -> Option<Command>
 {
     let (front, back) = split(bytes, b' ')?;
     let row = row(front)?;
-    let key = point(back)?;
+    let key = key(back)?;
     Some(Command::Insert { row, key })
 }
 
@@ -26,6 +26,11 @@ fn insert(bytes: &[u8]) -> Option<Command>
 fn find(alloc: Global, bytes: &[u8]) -> Result<Option<Command>, Memory>
     ensures { IfOk result (λ found. found ≡ find_of bytes.now) }
 {
+    if bytes == b"null".as_slice() {
+        return Ok(Some(Command::Find {
+            query: AnyQuery::Null,
+        }));
+    }
     if !bytes.starts_with(b"where ") {
         return Ok(Some(Command::Find {
             query: AnyQuery::All,
@@ -53,6 +58,17 @@ fn guess(alloc: Global, line: &[u8]) -> Result<Option<Command>, Memory>
     }
 }
 
+/// Whether a point's coordinates are in range; a null has none.
+fn is_key(key: &Option<Point>) -> bool
+    ensures { IsTrue result ↔ IfSome key.now IsPoint }
+{
+    if let Some(point) = key {
+        let _x = point.x;
+        let _y = point.y;
+    }
+    true
+}
+
 /// Whether the command's numbers are in range.
 fn is_command(command: &Command) -> bool
     ensures { IsTrue result ↔ IsCommand command.now }
@@ -61,12 +77,10 @@ fn is_command(command: &Command) -> bool
         Command::Insert { row, key } => {
             let _block = row.block();
             let _offset = row.offset();
-            let _x = key.x;
-            let _y = key.y;
-            true
+            is_key(key)
         }
         Command::Find {
-            query: AnyQuery::All,
+            query: AnyQuery::All | AnyQuery::Null,
         } => true,
         Command::Find {
             query: AnyQuery::Where(conds),

@@ -1,5 +1,5 @@
 ghost use Rattle.std.specs.Prelude.{◌≡◌};
-ghost use Rattle.spg_app.specs.Reading.{value_from, positive_of, negative_of, coordinate_of, row_of, point_of};
+ghost use Rattle.spg_app.specs.Reading.{value_from, positive_of, negative_of, coordinate_of, row_of, point_of, key_of};
 
 use crate::bytes::split;
 use spg_base::{Point, Row};
@@ -74,4 +74,16 @@ pub fn point(bytes: &[u8]) -> Option<Point>
     let x = coordinate(x)?;
     let y = coordinate(y)?;
     Some(Point { x, y })
+}
+
+/// The key that the bytes spell: a point or a null.
+#[tactic(auto, unfolding(crate::specs::Reading::key_of))]
+pub fn key(bytes: &[u8]) -> Option<Option<Point>>
+    ensures { result ≡ key_of bytes.now }
+{
+    if bytes == b"null".as_slice() {
+        Some(None)
+    } else {
+        Some(Some(point(bytes)?))
+    }
 }

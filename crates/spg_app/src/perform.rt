@@ -1,4 +1,4 @@
-ghost use Rattle.std.specs.Prelude.{◌≡◌, IfOk, OnOk, OnErr, IsErrOf, length, map};
+ghost use Rattle.std.specs.Prelude.{◌≡◌, IfOk, OnOk, OnErr, IsErrOf, length, map, option_map};
 ghost use Rattle.spg_forest.specs.Shape.{Shape};
 ghost use Rattle.spg_tree.specs.Table.{sheets_of};
 ghost use Rattle.spg_tree.specs.declared.stand.StepRefused.TheVariants.{IndexFull, ClockFull};
@@ -46,7 +46,7 @@ fn put<O: Spoken>(state: &mut State<O>, seat: SeatNo) -> Result<(), StepRefused>
     requires inserting { IsInserting (stage_at state.old seat) }
     ensures ok { OnOk result (PutsRow state.old state.new seat) }
     ensures full { IsErrOf result IndexFull → HasOutgrown O.meaning state.old seat }
-    ensures clock { IsErrOf result ClockFull → ⊥ }
+    ensures clock { IsErrOf result ClockFull → HasOutgrown O.meaning state.old seat }
     ensures err { OnErr result (GoesOn state.old state.new seat) }
 {
     // No clause of a section says that an insert comes to its end, so the loop has a bound, which
@@ -59,15 +59,25 @@ fn put<O: Spoken>(state: &mut State<O>, seat: SeatNo) -> Result<(), StepRefused>
     Err(StepRefused::Memory)
 }
 
-fn insert<O: Spoken>(state: &mut State<O>, row: Row, key: Point) -> Result<Record, Memory>
+/// The class's key for a script's, or a null.
+fn key_in<O: Spoken>(class: &O, key: &Option<Point>) -> Result<Option<O::Key>, Memory>
+    ensures { IfOk result (λ found. found ≡ option_map O.speech.key_in key.now) }
+{
+    match key {
+        Some(point) => Ok(Some(class.key_in(point)?)),
+        None => Ok(None),
+    }
+}
+
+fn insert<O: Spoken>(state: &mut State<O>, row: Row, key: &Option<Point>) -> Result<Record, Memory>
     requires { stage_at state.old 0 ≡ free }
-    ensures done { IfOk result (Performed O.meaning O.speech state.old state.new (Insert row key)) }
+    ensures done { IfOk result (Performed O.meaning O.speech state.old state.new (Insert row key.now)) }
     ensures free { IfOk result (λ _. stage_at state.new 0 ≡ free) }
 {
     let seat = SeatNo::first();
     let from = position(state);
-    let found = state.class().key_in(&key)?;
-    match state.open_insert(seat, row, Some(found)) {
+    let found = key_in(state.class(), key)?;
+    match state.open_insert(seat, row, found) {
         Ok(()) => {}
         Err(OpenRefused::RowUsed) => return Ok(recorded(state, from, Outcome::RowUsed)),
         Err(OpenRefused::Memory) => return Err(Memory),
@@ -79,7 +89,10 @@ fn insert<O: Spoken>(state: &mut State<O>, row: Row, key: Point) -> Result<Recor
             Ok(recorded(state, from, Outcome::Full))
         }
         Err(StepRefused::Memory) => Err(Memory),
-        Err(StepRefused::ClockFull) => unreachable!(),
+        Err(StepRefused::ClockFull) => {
+            state.abandon(seat, Why::Clock);
+            Ok(recorded(state, from, Outcome::ClockFull))
+        }
     }
 }
 
@@ -104,6 +117,7 @@ fn query_in<O: Spoken>(alloc: Global, class: &O, query: &AnyQuery) -> Result<Que
 {
     match query {
         AnyQuery::All => Ok(Query::All),
+        AnyQuery::Null => Ok(Query::Null),
         AnyQuery::Where(conds) => Ok(Query::Where(conds_in(alloc, class, conds.as_slice())?)),
     }
 }
@@ -167,7 +181,7 @@ pub fn perform<O: Spoken>(
     ensures free { IfOk result (λ _. stage_at state.new 0 ≡ free) }
 {
     match command {
-        Command::Insert { row, key } => insert(state, *row, *key),
+        Command::Insert { row, key } => insert(state, *row, key),
         Command::Find { query } => find(alloc, state, query),
     }
 }

@@ -9,6 +9,8 @@ pub enum Outcome {
     RowUsed,
     /// The index was full, and the insert was given up.
     Full,
+    /// The clock was at its end, and the insert was given up.
+    ClockFull,
     /// The rows that a scan found, ascending, and how many inner, leaf and dead tuples it met.
     Found { rows: Rows, walk: u64 },
 }

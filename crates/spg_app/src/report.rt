@@ -28,6 +28,7 @@ fn outcome_text(alloc: Global, outcome: &Outcome) -> Result<String, AllocError>
         Outcome::Added => String::from_str(alloc, "added"),
         Outcome::RowUsed => String::from_str(alloc, "row used"),
         Outcome::Full => String::from_str(alloc, "full"),
+        Outcome::ClockFull => String::from_str(alloc, "clock full"),
         Outcome::Found { rows, walk } => {
             let count = rows.len();
             let rows = rows_text(alloc, rows.as_slice())?;

@@ -1,9 +1,9 @@
 ghost use Rattle.std.specs.Prelude.{◌≡◌, IfOk, string_bytes};
-ghost use Rattle.spg_app.specs.Spelling.{cond_text, asked_text, command_text};
+ghost use Rattle.spg_app.specs.Spelling.{cond_text, asked_text, key_text, command_text};
 
 use crate::command::{AnyQuery, Command};
 use crate::report::where_text;
-use spg_base::{Memory, PointCond};
+use spg_base::{Memory, Point, PointCond};
 use spg_quad::Quad;
 use std::alloc::{AllocError, Global};
 
@@ -27,7 +27,18 @@ fn asked_text(alloc: Global, query: &AnyQuery) -> Result<String, Memory>
 {
     match query {
         AnyQuery::All => Ok(String::from_str(alloc, "all")?),
+        AnyQuery::Null => Ok(String::from_str(alloc, "null")?),
         AnyQuery::Where(conds) => where_text(alloc, &Quad, conds.as_slice()),
+    }
+}
+
+/// The text of a key: a point or a null.
+fn key_text(alloc: Global, key: &Option<Point>) -> Result<String, AllocError>
+    ensures { IfOk result (λ text. string_bytes text ≡ key_text key.now) }
+{
+    match key {
+        Some(point) => format!(in alloc; "{point}"),
+        None => String::from_str(alloc, "null"),
     }
 }
 
@@ -36,7 +47,10 @@ pub fn command_text(alloc: Global, command: &Command) -> Result<String, Memory>
     ensures { IfOk result (λ text. string_bytes text ≡ command_text command.now) }
 {
     match command {
-        Command::Insert { row, key } => Ok(format!(in alloc; "insert {row} {key}")?),
+        Command::Insert { row, key } => {
+            let key = key_text(alloc, key)?;
+            Ok(format!(in alloc; "insert {row} {key}")?)
+        }
         Command::Find { query } => {
             let asked = asked_text(alloc, query)?;
             Ok(format!(in alloc; "find {asked}")?)
