@@ -3,3 +3,8 @@ pub mod Adding
 pub mod Leaving
 pub mod MoveLaw
 pub mod Standing
+pub mod SplitHomes
+pub mod SplitPages
+pub mod SplitLaw
+pub mod SplitStanding
+pub mod SplitJoin

@@ -1,2 +1,5 @@
 pub mod Moves
 pub mod Moving
+pub mod Answers
+pub mod Splits
+pub mod Splitting

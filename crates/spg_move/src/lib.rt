@@ -1,9 +1,13 @@
-//! Moves of chains and of inner tuples, with redirects in their old places
-//! (`src/backend/access/spgist/README`).
+//! Moves of chains and of inner tuples, with redirects in their old places, and splits of inner
+//! tuples (`src/backend/access/spgist/README`).
 #![tactic(auto)]
 
 mod chain;
 mod leaves;
 mod moving;
+mod split;
+mod split_pages;
+mod split_tuples;
 
 pub use chain::move_chain;
+pub use split::split_tuple;

@@ -1,0 +1,72 @@
+ghost use Rattle.std.specs.Prelude.{◌≡◌, false, Option, OnOk, OnErr, IsErrOf};
+ghost use Rattle.spg_opclass.specs.declared.view.Choice.TheVariants.{Split};
+ghost use Rattle.spg_forest.specs.Shape.{Shape};
+ghost use Rattle.spg_tree.specs.Table.{sheets_of};
+ghost use Rattle.spg_tree.specs.Pick.{IsFull};
+ghost use Rattle.spg_tree.specs.Descents.{in_nulls};
+ghost use Rattle.spg_tree.specs.declared.want.Want.{Want};
+ghost use Rattle.spg_tree.specs.declared.stand.StepRefused.TheVariants.{IndexFull, ClockFull};
+ghost use Rattle.spg_descend.specs.Carried.{IsCarried};
+ghost use Rattle.spg_descend.specs.Follows.{IsAtPlace, tuple_place};
+ghost use Rattle.spg_move.specs.Answers.{IsInnerOf, IsAnswered};
+ghost use Rattle.spg_move.specs.Splits.{PartsTuple};
+
+use crate::split_pages::part_tuple;
+use crate::split_tuples::{lower_tuple, upper_tuple};
+use spg_base::{Bytes, Labels, Offset, Place, SeatNo};
+use spg_opclass::OpClass;
+use spg_tree::{Descent, PageTable, Stand, StepRefused};
+use std::alloc::Global;
+
+/// Where the inner tuple stands at which an insert is.
+fn inner_place(stand: Stand) -> Place
+    requires { IsAtPlace stand }
+    ensures { result ≡ tuple_place stand }
+{
+    match stand {
+        Stand::Root(block) => Place {
+            block,
+            offset: Offset(1),
+        },
+        Stand::At(place) => place,
+        Stand::Start | Stand::Empty => unreachable!(),
+    }
+}
+
+/// Splits the inner tuple at which an insert stands in two. The upper tuple, with the prefix and the
+/// labels given, replaces it in place and is never longer. It is not all-the-same, and all its
+/// downlinks are empty but that of the node `child`, which leads to the lower tuple. The lower tuple
+/// has the lower prefix and the labels, the downlinks and the all-the-same mark of the old one. It
+/// goes on the page of the upper tuple where it fits there beside it and that page is no root, else
+/// on an inner page of the next parity that is picked. The insert stays where it stands, and the rise
+/// is noted. The clock stays, so `ClockFull` never comes; `IndexFull` comes only where the pick needs
+/// a new page and there may be none. After a refusal table and insert are as they were. The latches
+/// stay as they are.
+pub fn split_tuple<O: OpClass>(
+    alloc: Global,
+    table: &mut PageTable,
+    descent: &mut Descent<O>,
+    seat: SeatNo,
+    upper_prefix: &Bytes,
+    upper_labels: &Labels,
+    child: u16,
+    lower_prefix: &Bytes,
+) -> Result<(), StepRefused>
+    requires shape { Shape O.meaning (sheets_of table.old) }
+    requires spot { IsInnerOf table.old (in_nulls descent.old) descent.old.stand descent.old.parent }
+    requires main { in_nulls descent.old ≡ false }
+    requires of_key { (key : Option O.Key) × IsCarried O.meaning (sheets_of table.old) descent.old key }
+    requires answer { IsAnswered O.meaning table.old descent.old (Split upper_prefix.now upper_labels.now child lower_prefix.now) }
+    ensures ok { OnOk result (PartsTuple O.meaning table.old table.new descent.old descent.new upper_prefix.now upper_labels.now) }
+    ensures full { IsErrOf result IndexFull → (w : Want) × IsFull table.old w }
+    ensures clock { IsErrOf result ClockFull → ⊥ }
+    ensures err { OnErr result (table.new ≡ table.old) }
+    ensures err_descent { OnErr result (descent.new ≡ descent.old) }
+{
+    let at = inner_place(descent.stand());
+    let upper = upper_tuple(alloc, upper_prefix, upper_labels)?;
+    let lower = lower_tuple(alloc, table.page(at.block), at.offset, lower_prefix)?;
+    part_tuple(alloc, table, at, child, &upper, &lower, seat)?;
+    descent.note_rise();
+    Ok(())
+}
