@@ -8,3 +8,11 @@ pub mod SplitPages
 pub mod SplitLaw
 pub mod SplitStanding
 pub mod SplitJoin
+pub mod NodeTuple
+pub mod NodePicks
+pub mod NodePages
+pub mod NodeStanding
+pub mod NodeLaw
+pub mod NodeWrites
+pub mod NodeShift
+pub mod NodeMoved

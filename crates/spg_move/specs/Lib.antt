@@ -3,3 +3,5 @@ pub mod Moving
 pub mod Answers
 pub mod Splits
 pub mod Splitting
+pub mod Nodes
+pub mod Widening

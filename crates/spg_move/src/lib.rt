@@ -5,9 +5,13 @@
 mod chain;
 mod leaves;
 mod moving;
+mod node;
+mod node_tuple;
+mod node_write;
 mod split;
 mod split_pages;
 mod split_tuples;
 
 pub use chain::move_chain;
+pub use node::add_node;
 pub use split::split_tuple;

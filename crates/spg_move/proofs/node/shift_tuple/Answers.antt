@@ -1,0 +1,13 @@
+use Rattle.std.proofs.Common.{sym, ◌∙◌}
+use Rattle.spg_tree.specs.Descents.{in_nulls}
+use Rattle.spg_move.proofs.NodeStanding.{hung_at, no_other}
+use Rattle.spg_move.proofs.node.shift_tuple.Goals as goal
+use Rattle.spg_move.proofs.node.shift_tuple.Goals.{in_default-via-in-At+in_default, in_default-via-in_default}
+
+pub shift-requires-clause-hung : goal.shift-requires-clause-hung
+shift-requires-clause-hung g c = hung_at g.O.OpClass.meaning c.args.table.now c.requires.shape (in_nulls c.args.descent.now) c.args.descent.now.stand c.args.descent.now.parent c.in-At-Some.at c.in-At-Some.parent c.in-At-Some.node
+    (sym c.in-At-Some.ensures) (sym c.in-At-Some.ensures'.value) c.requires.spot
+
+pub unreachable-requires : goal.unreachable-requires
+unreachable-requires g c = no_other g.O.OpClass.meaning c.args.table.now c.requires.shape (in_nulls c.args.descent.now) c.args.descent.now.stand c.args.descent.now.parent c.args.longer.now c.requires.spot c.requires.size c.requires.no_room
+    (λ x p i es ep. elim c.in_default.branch [ in_default-via-in-At+in_default w ↦ (let e = sym w.in_default.is-1 ∙ c.parent.ensures.value ∙ ep in cc) | in_default-via-in_default w ↦ w.in_default.not-At-0 x (c.stand.ensures ∙ es) ])
