@@ -1,5 +1,5 @@
 -- The page for the lower tuple of a split, and the blocks that a split touches.
-use Rattle.std.proofs.Common.{◌≡◌, ℕ, zero, suc, ◌+◌, ◌-◌, ◌*◌, ◌≤◌, ◌<◌, ◌&&◌, ◌||◌, nat_le, nat_eq, min, Bool, true, false, List, [], ◌∷◌, ◌++◌, ◌⊎◌, ⊎_elim, Option, Some, length, length-append, length-set, refl, sym, ap, ◌∙◌, subst, inl, inr, arith}
+use Rattle.std.proofs.Common.{◌≡◌, ℕ, zero, suc, ◌+◌, ◌-◌, ◌*◌, ◌≤◌, ◌<◌, ◌&&◌, ◌||◌, nat_le, nat_eq, min, Bool, true, false, List, [], ◌∷◌, ◌++◌, ◌⊎◌, ⊎_elim, Option, length, length-append, length-set, refl, sym, ap, ◌∙◌, subst, inl, inr, arith}
 use Rattle.std.specs.Prelude.{if◌then◌else◌, ◌%◌}
 use Rattle.std.specs.List.{range_with_len}
 use Rattle.std.proofs.lemmas.Bool.{cases_eq, cases_lt, leb-true, eqb-true}
@@ -15,7 +15,7 @@ use Rattle.spg_forest.proofs.Flat.{none_on}
 use Rattle.spg_page.specs.Changes.{room_of}
 use Rattle.spg_page.specs.Kinds.{IsOffset, IsInner}
 use Rattle.spg_page.proofs.SheetFacts.{weight-replaced, gaps-replaced}
-use Rattle.spg_tree.specs.Table.{Table, sheets_of, sheet_at, tuples_at, tuple_at, latch_at}
+use Rattle.spg_tree.specs.Table.{Table, sheets_of, sheet_at, tuples_at, latch_at}
 use Rattle.spg_tree.specs.declared.want.Want.{Want}
 use Rattle.spg_tree.specs.Pick.{Picks, first_from, has_parity, fresh}
 use Rattle.spg_tree.specs.Picked.{IsPicked}

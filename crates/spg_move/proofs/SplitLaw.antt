@@ -1,5 +1,5 @@
 -- The pages once an inner tuple has become an upper and a lower one, and the law of that.
-use Rattle.std.proofs.Common.{◌≡◌, ℕ, zero, suc, ◌+◌, ◌-◌, ◌*◌, ◌≤◌, ◌<◌, ℤ, Bool, true, false, List, [], ◌∷◌, ⊎_elim, Option, Some, None, get_or, set, length, length-set, replicate, refl, sym, ap, ◌∙◌, subst, inl, inr, arith}
+use Rattle.std.proofs.Common.{◌≡◌, ℕ, zero, suc, ◌+◌, ◌*◌, ◌≤◌, ◌<◌, ℤ, Bool, true, false, List, ⊎_elim, Option, Some, None, get_or, set, length, length-set, refl, sym, ap, ◌∙◌, subst, inl, inr, arith}
 use mathlib.Core.Path.{fun_ext}
 use Rattle.std.proofs.lemmas.Bool.{cases_eq}
 use Rattle.std.proofs.lemmas.List.{length-replicate, get_or-set_same, get_or-set_other}
@@ -9,26 +9,23 @@ use Rattle.spg_forest.specs.View.{Place}
 use Rattle.spg_forest.specs.Spot.{Frame, Spot, Branch, Nothing, put_at}
 use Rattle.spg_forest.specs.Tuples.{Tuple, Inner, Live, Placeholder, IsAmong}
 use Rattle.spg_forest.specs.Pages.{place, tuple_on, with_tuple, IsShown}
-use Rattle.spg_forest.specs.Sheets.{Sheet, Sheets, sheet_at, with_tuples, pages_of, weight, size_of, free_place, linked}
+use Rattle.spg_forest.specs.Sheets.{Sheets, sheet_at, with_tuples, pages_of, weight, size_of, free_place, linked}
 use Rattle.spg_forest.specs.Shape.{Shape, spots, AreNodes, IsKindOf, IsTupleOf}
-use Rattle.spg_forest.specs.Section.{IsWithin, Cost}
+use Rattle.spg_forest.specs.Section.{Cost}
 use Rattle.spg_forest.specs.Walk.{spread, spread_at, is_live}
 use Rattle.spg_forest.specs.Edits.{tuple_of, put, CanPut, MayStand, AreChanged, spot_of}
 use Rattle.spg_forest.specs.Changes.{Becomes}
-use Rattle.spg_forest.proofs.Edits.{page_is, sheet_laid, tuple_put, write_shown}
+use Rattle.spg_forest.proofs.Edits.{sheet_laid, tuple_put, write_shown}
 use Rattle.spg_forest.proofs.Front.{nothing_at}
 use Rattle.spg_forest.proofs.Joins.{put_inner, put_other, can_put_after, weight_replaced, stands_within}
-use Rattle.spg_forest.proofs.Relocate.{within_from_some}
 use Rattle.spg_forest.proofs.Sections.{shape_shown}
 use Rattle.spg_forest.proofs.Spots.{put_at_same, put_at_other, cases_place}
 use Rattle.spg_forest.proofs.Stock.{tuple_is, changed_none, changed_put, pages_kept, spread_put}
 use Rattle.spg_forest.proofs.Writes.{inner_at}
 use Rattle.spg_page.specs.Changes.{room_of}
-use Rattle.spg_page.specs.Kinds.{IsOffset}
 use Rattle.spg_page.proofs.SheetFacts.{free_place_free, free_place_length, added_fits}
 use Rattle.spg_tree.specs.Table.{Table, sheets_of, tuples_at, tuple_at}
 use Rattle.spg_split.specs.Parts.{bare}
-use Rattle.spg_split.specs.Writing.{new_place}
 use Rattle.spg_move.specs.Splitting.{upper_table, parted_table}
 
 -- of two writes at one place the second stands, also where another place is written between them

@@ -1,13 +1,12 @@
 -- What is known where an insert stands at an inner tuple that the class splits.
-use Rattle.std.proofs.Common.{◌≡◌, ℕ, ◌+◌, ◌*◌, ◌≤◌, ◌<◌, ℤ, Bool, true, false, List, [], ◌∷◌, ⊎_elim, Option, Some, None, option_map, get_or, length, refl, sym, ap, ◌∙◌, subst, inl, inr, arith}
+use Rattle.std.proofs.Common.{◌≡◌, ℕ, ◌≤◌, ◌<◌, ℤ, Bool, true, false, List, Option, Some, None, option_map, length, refl, sym, ap, ◌∙◌, subst, arith}
 use Rattle.std.proofs.lemmas.List.{length-replicate}
 use Rattle.spg_opclass.specs.Meaning.{Meaning, is_tuple, upper, lower}
-use Rattle.spg_opclass.specs.Laws.{SplitLaw, CodeLaw, IsSplit, padded_length, inner_size}
+use Rattle.spg_opclass.specs.Laws.{SplitLaw, CodeLaw, IsSplit, inner_size}
 use Rattle.spg_opclass.specs.declared.view.Choice.TheVariants.{Split}
 use Rattle.spg_forest.specs.View.{Place}
-use Rattle.spg_forest.specs.Spot.{Frame, Spot, Branch}
+use Rattle.spg_forest.specs.Spot.{Frame}
 use Rattle.spg_forest.specs.Tuples.{Tuple, Inner, Live, Dead, Redirect, Placeholder}
-use Rattle.spg_forest.specs.Pages.{tuple_on}
 use Rattle.spg_forest.specs.Classes.{class_of, key_of, HasRecon}
 use Rattle.spg_forest.specs.Sheets.{sheet_at, size_of, links}
 use Rattle.spg_forest.specs.Shape.{Shape, spots, IsKindOf, IsTupleOf}
@@ -20,7 +19,7 @@ use Rattle.spg_tree.specs.Descents.{Descending, in_nulls}
 use Rattle.spg_tree.specs.declared.stand.Stand.{Stand}
 use Rattle.spg_tree.specs.declared.stand.Stand.TheVariants.{Start, Root, At, Empty}
 use Rattle.spg_descend.specs.Carried.{IsCarried, root_of}
-use Rattle.spg_descend.specs.Follows.{IsAtInner, IsAtPlace, tuple_place}
+use Rattle.spg_descend.specs.Follows.{IsAtInner, tuple_place}
 use Rattle.spg_descend.proofs.FollowLaw.{is_within, fit_here}
 use Rattle.spg_split.specs.Parts.{bare}
 use Rattle.spg_move.specs.Answers.{IsInnerOf, IsAnswered}

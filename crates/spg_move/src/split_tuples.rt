@@ -64,7 +64,9 @@ pub(crate) fn lower_tuple(
     match page.tuple(alloc, offset)? {
         Tuple::Inner(inner) => {
             let InnerTuple {
-                all_same, nodes, ..
+                all_same,
+                nodes,
+                ..
             } = inner;
             let prefix = Bytes::copy(alloc, prefix.as_slice())?;
             TupleBytes::of(
