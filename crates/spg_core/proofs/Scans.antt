@@ -123,7 +123,6 @@ module _ {O Key Recon Cond : Type 0} where
       states = rw events_are kept.states;
       keys = rw events_are kept.keys;
       room = let h = kept.room in omega arith;
-      plain = kept.plain;
       limit = kept.limit;
     }
 
@@ -166,7 +165,6 @@ module _ {O Key Recon Cond : Type 0} where
           states = rw now states;
           keys = rw now keys;
           room = room;
-          plain = kept.plain;
           limit = limit ∙ kept.limit;
         }
 
@@ -183,7 +181,6 @@ module _ {O Key Recon Cond : Type 0} where
       states = kept.states;
       keys = kept.keys;
       room = let a = kept.room in let b = count_set s.slots.items 0 slot was in let c : open_count slots.items ≡ open_count (set s.slots.items 0 slot) = ap open_count items in omega arith;
-      plain = kept.plain;
       limit = kept.limit;
     }
 

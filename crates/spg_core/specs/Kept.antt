@@ -64,5 +64,4 @@ pub record IsKept {O Key Recon Cond : Type 0} (m : Meaning Key Recon Cond) (s : 
   pub keys : (r : RowAt) → key_in s.rows r ≡ claimed_key r (reverse s.journal.events)
   -- room for the event that ends each open operation
   pub room : open_count s.slots.items ≤ s.journal.spare
-  pub plain : m.labels ≡ false
   pub limit : s.table.limit ≡ s.origin.limit

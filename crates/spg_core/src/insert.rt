@@ -13,24 +13,38 @@ ghost use Rattle.spg_descend.specs.Follows.{IsAtInner, tuple_place};
 ghost use Rattle.spg_descend.specs.Puts.{Fits};
 ghost use Rattle.spg_descend.specs.Rules.{IsAtNoInner, MayMove};
 ghost use Rattle.spg_split.specs.Splits.{IsAtRoot};
+ghost use Rattle.spg_core.specs.declared.insert.Chosen.TheVariants.{Node, Add};
 ghost use Rattle.spg_core.specs.Stepping.{Stands, IsOutgrown, IsNearLimit, IsStepOut, named};
 
 use crate::answer::InsertOut;
 use crate::latches::{hold_anew, stand_block};
-use spg_base::{Block, Bytes, Memory, Offset, Place, SeatNo};
+use spg_base::{Block, Bytes, Labels, Memory, Offset, Place, SeatNo};
 use spg_descend::{Entered, PutOut, Rule, enter_root, follow, put_leaf, release_latches, rule_at};
-use spg_move::move_chain;
+use spg_move::{add_node, move_chain, split_tuple};
 use spg_opclass::{Choice, InnerView, OpClass};
 use spg_split::{SplitOut, split_chain, split_leaf};
 use spg_tree::{Descent, PageTable, Stand, StepRefused};
 use std::alloc::Global;
 
-/// A node, with what is left of the rest below it, and whether the rotating counter named it.
+/// What an insert does at an inner tuple.
 #[derive(Drop)]
-struct Chosen {
-    node: u16,
-    rest: Bytes,
-    by_turn: bool,
+enum Chosen {
+    /// It goes down a node, with what is left of its rest there. The rotating counter may have named
+    /// the node.
+    Node {
+        node: u16,
+        rest: Bytes,
+        by_turn: bool,
+    },
+    /// A node with this label is put in at this position.
+    Add { at: u16, label: i16 },
+    /// The tuple is split in two.
+    Split {
+        upper_prefix: Bytes,
+        upper_labels: Labels,
+        child: u16,
+        lower_prefix: Bytes,
+    },
 }
 
 /// Enters the root.
@@ -71,7 +85,7 @@ fn named(turn: u8, view: &InnerView, node: u16) -> u16
     if view.all_same { u16::from(turn) } else { node }
 }
 
-/// The node that an insert of a key follows, as the class answers.
+/// What an insert of a key does at an inner tuple, as the class answers.
 fn choose_for<O: OpClass>(
     alloc: Global,
     class: &O,
@@ -79,17 +93,13 @@ fn choose_for<O: OpClass>(
     descent: &Descent<O>,
     recon: &O::Recon,
 ) -> Result<Chosen, Memory>
-    requires plain { O.meaning.labels ≡ false }
     requires shape { Shape O.meaning (sheets_of table.now) }
     requires inner { IsAtInner table.now descent.now.stand }
     requires of_key { (key : Option O.Key) × IsCarried O.meaning (sheets_of table.now) descent.now key }
     requires stands { Stands table.now descent.now }
     requires recon { descent.now.recon ≡ Just recon.now }
     requires main { in_nulls descent.now ≡ false }
-    ensures node { IfOk result (λ chosen. chosen.node < length (links (tuple_at table.now (tuple_place descent.now.stand)))) }
-    ensures rest { IfOk result (λ chosen. IsRestOf O.meaning (in_nulls descent.now) chosen.rest) }
-    ensures goes { IfOk result (λ chosen. (key : Option O.Key) → IsCarried O.meaning (sheets_of table.now) descent.now key
-        → GoesBelow O.meaning descent.now.recon (frame_in (tuple_at table.now (tuple_place descent.now.stand))) chosen.node chosen.rest key) }
+    ensures { IfOk result (λ chosen. IsChosen O.meaning table.now descent.now chosen) }
 {
     let at = tuple_place(descent.stand());
     let view = table.page(at.block).view_at(alloc, at.offset)?;
@@ -97,36 +107,43 @@ fn choose_for<O: OpClass>(
         Choice::Match { node, rest } => {
             let node = named(table.counter(), &view, node);
             let by_turn = view.all_same;
-            Ok(Chosen {
+            Ok(Chosen::Node {
                 node,
                 rest,
                 by_turn,
             })
         }
-        Choice::Add { .. } | Choice::Split { .. } => unreachable!(),
+        Choice::Add { at, label } => Ok(Chosen::Add { at, label }),
+        Choice::Split {
+            upper_prefix,
+            upper_labels,
+            child,
+            lower_prefix,
+        } => Ok(Chosen::Split {
+            upper_prefix,
+            upper_labels,
+            child,
+            lower_prefix,
+        }),
     }
 }
 
-/// The node that an insert follows at an inner tuple, with what is left of its rest. At an
-/// all-the-same tuple, and in the nulls tree, it is the one that the rotating counter names.
+/// What an insert does at an inner tuple. The node that is followed at an all-the-same tuple, and in
+/// the nulls tree, is the one that the rotating counter names.
 fn choose<O: OpClass>(
     alloc: Global,
     class: &O,
     table: &PageTable,
     descent: &Descent<O>,
 ) -> Result<Chosen, Memory>
-    requires plain { O.meaning.labels ≡ false }
     requires shape { Shape O.meaning (sheets_of table.now) }
     requires inner { IsAtInner table.now descent.now.stand }
     requires of_key { (key : Option O.Key) × IsCarried O.meaning (sheets_of table.now) descent.now key }
     requires stands { Stands table.now descent.now }
-    ensures node { IfOk result (λ chosen. chosen.node < length (links (tuple_at table.now (tuple_place descent.now.stand)))) }
-    ensures rest { IfOk result (λ chosen. IsRestOf O.meaning (in_nulls descent.now) chosen.rest) }
-    ensures goes { IfOk result (λ chosen. (key : Option O.Key) → IsCarried O.meaning (sheets_of table.now) descent.now key
-        → GoesBelow O.meaning descent.now.recon (frame_in (tuple_at table.now (tuple_place descent.now.stand))) chosen.node chosen.rest key) }
+    ensures { IfOk result (λ chosen. IsChosen O.meaning table.now descent.now chosen) }
 {
     match descent.recon() {
-        None => Ok(Chosen {
+        None => Ok(Chosen::Node {
             node: u16::from(table.counter()),
             rest: Bytes::new(alloc),
             by_turn: true,
@@ -135,31 +152,105 @@ fn choose<O: OpClass>(
     }
 }
 
-/// Goes down the node that is chosen at an inner tuple.
+/// Goes down a node of the inner tuple at which an insert is.
 fn go_down<O: OpClass>(
     alloc: Global,
     class: &O,
     table: &mut PageTable,
     descent: &mut Descent<O>,
     seat: SeatNo,
+    node: u16,
+    rest: Bytes,
+    by_turn: bool,
 ) -> Result<InsertOut, Memory>
-    requires plain { O.meaning.labels ≡ false }
     requires shape { Shape O.meaning (sheets_of table.old) }
     requires inner { IsAtInner table.old descent.old.stand }
     requires of_key { (key : Option O.Key) × IsCarried O.meaning (sheets_of table.old) descent.old key }
     requires stands { Stands table.old descent.old }
+    requires chosen { IsChosen O.meaning table.old descent.old (Node node rest by_turn) }
     ensures ok { IfOk result (λ out. IsStepOut O.meaning table.old table.new descent.old descent.new seat out) }
     ensures err { OnErr result (table.new ≡ table.old) }
     ensures err_descent { OnErr result (descent.new ≡ descent.old) }
 {
-    let chosen = choose(alloc, class, table, descent)?;
-    let entered = follow(alloc, class, table, descent, seat, chosen.node, chosen.rest)?;
-    if chosen.by_turn {
+    let entered = follow(alloc, class, table, descent, seat, node, rest)?;
+    if by_turn {
         table.turn_counter();
     }
     match entered {
         Entered::In => Ok(InsertOut::Descended),
         Entered::Busy { block, by } => Ok(InsertOut::Restarted { block, by }),
+    }
+}
+
+/// Puts a node into the inner tuple at which an insert is.
+fn widen<O: OpClass>(
+    alloc: Global,
+    table: &mut PageTable,
+    descent: &mut Descent<O>,
+    seat: SeatNo,
+    at: u16,
+    label: i16,
+) -> Result<InsertOut, StepRefused>
+    requires shape { Shape O.meaning (sheets_of table.old) }
+    requires inner { IsAtInner table.old descent.old.stand }
+    requires of_key { (key : Option O.Key) × IsCarried O.meaning (sheets_of table.old) descent.old key }
+    requires stands { Stands table.old descent.old }
+    requires chosen { IsChosen O.meaning table.old descent.old (Add at label) }
+    ensures ok { IfOk result (λ out. IsStepOut O.meaning table.old table.new descent.old descent.new seat out) }
+    ensures full { IsErrOf result IndexFull → IsOutgrown table.old descent.old × IsNearLimit table.old }
+    ensures clock { IsErrOf result ClockFull → IsOutgrown table.old descent.old × (table.old.clock + 1 ≡ 2 ^ 48) }
+    ensures err { OnErr result (table.new ≡ table.old) }
+    ensures err_descent { OnErr result (descent.new ≡ descent.old) }
+{
+    let was = stand_block(descent.stand());
+    add_node(alloc, table, descent, seat, at, label)?;
+    hold_anew(table, descent, was, seat);
+    Ok(InsertOut::Restructured)
+}
+
+/// What an insert does at an inner tuple: it goes down a node, puts one in, or splits the tuple.
+fn at_inner<O: OpClass>(
+    alloc: Global,
+    class: &O,
+    table: &mut PageTable,
+    descent: &mut Descent<O>,
+    seat: SeatNo,
+) -> Result<InsertOut, StepRefused>
+    requires shape { Shape O.meaning (sheets_of table.old) }
+    requires inner { IsAtInner table.old descent.old.stand }
+    requires of_key { (key : Option O.Key) × IsCarried O.meaning (sheets_of table.old) descent.old key }
+    requires stands { Stands table.old descent.old }
+    ensures ok { IfOk result (λ out. IsStepOut O.meaning table.old table.new descent.old descent.new seat out) }
+    ensures full { IsErrOf result IndexFull → IsOutgrown table.old descent.old × IsNearLimit table.old }
+    ensures clock { IsErrOf result ClockFull → IsOutgrown table.old descent.old × (table.old.clock + 1 ≡ 2 ^ 48) }
+    ensures err { OnErr result (table.new ≡ table.old) }
+    ensures err_descent { OnErr result (descent.new ≡ descent.old) }
+{
+    match choose(alloc, class, table, descent)? {
+        Chosen::Node {
+            node,
+            rest,
+            by_turn,
+        } => Ok(go_down(alloc, class, table, descent, seat, node, rest, by_turn)?),
+        Chosen::Add { at, label } => widen(alloc, table, descent, seat, at, label),
+        Chosen::Split {
+            upper_prefix,
+            upper_labels,
+            child,
+            lower_prefix,
+        } => {
+            split_tuple(
+                alloc,
+                table,
+                descent,
+                seat,
+                &upper_prefix,
+                &upper_labels,
+                child,
+                &lower_prefix,
+            )?;
+            Ok(InsertOut::Restructured)
+        }
     }
 }
 
@@ -236,7 +327,7 @@ fn divide_chain<O: OpClass>(
     requires stands { Stands table.old descent.old }
     ensures ok { IfOk result (λ out. IsStepOut O.meaning table.old table.new descent.old descent.new seat out) }
     ensures full { IsErrOf result IndexFull → IsOutgrown table.old descent.old × IsNearLimit table.old }
-    ensures clock { IsErrOf result ClockFull → table.old.clock + 1 ≡ 2 ^ 48 }
+    ensures clock { IsErrOf result ClockFull → IsOutgrown table.old descent.old × (table.old.clock + 1 ≡ 2 ^ 48) }
     ensures err { OnErr result (table.new ≡ table.old) }
     ensures err_descent { OnErr result (descent.new ≡ descent.old) }
 {
@@ -268,7 +359,7 @@ fn move_away<O: OpClass>(
     requires stands { Stands table.old descent.now }
     ensures ok { IfOk result (λ out. IsStepOut O.meaning table.old table.new descent.now descent.now seat out) }
     ensures full { IsErrOf result IndexFull → IsOutgrown table.old descent.now × IsNearLimit table.old }
-    ensures clock { IsErrOf result ClockFull → table.old.clock + 1 ≡ 2 ^ 48 }
+    ensures clock { IsErrOf result ClockFull → IsOutgrown table.old descent.now × (table.old.clock + 1 ≡ 2 ^ 48) }
     ensures err { OnErr result (table.new ≡ table.old) }
 {
     move_chain(alloc, table, descent, seat)?;
@@ -284,19 +375,18 @@ pub(crate) fn step<O: OpClass>(
     descent: &mut Descent<O>,
     seat: SeatNo,
 ) -> Result<InsertOut, StepRefused>
-    requires plain { O.meaning.labels ≡ false }
     requires shape { Shape O.meaning (sheets_of table.old) }
     requires of_key { (key : Option O.Key) × IsCarried O.meaning (sheets_of table.old) descent.old key }
     requires stands { Stands table.old descent.old }
     ensures ok { IfOk result (λ out. IsStepOut O.meaning table.old table.new descent.old descent.new seat out) }
     ensures full { IsErrOf result IndexFull → IsOutgrown table.old descent.old × IsNearLimit table.old }
-    ensures clock { IsErrOf result ClockFull → table.old.clock + 1 ≡ 2 ^ 48 }
+    ensures clock { IsErrOf result ClockFull → IsOutgrown table.old descent.old × (table.old.clock + 1 ≡ 2 ^ 48) }
     ensures err { OnErr result (table.new ≡ table.old) }
     ensures err_descent { OnErr result (descent.new ≡ descent.old) }
 {
     match rule_at(table, descent) {
         Rule::Start => Ok(begin(table, descent, seat)),
-        Rule::Choose => Ok(go_down(alloc, class, table, descent, seat)?),
+        Rule::Choose => at_inner(alloc, class, table, descent, seat),
         Rule::Put => put(alloc, table, descent, seat),
         Rule::Move => move_away(alloc, table, descent, seat),
         Rule::Part => match descent.stand() {

@@ -56,9 +56,8 @@ impl<O: OpClass> Model for State<O> {
 }
 
 impl<O: OpClass> State<O> {
-    /// An empty index of at most `limit` pages, 4 to 131,072. The class has no labels so far.
+    /// An empty index of at most `limit` pages, 4 to 131,072.
     pub fn new(alloc: Global, class: O, limit: u32) -> Result<State<O>, Memory>
-        requires plain { O.meaning.labels ≡ false }
         requires from { 4 ≤ limit }
         requires to { limit ≤ 131072 }
         ensures { IfOk result (λ state. IsNew limit state) }
@@ -181,7 +180,7 @@ impl<O: OpClass> State<O> {
         requires inserting { IsInserting (stage_at self.old seat) }
         ensures ok { IfOk result (λ out. IsInsertOut self.old self.new seat out) }
         ensures full { IsErrOf result StepRefused.IndexFull → IsHeavy O.meaning self.old seat × IsNearLimit self.old.table }
-        ensures clock { IsErrOf result StepRefused.ClockFull → self.old.table.clock + 1 ≡ 2 ^ 48 }
+        ensures clock { IsErrOf result StepRefused.ClockFull → IsHeavy O.meaning self.old seat × (self.old.table.clock + 1 ≡ 2 ^ 48) }
         ensures err { OnErr result (self.new ≡ self.old) }
     {
         let out = step_slot(
