@@ -37,7 +37,10 @@ enum Chosen {
         by_turn: bool,
     },
     /// A node with this label is put in at this position.
-    Add { at: u16, label: i16 },
+    Add {
+        at: u16,
+        label: i16,
+    },
     /// The tuple is split in two.
     Split {
         upper_prefix: Bytes,
