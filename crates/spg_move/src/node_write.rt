@@ -1,5 +1,4 @@
-ghost use Rattle.std.specs.Prelude.{◌≡◌, ◌<◌, ◌≤◌, ◌+◌, ◌^◌, ◌++◌, ◌↔◌, length, Some as Just, IsTrue, IfOk, OnErr, IsErrOf};
-ghost use Rattle.spg_forest.specs.Tuples.{Redirect};
+ghost use Rattle.std.specs.Prelude.{◌≡◌, ◌<◌, ◌≤◌, ◌+◌, ◌^◌, ◌++◌, ◌↔◌, length, IsTrue, IfOk, OnErr, IsErrOf};
 ghost use Rattle.spg_forest.specs.Sheets.{size_of};
 ghost use Rattle.spg_page.specs.Changes.{room_of};
 ghost use Rattle.spg_page.specs.Kinds.{IsOffset};

@@ -1,5 +1,0 @@
-use Rattle.spg_tree.specs.Vacancies.{AreBare}
-use Rattle.spg_tree.proofs.vacancies.has_mark.Given as goal
-
-abbrev pub invariant-loop-block : goal.invariant-loop-block
-invariant-loop-block l = AreBare l.blocks l.begin l.block
