@@ -1,14 +1,15 @@
 -- What is latched after a section.
-use Rattle.std.proofs.Common.{◌≡◌, ℕ, ◌<◌, Bool, true, false, not, ◌&&◌, ◌||◌, cond, nat_eq, List, [], ◌∷◌, zero, suc, ⊎_elim, Option, Some, None, IfSome, length, get_or, set, get_or-set_same, get_or-set_other, refl, sym, ap, ◌∙◌, subst}
+use Rattle.std.proofs.Common.{◌≡◌, ℕ, ◌<◌, Bool, true, false, not, ◌&&◌, ◌||◌, cond, nat_eq, List, [], ◌∷◌, zero, suc, ◌⊎◌, ⊎_elim, inl, inr, Option, Some, None, IfSome, length, get_or, set, replicate, get_or-set_same, get_or-set_other, refl, sym, ap, ◌∙◌, subst}
 use Rattle.std.proofs.lemmas.Bool.{cases_eq, eq-eqb, ne_eqb, eqb-true}
 use Rattle.spg_forest.specs.View.{Place}
-use Rattle.spg_tree.specs.Table.{Table, latch_at, with_latch}
-use Rattle.spg_tree.specs.Descents.{Descending}
+use Rattle.spg_tree.specs.Table.{Table, latch_at, with_latch, with_touched}
+use Rattle.spg_tree.specs.Descents.{Descending, placed, followed, restarted}
 use Rattle.spg_tree.specs.declared.stand.Stand.{Stand}
 use Rattle.spg_tree.specs.declared.stand.Stand.TheVariants.{Start, Root, At, Empty}
 use Rattle.spg_descend.specs.Leaves.{released, stand_block, parent_block, is_held}
-use Rattle.spg_descend.specs.Follows.{IsAtInner, IsOpenTo, tuple_place, latched, left_behind, table_below}
-use Rattle.spg_core.specs.Latches.{NoLatches, AreHeld, holds_block, InsertHolds, left_block}
+use Rattle.spg_descend.specs.Follows.{IsAtInner, IsOpenTo, tuple_place, latched, left_behind, table_below, table_free}
+use Rattle.spg_core.specs.Latches.{NoLatches, AreHeld, holds_block, InsertHolds, StageHolds, ChangesHeld, left_block}
+use Rattle.spg_core.specs.Stage.{Stage, free, descending, reading}
 
 -- ---- one latch taken or given free
 
@@ -100,10 +101,6 @@ pub start_free : {Recon : Type 0} (t : Table) (seat : ℕ) (d : Descending Recon
 start_free t seat d stand parent h = λ b. h b ∙ ap (λ (s : Stand). cond (is_held (stand_block s) b || is_held (parent_block d.parent) b) (Some seat) None) stand
     ∙ ap (λ (p : Option (Place × ℕ)). cond (is_held (parent_block p) b) (Some seat) None) parent
 
-pub start_holds : {Recon : Type 0} (t : Table) (seat : ℕ) (d : Descending Recon) → d.stand ≡ Start → d.parent ≡ None → NoLatches t → InsertHolds t seat d
-start_holds t seat d stand parent h = λ b. h b ∙ ap (λ (p : Option (Place × ℕ)). cond (is_held (parent_block p) b) (Some seat) None) (sym parent)
-    ∙ ap (λ (s : Stand). cond (is_held (stand_block s) b || is_held (parent_block d.parent) b) (Some seat) None) (sym stand)
-
 -- its latches are given free
 pub all_free : {Recon : Type 0} (t : Table) (seat : ℕ) (d : Descending Recon) → InsertHolds t seat d → NoLatches (released (released t (stand_block d.stand) seat) (parent_block d.parent) seat)
 all_free t seat d h = λ b. held_released (released t (stand_block d.stand) seat) (parent_block d.parent) seat (λ x. not (is_held (stand_block d.stand) x) && holds_block d x) (held_released t (stand_block d.stand) seat (holds_block d) h) b
@@ -116,7 +113,7 @@ all_free t seat d h = λ b. held_released (released t (stand_block d.stand) seat
     none false false = refl
 
 -- it enters a root
-pub root_held : (t : Table) (b seat : ℕ) → b < length t.latches → NoLatches t → AreHeld (with_latch t b (Some seat)) seat (λ x. nat_eq b x || false)
+root_held : (t : Table) (b seat : ℕ) → b < length t.latches → NoLatches t → AreHeld (with_latch t b (Some seat)) seat (λ x. nat_eq b x || false)
 root_held t b seat within h = held_latched t (Some b) seat (λ x. false) within h
 
 -- it follows a node
@@ -131,7 +128,7 @@ inner_block t (Root b) i = refl
 inner_block t (At x) i = refl
 inner_block t Empty i = absurd i.0
 
-pub below_holds : {Recon : Type 0} (t : Table) (seat : ℕ) (d : Descending Recon) (st : Stand) → IsAtInner t d.stand → IfSome (stand_block st) (λ b. b < length t.latches) → InsertHolds t seat d →
+below_holds : {Recon : Type 0} (t : Table) (seat : ℕ) (d : Descending Recon) (st : Stand) → IsAtInner t d.stand → IfSome (stand_block st) (λ b. b < length t.latches) → InsertHolds t seat d →
     AreHeld (table_below t d (tuple_place d.stand) st seat) seat (λ b. is_held (stand_block st) b || nat_eq (tuple_place d.stand).block b)
 below_holds t seat d st i within h =
     let x : ℕ = (tuple_place d.stand).block in
@@ -148,7 +145,7 @@ chain_left None z parent b = refl
 chain_left (Some w) z parent b = ap (λ k. not (is_held (left_block (Some w) (Some z) parent) b) && (nat_eq z b || k)) (or_sym (nat_eq w b) (is_held parent b))
     ∙ left_held (nat_eq z w || is_held parent w) (nat_eq z b) (is_held parent b) w b (λ e. ap (λ c. nat_eq z c || is_held parent c) e)
 
-pub anew_holds : {Recon : Type 0} (t : Table) (seat : ℕ) (d : Descending Recon) (z : ℕ) → z < length t.latches → InsertHolds t seat d →
+anew_holds : {Recon : Type 0} (t : Table) (seat : ℕ) (d : Descending Recon) (z : ℕ) → z < length t.latches → InsertHolds t seat d →
     AreHeld (released (latched t (Some z) seat) (left_block (stand_block d.stand) (Some z) (parent_block d.parent)) seat) seat (λ b. nat_eq z b || is_held (parent_block d.parent) b)
 anew_holds t seat d z within h =
     let was : Option ℕ = stand_block d.stand in
@@ -157,10 +154,60 @@ anew_holds t seat d z within h =
     (held_released (latched t (Some z) seat) (left_block was (Some z) par) seat (λ b. nat_eq z b || holds_block d b) (held_latched t (Some z) seat (holds_block d) within h))
 
 -- where no other seat holds anything, every block is open to it
-pub open_to : (t : Table) (block : Option ℕ) (seat : ℕ) (g : ℕ → Bool) → AreHeld t seat g → IsOpenTo t block seat
+open_to : (t : Table) (block : Option ℕ) (seat : ℕ) (g : ℕ → Bool) → AreHeld t seat g → IsOpenTo t block seat
 open_to t None seat g h = tt
 open_to t (Some b) seat g h = λ by e. go (g b) by (sym (h b) ∙ e)
   where
     go : (k : Bool) (by : ℕ) → cond k (Some seat) None ≡ Some by → by ≡ seat
     go true by e = cc
     go false by e = absurd (cc e)
+
+-- ---- what an insert holds after a section
+
+-- the latches of t1 are those of t, and then its own are given free
+pub put_free : {Recon : Type 0} (t t1 t2 : Table) (seat : ℕ) (d d2 : Descending Recon) → ((b : ℕ) → latch_at t1 b ≡ latch_at t b) → d2.stand ≡ d.stand → d2.parent ≡ d.parent → t2 ≡ released (released t1 (stand_block d2.stand) seat) (parent_block d2.parent) seat →
+    InsertHolds t seat d → NoLatches t2
+put_free t t1 t2 seat d d2 same stand parent freed h = subst NoLatches (sym freed) (all_free t1 seat d2 (holds_same t t1 seat d d2 same stand parent h))
+
+-- it has entered its root
+pub enter_holds : {Recon : Type 0} (t t2 : Table) (seat : ℕ) (d d2 : Descending Recon) (b : ℕ) → b < length t.latches → d.stand ≡ Start → d.parent ≡ None → t2 ≡ with_touched (with_latch t b (Some seat)) [] → d2 ≡ placed d (Root b) None → InsertHolds t seat d → InsertHolds t2 seat d2
+enter_holds {Recon} t t2 seat d d2 b within stand parent et ed h = subst (λ (z : Descending Recon). InsertHolds t2 seat z) (sym ed) (subst (λ (z : Table). InsertHolds z seat (placed d (Root b) None)) (sym et) (root_held t b seat within (start_free t seat d stand parent h)))
+
+-- it has followed a node
+pub follow_holds : {Recon : Type 0} (t t1 t2 : Table) (seat : ℕ) (d d2 : Descending Recon) (st : Stand) (node : ℕ) (recon : Option Recon) (rest : List ℕ) → IsAtInner t d.stand → IfSome (stand_block st) (λ b. b < length t.latches) → t1 ≡ table_below t d (tuple_place d.stand) st seat →
+    ((b : ℕ) → latch_at t2 b ≡ latch_at t1 b) → d2 ≡ followed d st (Some (tuple_place d.stand, node)) recon rest → InsertHolds t seat d → InsertHolds t2 seat d2
+follow_holds {Recon} t t1 t2 seat d d2 st node recon rest i within et same ed h = subst (λ (z : Descending Recon). InsertHolds t2 seat z) (sym ed) (λ b. same b ∙ subst (λ (z : Table). AreHeld z seat (λ b. is_held (stand_block st) b || nat_eq (tuple_place d.stand).block b)) (sym et) (below_holds t seat d st i within h) b)
+
+-- it has gone back to its start
+pub back_holds : {Recon : Type 0} (t t1 t2 : Table) (seat : ℕ) (d d2 : Descending Recon) → t1 ≡ table_free t d seat → ((b : ℕ) → latch_at t2 b ≡ latch_at t1 b) → d2 ≡ restarted d → InsertHolds t seat d → NoLatches t2 × InsertHolds t2 seat d2
+back_holds {Recon} t t1 t2 seat d d2 et same ed h =
+    let none : NoLatches t2 = λ b. same b ∙ subst NoLatches (sym et) (all_free t seat d h) b in
+    (none, subst (λ (z : Descending Recon). InsertHolds t2 seat z) (sym ed) none)
+
+-- its chain was divided without its leaf, and it stands at the new inner tuple
+pub chain_holds : {Recon : Type 0} (t t1 t2 : Table) (seat : ℕ) (d d2 : Descending Recon) (z : Place) (was : Option ℕ) → z.block < length t1.latches → ((b : ℕ) → latch_at t1 b ≡ latch_at t b) → was ≡ stand_block d.stand → d2.stand ≡ At z → d2.parent ≡ d.parent →
+    (IsOpenTo t1 (stand_block d2.stand) seat → t2 ≡ released (latched t1 (stand_block d2.stand) seat) (left_block was (stand_block d2.stand) (parent_block d2.parent)) seat) → InsertHolds t seat d → InsertHolds t2 seat d2
+chain_holds {Recon} t t1 t2 seat d d2 z was within same ew stand parent held h =
+    let h1 : InsertHolds t1 seat d = holds_same t t1 seat d d same refl refl h in
+    let et : t2 ≡ released (latched t1 (stand_block d2.stand) seat) (left_block was (stand_block d2.stand) (parent_block d2.parent)) seat = held (open_to t1 (stand_block d2.stand) seat (holds_block d) h1) in
+    let anew : AreHeld t2 seat (λ b. nat_eq z.block b || is_held (parent_block d.parent) b) = subst (λ (x : Table). AreHeld x seat (λ b. nat_eq z.block b || is_held (parent_block d.parent) b)) (sym et)
+    (rw (ew, stand, parent) (anew_holds t1 seat d z.block within h1)) in
+    λ b. anew b ∙ ap (λ (p : Option (Place × ℕ)). cond (nat_eq z.block b || is_held (parent_block p) b) (Some seat) None) (sym parent) ∙ ap (λ (s : Stand). cond (is_held (stand_block s) b || is_held (parent_block d2.parent) b) (Some seat) None) (sym stand)
+
+-- ---- what the callers see of it
+
+-- where one seat alone holds anything, it changes no other's block
+pub changes_held : {O Key Recon Cond : Type 0} (t t2 : Table) (seat : ℕ) (stage : Stage O Key Recon Cond) → StageHolds t seat stage → ChangesHeld t t2 seat
+changes_held t t2 seat free h = λ b. inr (inl (h b))
+changes_held t t2 seat (descending key d) h = λ b. inr (one (holds_block d b) (latch_at t b) (h b))
+  where
+    one : (k : Bool) (l : Option ℕ) → l ≡ cond k (Some seat) None → (l ≡ None) ⊎ (l ≡ Some seat)
+    one true l e = inr e
+    one false l e = inl e
+changes_held t t2 seat (reading s) h = λ b. inr (inl (h b))
+
+-- a new table has no latches
+pub none_latched : (n b : ℕ) → ◌≡◌ {A = Option ℕ} (get_or (replicate n None) b None) None
+none_latched zero b = refl
+none_latched (suc n) zero = refl
+none_latched (suc n) (suc b) = none_latched n b

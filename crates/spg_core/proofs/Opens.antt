@@ -22,6 +22,7 @@ use Rattle.spg_core.specs.Slot.{open_count}
 use Rattle.spg_core.specs.Stage.{Stage, given_up}
 use Rattle.spg_core.specs.Operations.{CanRelease}
 use Rattle.spg_core.specs.Stepping.{Stands, SamePages}
+use Rattle.spg_core.specs.Latches.{NoLatches, InsertHolds}
 use Rattle.spg_core.specs.Kept.{SlotFits, IsKept}
 use Rattle.spg_core.proofs.Stands.{here_there, above_there}
 use Rattle.spg_core.proofs.Steps.{RowsAre, with_fields, kept_logged, pages_are, pages_moved, given_up_pages, given_up_seat, given_up_closes, given_up_ends, insert_claimed}
@@ -44,6 +45,14 @@ opened_fits {O} {Key} {Recon} m t past seat row key d e carries fresh =
       subst (λ (z : Descending Recon). Stands t z) (sym e) (opened_stands m t row key),
     )
 
+-- it holds nothing
+pub opened_holds : {Key Recon Cond : Type 0} (m : Meaning Key Recon Cond) (t : pages.Table) (seat : ℕ) (row : RowAt) (key : Option Key) (d : Descending Recon) → d ≡ opened_for m row key → NoLatches t → InsertHolds t seat d
+opened_holds {Key} {Recon} m t seat row key d e none = subst (λ (z : Descending Recon). InsertHolds t seat z) (sym e) (go key)
+  where
+    go : (k : Option Key) → InsertHolds t seat (opened_for m row k)
+    go None = none
+    go (Some k) = none
+
 -- what an open operation holds can be given free
 pub can_release : {O Key Recon Cond : Type 0} (m : Meaning Key Recon Cond) (s : Inside O Key Recon Cond) (kept : IsKept m s) (seat : ℕ) (slot : Slot O Key Recon Cond) → SlotFits m s.table (reverse s.journal.events) seat slot → CanRelease s.table s.rows slot
 can_release m s kept seat Free fits = tt
@@ -56,11 +65,11 @@ can_release m s kept seat (Scan x) fits = tt
 
 -- an operation that is given up leaves the state as it must be
 pub given_up_fits : {O Key Recon Cond : Type 0} (m : Meaning Key Recon Cond) (s : Inside O Key Recon Cond) (kept : IsKept m s) (seat : ℕ) (why : Why) (stage : Stage O Key Recon Cond) (t2 : pages.Table) (rows : Table O Key Recon Cond) (slots : Vec (Slot O Key Recon Cond) Global) (journal : Written O Key Recon Cond) →
-    seat ≡ 0 → slots.items ≡ set s.slots.items seat Free → journal.events ≡ s.journal.events ++ given_up seat stage why ∷ [] → IsAllowed (reverse s.journal.events) (given_up seat stage why) → SamePages s.table t2 →
+    seat ≡ 0 → slots.items ≡ set s.slots.items seat Free → journal.events ≡ s.journal.events ++ given_up seat stage why ∷ [] → IsAllowed (reverse s.journal.events) (given_up seat stage why) → SamePages s.table t2 → NoLatches t2 →
     RowsAre m rows (given_up seat stage why ∷ reverse s.journal.events) → open_count slots.items ≤ journal.spare → IsKept m (with_fields m s t2 rows slots journal)
-given_up_fits {O} {Key} {Recon} {Cond} m s kept seat why stage t2 rows slots journal first items events allowed same are room =
+given_up_fits {O} {Key} {Recon} {Cond} m s kept seat why stage t2 rows slots journal first items events allowed same none are room =
     let past : History O Key Recon Cond = reverse s.journal.events in
     let by = given_up_seat seat stage why in
     kept_logged m s kept (given_up seat stage why) Free t2 rows slots journal (by ∙ first) (subst (λ (x : ℕ). slots.items ≡ set s.slots.items x Free) (sym by) items) events allowed (given_up_closes m s.table past seat why stage)
     (itself_opens (given_up seat stage why) past ∙ given_up_ends m s.table past seat why stage (open_of (seat_of (given_up seat stage why)) past))
-    (given_up_pages m t2 past seat stage why (pages_moved m s.table t2 past same (pages_are m s kept))) are room same.1
+    (given_up_pages m t2 past seat stage why (pages_moved m s.table t2 past same (pages_are m s kept))) are none room same.1

@@ -35,6 +35,7 @@ use Rattle.spg_core.specs.declared.slot.Slot.{Slot}
 use Rattle.spg_core.specs.declared.slot.Slot.TheVariants.{Free, Insert, Scan}
 use Rattle.spg_core.specs.declared.state.State.TheInside.{Inside}
 use Rattle.spg_core.specs.Stepping.{HasInnerRoot, SamePages}
+use Rattle.spg_core.specs.Latches.{NoLatches, StageHolds, SlotHolds}
 use Rattle.spg_core.specs.Weight.{opened_keys}
 use Rattle.spg_core.specs.Slot.{stage_of, is_open, open_count, GivesBack}
 use Rattle.spg_core.specs.Stage.{Stage, free, descending, reading, given_up}
@@ -77,13 +78,26 @@ module _ {O Key Recon Cond : Type 0} (m : Meaning Key Recon Cond) where
   other_free : (s : Inside O Key Recon Cond) → IsKept m s → (slot : Slot O Key Recon Cond) (slots : List (Slot O Key Recon Cond)) (seat : ℕ) → seat ≡ 0 → slots ≡ set s.slots.items seat slot → (other : ℕ) → (other ≡ 0 → ⊥) → get_or slots other Free ≡ Free
   other_free s kept slot slots seat zero is other n = ap (λ l. get_or l other Free) is ∙ get_or-set_other s.slots.items seat other slot Free (λ e. n (e ∙ zero)) ∙ kept.alone other n
 
+  -- what the slot of seat 0 holds
+  first_holds : (s : Inside O Key Recon Cond) → IsKept m s → (slot : Slot O Key Recon Cond) (table : pages.Table) (slots : List (Slot O Key Recon Cond)) (seat : ℕ) → seat ≡ 0 → slots ≡ set s.slots.items seat slot → SlotHolds table seat slot → SlotHolds table 0 (get_or slots 0 Free)
+  first_holds s kept slot table slots seat first is held =
+      let within : seat < length s.slots.items = omega (arith, kept.seats, first) in
+      subst (λ (n : ℕ). SlotHolds table n (get_or slots n Free)) first (subst (λ (x : Slot O Key Recon Cond). SlotHolds table seat x) (sym (ap (λ l. get_or l seat Free) is ∙ get_or-set_same s.slots.items seat slot Free within)) held)
+
+  pub holds_now : (s : Inside O Key Recon Cond) → IsKept m s → (seat : ℕ) → seat ≡ 0 → SlotHolds s.table seat (get_or s.slots.items seat Free)
+  holds_now s kept seat first = subst (λ (n : ℕ). SlotHolds s.table n (get_or s.slots.items n Free)) (sym first) kept.latches
+
+  -- a seat with nothing open holds nothing
+  pub free_holds : (s : Inside O Key Recon Cond) → IsKept m s → (seat : ℕ) → seat ≡ 0 → stage_of (get_or s.slots.items seat Free) ≡ free → NoLatches s.table
+  free_holds s kept seat first is = subst (λ (st : Stage O Key Recon Cond). StageHolds s.table seat st) is (holds_now s kept seat first)
+
   -- an event joins the journal of a state
   pub kept_logged : (s : Inside O Key Recon Cond) → IsKept m s → (e : Event O Key Recon Cond) (slot : Slot O Key Recon Cond) (table : pages.Table) (rows : Table O Key Recon Cond) (slots : Vec (Slot O Key Recon Cond) Global) (journal : Written O Key Recon Cond)
       → seat_of e ≡ 0 → slots.items ≡ set s.slots.items (seat_of e) slot → journal.events ≡ s.journal.events ++ e ∷ []
       → IsAllowed (reverse s.journal.events) e → ClosesRight m (reverse s.journal.events) e → SlotFits m table (e ∷ reverse s.journal.events) (seat_of e) slot
-      → PagesAre table (e ∷ reverse s.journal.events) → RowsAre rows (e ∷ reverse s.journal.events) → open_count slots.items ≤ journal.spare → table.limit ≡ s.table.limit
+      → PagesAre table (e ∷ reverse s.journal.events) → RowsAre rows (e ∷ reverse s.journal.events) → SlotHolds table (seat_of e) slot → open_count slots.items ≤ journal.spare → table.limit ≡ s.table.limit
       → IsKept m (with_fields s table rows slots journal)
-  kept_logged s kept e slot table rows slots journal first slots_are events_are allowed closes fits page row room limit =
+  kept_logged s kept e slot table rows slots journal first slots_are events_are allowed closes fits page row held room limit =
       let history = reverse s.journal.events in
       let now : reverse journal.events ≡ e ∷ history = ap reverse events_are ∙ reverse-append s.journal.events (e ∷ []) in
       let length_is : seat_of e < length s.slots.items = omega (arith, kept.seats, first) in
@@ -101,6 +115,7 @@ module _ {O Key Recon Cond : Type 0} (m : Meaning Key Recon Cond) where
               (other_stays e history seat other ∙ subst (λ (x : Slot O Key Recon Cond). SlotFits m s.table history seat x) is_free (kept.slots seat)))
         ]);
         alone = other_free s kept slot slots.items (seat_of e) first slots_are;
+        latches = first_holds s kept slot table slots.items (seat_of e) first slots_are held;
         states = rw now row.states;
         keys = rw now row.keys;
         room = room;
@@ -109,9 +124,9 @@ module _ {O Key Recon Cond : Type 0} (m : Meaning Key Recon Cond) where
 
   -- the seat's operation goes on, with no event
   pub kept_moved : (s : Inside O Key Recon Cond) → IsKept m s → (seat : ℕ) (slot : Slot O Key Recon Cond) (table : pages.Table) (slots : Vec (Slot O Key Recon Cond) Global)
-      → seat ≡ 0 → slots.items ≡ set s.slots.items seat slot → is_open (get_or s.slots.items seat Free) ≡ true → SlotFits m table (reverse s.journal.events) seat slot → PagesAre table (reverse s.journal.events) → table.limit ≡ s.table.limit
+      → seat ≡ 0 → slots.items ≡ set s.slots.items seat slot → is_open (get_or s.slots.items seat Free) ≡ true → SlotFits m table (reverse s.journal.events) seat slot → PagesAre table (reverse s.journal.events) → SlotHolds table seat slot → table.limit ≡ s.table.limit
       → IsKept m (with_fields s table s.rows slots s.journal)
-  kept_moved s kept seat slot table slots first slots_are was fits page limit =
+  kept_moved s kept seat slot table slots first slots_are was fits page held limit =
       let length_is : seat < length s.slots.items = omega (arith, kept.seats, first) in
       record {
         right = kept.right;
@@ -127,6 +142,7 @@ module _ {O Key Recon Cond : Type 0} (m : Meaning Key Recon Cond) where
               (subst (λ (x : Slot O Key Recon Cond). SlotFits m s.table (reverse s.journal.events) s2 x) is_free (kept.slots s2)))
         ]);
         alone = other_free s kept slot slots.items seat first slots_are;
+        latches = first_holds s kept slot table slots.items seat first slots_are held;
         states = kept.states;
         keys = kept.keys;
         room = rw slots_are (omega (arith, kept.room, open_count-set-le s.slots.items seat slot was));
@@ -143,6 +159,7 @@ module _ {O Key Recon Cond : Type 0} (m : Meaning Key Recon Cond) where
     seats = kept.seats;
     slots = rw events_are kept.slots;
     alone = kept.alone;
+    latches = kept.latches;
     states = rw events_are kept.states;
     keys = rw events_are kept.keys;
     room = omega (arith, kept.room, room);
@@ -158,6 +175,7 @@ module _ {O Key Recon Cond : Type 0} (m : Meaning Key Recon Cond) where
     seats = rw items kept.seats;
     slots = rw items kept.slots;
     alone = rw items kept.alone;
+    latches = rw items kept.latches;
     states = kept.states;
     keys = kept.keys;
     room = rw items kept.room;

@@ -21,6 +21,7 @@ use Rattle.spg_core.specs.declared.state.State.TheInside.{Inside}
 use Rattle.spg_core.specs.Slot.{stage_of, open_count}
 use Rattle.spg_core.specs.Seen.{Seen, IsPresentWith}
 use Rattle.spg_core.specs.Stepping.{Stands, HasInnerRoot}
+use Rattle.spg_core.specs.Latches.{SlotHolds}
 use Rattle.spg_core.specs.Weight.{opened_keys}
 
 abbrev pub seen_of : {O Key Recon Cond : Type 0} → Inside O Key Recon Cond → Seen O Key Recon Cond
@@ -59,6 +60,8 @@ pub record IsKept {O Key Recon Cond : Type 0} (m : Meaning Key Recon Cond) (s : 
   pub slots : (seat : ℕ) → SlotFits m s.table (reverse s.journal.events) seat (slice_index_or s.slots.items seat Free)
   -- one seat alone has something open
   pub alone : (seat : ℕ) → (seat ≡ 0 → ⊥) → slice_index_or s.slots.items seat Free ≡ Free
+  -- latched are just the blocks of its insert
+  pub latches : SlotHolds s.table 0 (slice_index_or s.slots.items 0 Free)
   -- the states and keys of rows are the journal's
   pub states : (r : RowAt) → state_in s.rows r ≡ state_of r (reverse s.journal.events)
   pub keys : (r : RowAt) → key_in s.rows r ≡ claimed_key r (reverse s.journal.events)

@@ -21,6 +21,7 @@ use Rattle.spg_core.specs.declared.answer.InsertOut.TheVariants as outs
 use Rattle.spg_core.specs.Stage.{Stage, free, descending, reading, given_up}
 use Rattle.spg_core.specs.Seen.{Seen, stage_at, moved, logged, past_of}
 use Rattle.spg_core.specs.Stepping.{SamePages}
+use Rattle.spg_core.specs.Latches.{NoLatches}
 use Rattle.spg_core.specs.Weight.{opened_keys}
 
 -- an empty index of 3 pages, with this limit
@@ -88,6 +89,6 @@ HasMet (reading s) met = met ≡ s.met
 abbrev pub ClosesScan : {O Key Recon Cond : Type 0} → Seen O Key Recon Cond → Seen O Key Recon Cond → ℕ → Closed → Type 0
 ClosesScan old new seat closed = (new ≡ logged old seat (CloseScan seat closed.rows) free old.table) × (stage_at new seat ≡ free) × HasMet (stage_at old seat) closed.met
 
--- the operation was given up: the pages stay as they are
+-- the operation was given up: the pages stay as they are, and nothing is latched any more
 abbrev pub GivesUp : {O Key Recon Cond : Type 0} → Seen O Key Recon Cond → Seen O Key Recon Cond → ℕ → Why → Type 0
-GivesUp old new seat why = (new ≡ logged old seat (given_up seat (stage_at old seat) why) free new.table) × (stage_at new seat ≡ free) × SamePages old.table new.table
+GivesUp old new seat why = (new ≡ logged old seat (given_up seat (stage_at old seat) why) free new.table) × (stage_at new seat ≡ free) × SamePages old.table new.table × NoLatches new.table

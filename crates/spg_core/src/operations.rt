@@ -8,6 +8,7 @@ ghost use Rattle.spg_core.specs.declared.slot.Slot.TheVariants as kept;
 ghost use Rattle.spg_core.specs.Slot.{GivesBack};
 ghost use Rattle.spg_core.specs.Operations.{CanStep, StepsSlot, IsOutgrownBy, CanRead, ReadsSlot, CanClose, ClosesSlot, CanRelease, IsInsert, IsRowOf};
 ghost use Rattle.spg_core.specs.Stepping.{SamePages, IsNearLimit};
+ghost use Rattle.spg_core.specs.Latches.{SlotHolds, NoLatches};
 ghost use Rattle.spg_scan.specs.Scanning.{IsClosing, emptied};
 
 use crate::answer::InsertOut;
@@ -131,6 +132,7 @@ pub(crate) fn release_slot<O: OpClass>(
 )
     requires { CanRelease table.old rows.old slot.now }
     ensures pages { SamePages table.old table.new }
+    ensures latches { SlotHolds table.old seat slot.now → NoLatches table.new }
     ensures rows { GivesBack slot.now rows.old rows.new }
 {
     if let Slot::Insert { descent, .. } = slot {

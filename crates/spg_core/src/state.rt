@@ -11,6 +11,7 @@ ghost use Rattle.spg_tree.specs.Table.{Table, sheets_of, start_table};
 ghost use Rattle.spg_core.specs.Stage.{free, IsInserting, IsRead, IsStageOf, held_count, given_up, kind_of};
 ghost use Rattle.spg_core.specs.Seen.{stage_at, past_of, IsPresentWith};
 ghost use Rattle.spg_core.specs.Stepping.{IsNearLimit};
+ghost use Rattle.spg_core.specs.Latches.{StageHolds, LatchesAfter, ChangesHeld};
 ghost use Rattle.spg_core.specs.Kept.{RootsAreHeavy};
 ghost use Rattle.spg_core.specs.Counts.{IsStat};
 ghost use Rattle.spg_core.specs.Sections.{IsNew, OpensInsert, IsInsertOut, IsHeavy, OpensScan, ReadsItem, ClosesScan, GivesUp};
@@ -100,11 +101,13 @@ impl<O: OpClass> State<O> {
 
     /// The pages. They are well formed and hold just the rows that are present, each with its key. A
     /// root is an inner tuple only where the keys of its tree that were ever inserted take more than
-    /// 8,160 bytes.
+    /// 8,160 bytes. An open insert has latched just the block where it stands and that of the tuple
+    /// above, and nothing else is latched.
     pub fn pages(&self) -> &PageTable
         ensures value { result.now ≡ self.now.table }
         ensures represents { Represents O.meaning (sheets_of self.now.table) (IsPresentWith (past_of self.now)) }
         ensures heavy { RootsAreHeavy O.meaning self.now.table (past_of self.now) }
+        ensures latches { StageHolds self.now.table 0 (stage_at self.now 0) }
     {
         &self.table
     }
@@ -174,11 +177,14 @@ impl<O: OpClass> State<O> {
     /// without its own. `Put` where the row is put, and the insert has ended. `IndexFull` only where
     /// a page is wanted and there may be none: fewer than 4 blocks are left below the limit, and the
     /// keys of its tree that were ever inserted take more than 8,160 bytes. `ClockFull` only where a
-    /// chain below a root moves or is divided and the clock is 2^48 - 1.
+    /// chain below a root moves or is divided and the clock is 2^48 - 1. It changes only blocks that the
+    /// seat had latched or that nobody had; at its start, and once its row is put, it has latched none.
     pub fn insert_step(&mut self, seat: SeatNo) -> Result<InsertOut, StepRefused>
         requires first { seat ≡ 0 }
         requires inserting { IsInserting (stage_at self.old seat) }
         ensures ok { IfOk result (λ out. IsInsertOut self.old self.new seat out) }
+        ensures latches { IfOk result (λ out. LatchesAfter self.new seat out) }
+        ensures within { ChangesHeld self.old.table self.new.table seat }
         ensures full { IsErrOf result StepRefused.IndexFull → IsHeavy O.meaning self.old seat × IsNearLimit self.old.table }
         ensures clock { IsErrOf result StepRefused.ClockFull → IsHeavy O.meaning self.old seat × (self.old.table.clock + 1 ≡ 2 ^ 48) }
         ensures err { OnErr result (self.new ≡ self.old) }
@@ -247,7 +253,7 @@ impl<O: OpClass> State<O> {
         Ok(closed)
     }
 
-    /// Gives up what the seat has open: an insert with this cause. The seat's latches are given free.
+    /// Gives up what the seat has open: an insert with this cause. Nothing is latched then.
     /// It takes no memory.
     pub fn abandon(&mut self, seat: SeatNo, why: Why)
         requires first { seat ≡ 0 }

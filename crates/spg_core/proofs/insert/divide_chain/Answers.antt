@@ -1,13 +1,15 @@
-use Rattle.std.proofs.Common.{rules, ap, subst, inl}
+use Rattle.std.proofs.Common.{rules, ℕ, ◌<◌, length, ⊎_elim, sym, ap, ◌∙◌, subst, inl}
 use Rattle.spg_forest.specs.Pages.{moved}
 use Rattle.spg_tree.specs.Descents.{Descending}
 use Rattle.spg_descend.specs.Below.{IsTicked}
+use Rattle.spg_descend.specs.Leaves.{stand_block}
 use Rattle.spg_descend.specs.Follows.{tuple_place}
 use Rattle.spg_split.specs.Splits.{IsSplitFull, split_cost}
 use Rattle.spg_split.specs.Below.{IsChainSplit}
 use Rattle.spg_split.specs.declared.split.SplitOut.{SplitOut}
 use Rattle.spg_core.proofs.Moves.{put_out, chain_out, kinds_grow, at_chain, not_empty, below_root}
 use Rattle.spg_core.proofs.Limits.{split_near}
+use Rattle.spg_core.proofs.Holding.{put_free, chain_holds}
 use Rattle.spg_core.proofs.insert.divide_chain.Goals as goal
 
 pub split_chain-requires-clause-spot : goal.split_chain-requires-clause-spot
@@ -43,3 +45,27 @@ returns-in-LeftOut-clause-ok g c =
     let ticked : IsTicked t t1 = c.in_ok-split_chain.ensures.ticked in
     let splits = subst (λ (o : SplitOut). IsChainSplit m t t1 d d2 o) c.in-LeftOut.is c.in_ok-split_chain.ensures.ok in
     chain_out m t t1 c.hold_anew.new.table d d2 c.args.seat c.requires.of_key c.requires.elsewhere (below_root t d c.requires.stands c.requires.elsewhere c.requires.below) ticked splits c.hold_anew.ensures.pages c.hold_anew.ensures.touched
+
+pub returns-in-Put-clause-latches : goal.returns-in-Put-clause-latches
+returns-in-Put-clause-latches g c = λ h.
+    let t = c.args.table.now in
+    let d = c.args.descent.now in
+    let t1 = c.split_chain.new.table in
+    let d2 = c.split_chain.new.descent in
+    let ticked : IsTicked t t1 = c.in_ok-split_chain.ensures.ticked in
+    let (splits, e) = subst (λ (o : SplitOut). IsChainSplit g.O.OpClass.meaning t t1 d d2 o) c.in-Put.is c.in_ok-split_chain.ensures.ok in
+    put_free t t1 c.release_latches.new.table c.args.seat d d2 ticked.latches (ap (λ (z : Descending _). z.stand) e) (ap (λ (z : Descending _). z.parent) e) c.release_latches.ensures.table h
+
+pub returns-in-LeftOut-clause-latches : goal.returns-in-LeftOut-clause-latches
+returns-in-LeftOut-clause-latches g c = λ h.
+    let t = c.args.table.now in
+    let d = c.args.descent.now in
+    let t1 = c.split_chain.new.table in
+    let t2 = c.hold_anew.new.table in
+    let d2 = c.split_chain.new.descent in
+    let ticked : IsTicked t t1 = c.in_ok-split_chain.ensures.ticked in
+    let was = c.stand_block-was.ensures ∙ ap stand_block c.stand.ensures in
+    let (z, ways) = subst (λ (o : SplitOut). IsChainSplit g.O.OpClass.meaning t t1 d d2 o) c.in-LeftOut.is c.in_ok-split_chain.ensures.ok in
+    let within : z.block < length t1.pages → z.block < length t1.latches = λ l. subst (λ (n : ℕ). z.block < n) (sym c.page_count-count.ensures.sound.latched) l in
+    ⊎_elim (λ w. chain_holds t t1 t2 c.args.seat d d2 z c.stand_block-was.result (within w.1.inner.1) ticked.latches was (ap (λ (x : Descending _). x.stand) w.0) (ap (λ (x : Descending _). x.parent) w.0) c.hold_anew.ensures.held h)
+    (λ w. chain_holds t t1 t2 c.args.seat d d2 z c.stand_block-was.result (within w.1.inner.1) ticked.latches was (ap (λ (x : Descending _). x.stand) w.0) (ap (λ (x : Descending _). x.parent) w.0) c.hold_anew.ensures.held h) ways

@@ -1,9 +1,10 @@
-use Rattle.std.proofs.Common.{rules, ap, subst, inr}
+use Rattle.std.proofs.Common.{rules, ⊎_elim, ap, subst, inr}
 use Rattle.spg_tree.specs.Descents.{Descending}
 use Rattle.spg_split.specs.Splits.{IsSplitOut, IsSplitFull, split_cost}
 use Rattle.spg_split.specs.declared.split.SplitOut.{SplitOut}
 use Rattle.spg_core.proofs.Moves.{put_out, calm_grow, root_full, root_leaves}
 use Rattle.spg_core.proofs.Limits.{split_near}
+use Rattle.spg_core.proofs.Holding.{put_free, holds_same}
 use Rattle.spg_core.proofs.insert.divide_root.Goals as goal
 
 pub split_leaf-requires-clause-spot : goal.split_leaf-requires-clause-spot
@@ -24,3 +25,22 @@ pub returns-in_err-split_leaf-clause-full : goal.returns-in_err-split_leaf-claus
 returns-in_err-split_leaf-clause-full g c = λ h.
     let full : IsSplitFull c.args.table.now = search rules in
     (inr (root_full g.O.OpClass.meaning c.args.table.now c.args.descent.now c.requires.shape c.requires.stands c.requires.elsewhere c.requires.no_room c.requires.root), split_near c.args.table.now full)
+
+pub returns-in-Put-clause-latches : goal.returns-in-Put-clause-latches
+returns-in-Put-clause-latches g c = λ h.
+    let t = c.args.table.now in
+    let d = c.args.descent.now in
+    let t1 = c.split_leaf.new.table in
+    let d2 = c.split_leaf.new.descent in
+    let (parts, calm, e) = subst (λ (o : SplitOut). IsSplitOut g.O.OpClass.meaning t t1 d d2 o) c.in-Put.is c.in_ok-split_leaf.ensures.ok in
+    put_free t t1 c.release_latches.new.table c.args.seat d d2 calm.latches (ap (λ (z : Descending _). z.stand) e) (ap (λ (z : Descending _). z.parent) e) c.release_latches.ensures.table h
+
+pub returns-in-LeftOut-clause-latches : goal.returns-in-LeftOut-clause-latches
+returns-in-LeftOut-clause-latches g c = λ h.
+    let t = c.args.table.now in
+    let d = c.args.descent.now in
+    let t1 = c.split_leaf.new.table in
+    let d2 = c.split_leaf.new.descent in
+    let (calm, ways) = subst (λ (o : SplitOut). IsSplitOut g.O.OpClass.meaning t t1 d d2 o) c.in-LeftOut.is c.in_ok-split_leaf.ensures.ok in
+    ⊎_elim (λ w. holds_same t t1 c.args.seat d d2 calm.latches (ap (λ (z : Descending _). z.stand) w.0) (ap (λ (z : Descending _). z.parent) w.0) h)
+    (λ w. holds_same t t1 c.args.seat d d2 calm.latches (ap (λ (z : Descending _). z.stand) w.0) (ap (λ (z : Descending _). z.parent) w.0) h) ways

@@ -1,9 +1,15 @@
-use Rattle.std.proofs.Common.{ap, ◌∙◌, subst}
-use Rattle.spg_tree.specs.Table.{Table, sheets_of}
+use Rattle.std.proofs.Common.{◌≡◌, ℕ, ◌<◌, IfSome, Some, sym, ap, ◌∙◌, subst}
+use Rattle.spg_forest.specs.Classes.{down_of}
+use Rattle.spg_page.specs.Reads.{frame_in}
+use Rattle.spg_tree.specs.Table.{Table, sheets_of, latch_at, tuple_at}
+use Rattle.spg_tree.specs.Descents.{in_nulls}
 use Rattle.spg_descend.specs.declared.enter.Entered.{Entered}
-use Rattle.spg_descend.specs.Follows.{FollowsNode, CarriesBelow}
-use Rattle.spg_core.specs.Stepping.{SamePages}
+use Rattle.spg_descend.specs.Leaves.{stand_block}
+use Rattle.spg_descend.specs.Follows.{FollowsNode, CarriesBelow, tuple_place, link_of, stand_below}
+use Rattle.spg_core.specs.Stepping.{SamePages, StandsAt}
+use Rattle.spg_core.proofs.Stands.{child_stands, here_there}
 use Rattle.spg_core.proofs.Moves.{down_out}
+use Rattle.spg_core.proofs.Holding.{follow_holds, back_holds}
 use Rattle.spg_core.proofs.insert.go_down.Goals as goal
 use Rattle.spg_core.proofs.insert.go_down.Goals.{then-chosen, else-chosen}
 
@@ -22,3 +28,39 @@ returns-in-In-clause-ok g c =
     let rest = c.in_ok-chosen.chosen.rest in
     down_out m t t1 c.if-chosen.table d d2 c.args.seat node rest c.requires.shape c.requires.inner c.requires.stands c.in_ok-chosen.ensures.node c.in_ok-chosen.ensures.rest c.in_ok-chosen.ensures.goes
     (subst (λ (e : Entered). FollowsNode m t t1 d d2 c.args.seat node rest e) c.in-In.is c.in_ok-entered.ensures.ok) (subst (λ (e : Entered). CarriesBelow m t t1 d d2 node rest e) c.in-In.is c.in_ok-entered.ensures.carries) same
+
+pub returns-in-In-clause-latches : goal.returns-in-In-clause-latches
+returns-in-In-clause-latches g c = λ h.
+    let t = c.args.table.now in
+    let d = c.args.descent.now in
+    let m = g.O.OpClass.meaning in
+    let t1 = c.follow.new.table in
+    let d2 = c.follow.new.descent in
+    let node = c.in_ok-chosen.chosen.node in
+    let rest = c.in_ok-chosen.chosen.rest in
+    let st = stand_below (link_of t (tuple_place d.stand) node) in
+    let same : (b : ℕ) → latch_at c.if-chosen.table b ≡ latch_at t1 b = elim c.if-chosen.branch [
+      | then-chosen w ↦ (λ b. ap (λ (z : Table). latch_at z b) (w.table-is ∙ w.turn_counter.ensures))
+      | else-chosen w ↦ (λ b. ap (λ (z : Table). latch_at z b) w.table-is)
+    ] in
+    let (unheld, et, ed) = subst (λ (e : Entered). FollowsNode m t t1 d d2 c.args.seat node rest e) c.in-In.is c.in_ok-entered.ensures.ok in
+    let stands : StandsAt t (in_nulls d) st (Some (tuple_place d.stand, node)) = child_stands m t (in_nulls d) d.stand d.parent node c.requires.shape c.requires.stands c.requires.inner c.in_ok-chosen.ensures.node in
+    let within = here_there m t (in_nulls d) st (Some (tuple_place d.stand, node)) c.requires.shape stands in
+    follow_holds t t1 c.if-chosen.table c.args.seat d d2 st node (down_of m d.recon (frame_in (tuple_at t (tuple_place d.stand))) node) rest c.requires.inner
+    (subst (λ (n : ℕ). IfSome (stand_block st) (λ b. b < n)) (sym c.page_count-count.ensures.sound.latched) within) et same ed h
+
+pub returns-in-Busy-clause-latches : goal.returns-in-Busy-clause-latches
+returns-in-Busy-clause-latches g c = λ h.
+    let t = c.args.table.now in
+    let d = c.args.descent.now in
+    let m = g.O.OpClass.meaning in
+    let t1 = c.follow.new.table in
+    let d2 = c.follow.new.descent in
+    let node = c.in_ok-chosen.chosen.node in
+    let rest = c.in_ok-chosen.chosen.rest in
+    let same : (b : ℕ) → latch_at c.if-chosen.table b ≡ latch_at t1 b = elim c.if-chosen.branch [
+      | then-chosen w ↦ (λ b. ap (λ (z : Table). latch_at z b) (w.table-is ∙ w.turn_counter.ensures))
+      | else-chosen w ↦ (λ b. ap (λ (z : Table). latch_at z b) w.table-is)
+    ] in
+    let (eb, held, other, et, ed) = subst (λ (e : Entered). FollowsNode m t t1 d d2 c.args.seat node rest e) c.in-Busy.is c.in_ok-entered.ensures.ok in
+    back_holds t t1 c.if-chosen.table c.args.seat d d2 et same ed h

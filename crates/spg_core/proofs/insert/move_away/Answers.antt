@@ -4,6 +4,7 @@ use Rattle.spg_descend.specs.Below.{IsTicked}
 use Rattle.spg_descend.specs.Follows.{tuple_place}
 use Rattle.spg_move.specs.Moves.{move_cost}
 use Rattle.spg_core.proofs.Moves.{put_out, kinds_grow, at_chain, not_empty, moves_below}
+use Rattle.spg_core.proofs.Holding.{put_free}
 use Rattle.spg_core.proofs.insert.move_away.Goals as goal
 
 pub move_chain-requires-clause-spot : goal.move_chain-requires-clause-spot
@@ -20,3 +21,11 @@ returns-clause-ok g c =
     let ticked : IsTicked t t1 = c.in_ok-move_chain.ensures.ticked in
     put_out g.O.OpClass.meaning t t1 c.release_latches.new.table d d c.args.seat c.requires.elsewhere (λ key C. let (y, A) = c.in_ok-move_chain.ensures.ok key C in (move_cost, moved (tuple_place d.stand) y, A)) ticked.limit (kinds_grow t t1 d ticked.roots)
     c.release_latches.ensures.table refl
+
+pub returns-clause-latches : goal.returns-clause-latches
+returns-clause-latches g c = λ h.
+    let t = c.args.table.now in
+    let d = c.args.descent.now in
+    let t1 = c.move_chain.new.table in
+    let ticked : IsTicked t t1 = c.in_ok-move_chain.ensures.ticked in
+    put_free t t1 c.release_latches.new.table c.args.seat d d ticked.latches refl refl c.release_latches.ensures.table h

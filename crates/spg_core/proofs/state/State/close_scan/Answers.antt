@@ -2,7 +2,9 @@ use Rattle.std.proofs.Common.{refl, sym, subst, get_or}
 use Rattle.spg_core.specs.declared.slot.Slot.TheVariants.{Free}
 use Rattle.spg_core.specs.Stage.{IsRead}
 use Rattle.spg_core.specs.Sections.{HasMet}
-use Rattle.spg_core.proofs.Scans.{is_read, room_left, told_events, closes_seats, kept_still, kept_closes, closes_scan, stage_is}
+use Rattle.spg_core.proofs.Scans.{is_read, told_events, closes_seats, kept_closes, closes_scan}
+use Rattle.spg_core.proofs.Slots.{stage_is}
+use Rattle.spg_core.proofs.Steps.{kept_still, room_left}
 use Rattle.spg_core.proofs.state.State.close_scan.Goals as goal
 
 pub close_slot-requires-clause-scan : goal.close_slot-requires-clause-scan
@@ -23,7 +25,7 @@ set_slot-requires-after_bounds g c κs within =
     closes_seats g.O.OpClass.meaning s c.self.invariant c.args.seat c.in_ok-told.closed c.close_slot.new.slots.items (get_or s.slots.items c.args.seat Free) c.in_ok-told.ensures.ok
 
 pub invariant_of-self : goal.invariant_of-self
-invariant_of-self g c = kept_still g.O.OpClass.meaning c.self.inside c.self.invariant c.close_slot.new.slots c.in_err-told.ensures.err
+invariant_of-self g c = kept_still g.O.OpClass.meaning c.self.inside c.self.invariant c.self.inside.table c.close_slot.new.slots refl c.in_err-told.ensures.err
 
 pub invariant_of-self-2 : goal.invariant_of-self-2
 invariant_of-self-2 g c =

@@ -9,10 +9,11 @@ use Rattle.spg_core.specs.Seen.{Seen}
 use Rattle.spg_core.specs.Operations.{StepsFrom, IsOutgrownBy}
 use Rattle.spg_core.specs.Sections.{IsOutOf, IsHeavyFor}
 use Rattle.spg_core.specs.Stepping.{IsNearLimit}
+use Rattle.spg_core.specs.Latches.{NoLatches, LatchesAfter}
 use Rattle.spg_tree.specs.Table.{Table}
 use Rattle.spg_core.proofs.Slots.{stage_is, table_is, inserting_open}
 use Rattle.spg_core.proofs.Steps.{kept_still, room_left}
-use Rattle.spg_core.proofs.Inserts.{can_step, heavy_for, kept_step, put_row, kept_put, row_claimed, steps_length, seen_step, seen_put}
+use Rattle.spg_core.proofs.Inserts.{can_step, heavy_for, kept_step, put_row, kept_put, row_claimed, steps_length, seen_step, seen_put, seen_changes, latches_step, latches_put}
 use Rattle.spg_core.proofs.state.State.insert_step.Goals as goal
 use Rattle.spg_core.proofs.state.State.insert_step.Goals.{then-has_ended, else-has_ended}
 
@@ -103,3 +104,27 @@ returns-clause-ok g c =
           subst (λ (v : Seen _ _ _ _). IsOutOf seen v seat c.in_ok-out.out (stage_of slot)) (sym w.self-is)
           (seen_step m g.O.OpClass.codes s c.self.invariant seat seen c.self.view_is c.in_ok-out.out slot c.step_slot.new.table c.step_slot.new.slots.items c.requires.first refl other c.in_ok-out.ensures.ok)
     ])
+
+pub returns-clause-latches : goal.returns-clause-latches
+returns-clause-latches g c =
+    let m = g.O.OpClass.meaning in
+    let s = c.self.inside in
+    let seen = c.args.self.now in
+    let seat = c.args.seat in
+    let slot = get_or s.slots.items seat Free in
+    elim c.if-has_ended.branch [
+      | then-has_ended w ↦
+          let put : c.in_ok-out.out ≡ outs.Put = c.has_ended.ensures.0 w.if-has_ended.true in
+          let steps = subst (λ (o : InsertOut). StepsFrom m s.table c.step_slot.new.table s.slots.items c.step_slot.new.slots.items seat o slot) put c.in_ok-out.ensures.ok in
+          subst (λ (o : InsertOut). LatchesAfter c.if-has_ended.self seat o) (sym put) (subst (λ (v : Seen _ _ _ _). NoLatches v.table) (sym w.self-is) (latches_put m g.O.OpClass.codes s c.self.invariant seat seen c.self.view_is slot c.step_slot.new.table c.step_slot.new.slots.items c.requires.first refl steps))
+      | else-has_ended w ↦
+          let other : c.in_ok-out.out ≡ outs.Put → ⊥ = λ e. false≢true (sym w.if-has_ended.false ∙ c.has_ended.ensures.1 e) in
+          subst (λ (v : Seen _ _ _ _). LatchesAfter v seat c.in_ok-out.out) (sym w.self-is)
+          (latches_step m g.O.OpClass.codes s c.self.invariant seat seen c.self.view_is c.in_ok-out.out slot c.step_slot.new.table c.step_slot.new.slots.items c.requires.first refl other c.in_ok-out.ensures.ok)
+    ]
+
+pub returns-in_err-out-clause-within : goal.returns-in_err-out-clause-within
+returns-in_err-out-clause-within g c = seen_changes g.O.OpClass.meaning c.self.inside c.self.invariant c.args.self.now c.self.view_is c.args.seat c.requires.first c.step_slot.new.table
+
+pub returns-clause-within : goal.returns-clause-within
+returns-clause-within g c = seen_changes g.O.OpClass.meaning c.self.inside c.self.invariant c.args.self.now c.self.view_is c.args.seat c.requires.first c.if-has_ended.self.table

@@ -1,6 +1,7 @@
 use Rattle.std.proofs.Common.{refl, arith}
 use Rattle.spg_core.proofs.Slots.{all_free, all_stages_free}
 use Rattle.spg_core.proofs.Steps.{new_pages}
+use Rattle.spg_core.proofs.Holding.{none_latched}
 use Rattle.spg_core.proofs.state.State.new.Goals as goal
 
 pub invariant_of-result : goal.invariant_of-result
@@ -16,6 +17,7 @@ invariant_of-result g c =
       seats = rw slots refl;
       slots = rw (events, slots) (λ s. rw (all_free 64 s) refl);
       alone = rw slots (λ s n. all_free 64 s);
+      latches = rw (slots, table) (λ b. none_latched 3 b);
       states = rw (events, c.new-2.ensures) (λ r. refl);
       keys = rw (events, c.new-2.ensures) (λ r. refl);
       room = rw slots (omega arith);

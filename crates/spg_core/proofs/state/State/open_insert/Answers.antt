@@ -8,13 +8,14 @@ use Rattle.spg_rows.specs.Table.{SetsKey}
 use Rattle.spg_tree.specs.Table.{Table, sheets_of}
 use Rattle.spg_tree.specs.Descents.{Descending}
 use Rattle.spg_core.specs.Seen.{logged}
+use Rattle.spg_core.specs.Stage as stages
 use Rattle.spg_core.specs.Stage.{descending}
 use Rattle.spg_descend.specs.Enters.{opened_for, CarriesNew}
 use Rattle.spg_core.specs.declared.slot.Slot.TheVariants.{Free, Insert}
 use Rattle.spg_core.specs.Slot.{stage_of}
 use Rattle.spg_core.proofs.Slots.{stage_set, stage_is, logged_is, free_slot, room_for_all, seen_as, table_is}
-use Rattle.spg_core.proofs.Steps.{kept_logged, kept_with, opened_rows, pages_opened, pages_are, rows_are, sane, unclaimed_row, unclaimed_seen, claimed_seen, unclaimed_fresh, on_err}
-use Rattle.spg_core.proofs.Opens.{opened_fits}
+use Rattle.spg_core.proofs.Steps.{kept_logged, kept_with, opened_rows, pages_opened, pages_are, rows_are, sane, unclaimed_row, unclaimed_seen, claimed_seen, unclaimed_fresh, free_holds, on_err}
+use Rattle.spg_core.proofs.Opens.{opened_fits, opened_holds}
 use Rattle.spg_core.proofs.state.State.open_insert.Goals as goal
 
 pub returns-then-not-is_free-clause-row_used : goal.returns-then-not-is_free-clause-row_used
@@ -82,7 +83,8 @@ invariant_of-self-2 g c =
     let e = OpenInsert seat row key in
     let slot = Insert key c.in_ok-descent.descent in
     let events = c.append.ensures.events ∙ ap (λ j. j ++ OpenInsert seat row c.in_ok-told.told ∷ []) c.reserve.ensures.events ∙ ap (λ k. s.journal.events ++ OpenInsert seat row k ∷ []) c.in_ok-told.ensures in
-    let none = free_slot m s.table past seat (get_or s.slots.items seat Free) (kept.slots seat) (sym (stage_is s c.args.self.now c.self.view_is seat) ∙ c.requires.free) in
+    let was : stage_of (get_or s.slots.items seat Free) ≡ stages.free = sym (stage_is s c.args.self.now c.self.view_is seat) ∙ c.requires.free in
+    let none = free_slot m s.table past seat (get_or s.slots.items seat Free) (kept.slots seat) was in
     let unclaimed = unclaimed_row m s kept row (sym c.state.ensures ∙ c.is_free.ensures.0 c.if-not-is_free.false) in
     let keys = subst (λ k. SetsKey s.rows c.claim.new.self row (Some k)) c.in_ok-claimed.ensures c.in_ok-claim.ensures.key in
     let fresh : IsFresh (spots (sheets_of s.table)) row = unclaimed_fresh m s.table past row (sane m s kept) unclaimed (pages_are m s kept) in
@@ -91,7 +93,7 @@ invariant_of-self-2 g c =
     let fits = opened_fits m s.table past seat row key c.in_ok-descent.descent ed carries fresh in
     kept_logged m s kept e slot s.table c.claim.new.self c.set_slot.new.slots c.append.new.self c.requires.first c.set_slot.ensures.items events
     (none, unclaimed) tt fits (pages_opened m s.table seat row key past (sane m s kept) unclaimed (pages_are m s kept)) (opened_rows m s.rows c.claim.new.self past seat row key (rows_are m s kept) c.in_ok-claim.ensures.state keys)
-    (room_for_all _ _ seat slot _ _ c.set_slot.ensures.items kept.seats c.in_ok-reserve.ensures.ok c.append.ensures.spare) refl
+    (opened_holds m s.table seat row key c.in_ok-descent.descent ed (free_holds m s kept seat c.requires.first was)) (room_for_all _ _ seat slot _ _ c.set_slot.ensures.items kept.seats c.in_ok-reserve.ensures.ok c.append.ensures.spare) refl
 
 pub returns-clause-ok : goal.returns-clause-ok
 returns-clause-ok g c =

@@ -1,14 +1,14 @@
-use Rattle.std.proofs.Common.{◌≡◌, ◌++◌, ◌∷◌, [], get_or, map, sym, ap, ◌∙◌, arith}
+use Rattle.std.proofs.Common.{◌≡◌, ◌++◌, ◌∷◌, [], get_or, map, refl, sym, ap, ◌∙◌, arith}
 use Rattle.spg_rows.specs.declared.event.Event.TheVariants.{OpenScan}
 use Rattle.spg_core.specs.declared.slot.Slot.TheVariants.{Free}
 use Rattle.spg_core.specs.Slot.{stage_of}
-use Rattle.spg_core.proofs.Scans.{kept_with_room, kept_opens, opens_scan, stage_is}
-use Rattle.spg_core.proofs.Slots.{seen_as}
-use Rattle.spg_core.proofs.Steps.{on_err}
+use Rattle.spg_core.proofs.Scans.{kept_opens, opens_scan}
+use Rattle.spg_core.proofs.Slots.{seen_as, stage_is}
+use Rattle.spg_core.proofs.Steps.{kept_with, on_err}
 use Rattle.spg_core.proofs.state.State.open_scan.Goals as goal
 
 pub invariant_of-self : goal.invariant_of-self
-invariant_of-self g c = kept_with_room g.O.OpClass.meaning c.self.inside c.self.invariant c.reserve.new.self c.reserve.ensures.events c.reserve.ensures.room
+invariant_of-self g c = kept_with g.O.OpClass.meaning c.self.inside c.self.invariant c.self.inside.rows c.reserve.new.self refl c.reserve.ensures.events c.reserve.ensures.room
 
 pub invariant_of-self-2 : goal.invariant_of-self-2
 invariant_of-self-2 g c =

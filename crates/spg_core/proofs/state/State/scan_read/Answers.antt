@@ -1,7 +1,8 @@
 use Rattle.std.proofs.Common.{◌<◌, subst, get_or}
 use Rattle.spg_core.specs.declared.slot.Slot.TheVariants.{Free}
 use Rattle.spg_core.specs.Stage.{held_count}
-use Rattle.spg_core.proofs.Scans.{can_read, kept_reads_out, reads_item_out, same_out, stage_is}
+use Rattle.spg_core.proofs.Scans.{can_read, kept_reads_out, reads_item_out, same_out}
+use Rattle.spg_core.proofs.Slots.{stage_is}
 use Rattle.spg_core.proofs.state.State.scan_read.Goals as goal
 
 pub read_slot-requires-clause-scan : goal.read_slot-requires-clause-scan
