@@ -25,7 +25,7 @@ use Rattle.spg_split.specs.Splits.{IsAtRoot, IsCalm, split_cost}
 use Rattle.spg_split.specs.Below.{IsLedTo, SplitsWithout, IsChainSplit}
 use Rattle.spg_split.specs.declared.split.SplitOut.TheVariants.{LeftOut}
 use Rattle.spg_core.specs.declared.answer.InsertOut.TheVariants as outs
-use Rattle.spg_core.specs.Stepping.{HasInnerRoot, StandsAt, Stands, SamePages, GoesOn, IsRootFull, IsOutgrown, RootsGrow, IsStepOut}
+use Rattle.spg_core.specs.Stepping.{HasInnerRoot, StandsAt, Stands, SamePages, GoesOn, IsRootFull, RootsGrow, IsStepOut}
 use Rattle.spg_core.proofs.Stands.{root_range, stand_put, stands_same, child_stands, released_same, latched_same, same_trans, root_leaf}
 use Rattle.spg_core.proofs.Trees.{place_tree}
 
@@ -80,11 +80,7 @@ freed_same t a b seat = same_trans t (released t a seat) (released (released t a
 freed_touched : (t : Table) (a b : Option ℕ) (seat : ℕ) → (released (released t a seat) b seat).touched ≡ t.touched
 freed_touched t a b seat = released_touched (released t a seat) b seat ∙ released_touched t a seat
 
--- at an empty downlink the root is an inner tuple
-pub empty_outgrown : {Recon : Type 0} (t : Table) (d : Descending Recon) → Stands t d → d.stand ≡ Empty → IsOutgrown t d
-empty_outgrown t d at e = inl (subst (λ (s : Stand). StandsAt t (in_nulls d) s d.parent) e at).0
-
--- below the root it is one too
+-- below the root of its tree the root is an inner tuple
 pub below_root : {Recon : Type 0} (t : Table) (d : Descending Recon) → Stands t d → IsAtNoInner t d.stand → (IsAtRoot d.stand → ⊥) → HasInnerRoot t (in_nulls d)
 below_root t d at off low = go d.stand d.parent at off.0 low
   where
