@@ -14,7 +14,7 @@ ghost use Rattle.spg_descend.specs.Puts.{Fits};
 ghost use Rattle.spg_descend.specs.Rules.{IsAtNoInner, MayMove};
 ghost use Rattle.spg_split.specs.Splits.{IsAtRoot};
 ghost use Rattle.spg_core.specs.declared.insert.Chosen.TheVariants.{Node, Add};
-ghost use Rattle.spg_core.specs.Stepping.{Stands, IsOutgrown, IsNearLimit, IsStepOut, named};
+ghost use Rattle.spg_core.specs.Stepping.{Stands, IsOutgrown, IsNearLimit, IsStepOut, IsChosen, named};
 ghost use Rattle.spg_core.specs.Latches.{InsertHolds, HoldsAfter};
 
 use crate::answer::InsertOut;
