@@ -213,6 +213,7 @@ fn widen<O: OpClass>(
 {
     let was = stand_block(descent.stand());
     add_node(alloc, table, descent, seat, at, label)?;
+    let _count = table.page_count();
     hold_anew(table, descent, was, seat);
     Ok(InsertOut::Restructured)
 }

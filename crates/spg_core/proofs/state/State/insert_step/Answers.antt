@@ -1,4 +1,4 @@
-use Rattle.std.proofs.Common.{rules, ◌≡◌, ◌<◌, sym, refl, ◌∙◌, subst, get_or, arith, length}
+use Rattle.std.proofs.Common.{rules, ◌≡◌, ◌<◌, ◌+◌, ◌^◌, sym, refl, ◌∙◌, subst, get_or, arith, length}
 use Rattle.std.proofs.lemmas.Bool.{false≢true}
 use Rattle.spg_core.specs.declared.answer.InsertOut.{InsertOut}
 use Rattle.spg_core.specs.declared.answer.InsertOut.TheVariants as outs
@@ -36,6 +36,17 @@ returns-in_err-out-clause-full g c = λ h.
       subst (λ (x : Stage _ _ _ _). IsHeavyFor g.O.OpClass.meaning c.args.self.now x) (sym (stage_is s c.args.self.now c.self.view_is seat))
           (heavy_for g.O.OpClass.meaning g.O.OpClass.codes s c.self.invariant seat c.args.self.now c.self.view_is slot (c.self.invariant.slots seat) both.0),
       subst (λ (t : Table). IsNearLimit t) (sym (table_is s c.args.self.now c.self.view_is seat)) both.1,
+    )
+
+pub returns-in_err-out-clause-clock : goal.returns-in_err-out-clause-clock
+returns-in_err-out-clause-clock g c = λ h.
+    let s = c.self.inside in
+    let seat = c.args.seat in
+    let slot = get_or s.slots.items seat Free in
+    let both : IsOutgrownBy s.table slot × (s.table.clock + 1 ≡ 2 ^ 48) = search rules in (
+      subst (λ (x : Stage _ _ _ _). IsHeavyFor g.O.OpClass.meaning c.args.self.now x) (sym (stage_is s c.args.self.now c.self.view_is seat))
+          (heavy_for g.O.OpClass.meaning g.O.OpClass.codes s c.self.invariant seat c.args.self.now c.self.view_is slot (c.self.invariant.slots seat) both.0),
+      subst (λ (t : Table). t.clock + 1 ≡ 2 ^ 48) (sym (table_is s c.args.self.now c.self.view_is seat)) both.1,
     )
 
 pub end_insert-row-requires-clause-seats : goal.end_insert-row-requires-clause-seats
