@@ -1,8 +1,8 @@
 use Rattle.std.proofs.Common.{refl, ap}
 use Rattle.spg_tree.specs.Descents.{Descending, in_nulls}
 use Rattle.spg_move.specs.Splits.{split_cost}
-use Rattle.spg_core.proofs.Inner.{stays_out}
-use Rattle.spg_core.proofs.insert.at_inner.Goals as goal
+use Rattle.spg_core.proofs.Inners.{stays_out}
+use Rattle.spg_core.proofs.inner.at_inner.Goals as goal
 
 pub returns-in_ok-split_tuple-in-Split-clause-ok : goal.returns-in_ok-split_tuple-in-Split-clause-ok
 returns-in_ok-split_tuple-in-Split-clause-ok g c =

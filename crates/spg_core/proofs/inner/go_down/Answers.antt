@@ -10,8 +10,8 @@ use Rattle.spg_core.specs.Stepping.{SamePages, StandsAt}
 use Rattle.spg_core.proofs.Stands.{child_stands, here_there}
 use Rattle.spg_core.proofs.Moves.{down_out}
 use Rattle.spg_core.proofs.Holding.{follow_holds, back_holds}
-use Rattle.spg_core.proofs.insert.go_down.Goals as goal
-use Rattle.spg_core.proofs.insert.go_down.Goals.{then-by_turn, else-by_turn}
+use Rattle.spg_core.proofs.inner.go_down.Goals as goal
+use Rattle.spg_core.proofs.inner.go_down.Goals.{then-by_turn, else-by_turn}
 
 pub returns-in-In-clause-ok : goal.returns-in-In-clause-ok
 returns-in-In-clause-ok g c =

@@ -1,7 +1,7 @@
 use Rattle.std.proofs.Common.{ap, ◌∙◌}
 use Rattle.spg_descend.specs.Leaves.{stand_block}
-use Rattle.spg_core.proofs.Inner.{widen_out, widen_holds}
-use Rattle.spg_core.proofs.insert.widen.Goals as goal
+use Rattle.spg_core.proofs.Inners.{widen_out, widen_holds}
+use Rattle.spg_core.proofs.inner.widen.Goals as goal
 
 pub returns-clause-ok : goal.returns-clause-ok
 returns-clause-ok g c = widen_out g.O.OpClass.meaning c.args.table.now c.add_node.new.table c.hold_anew.new.table c.args.descent.now c.add_node.new.descent c.args.seat c.args.at _ c.requires.shape c.requires.of_key c.requires.stands c.requires.inner
