@@ -1,17 +1,15 @@
 -- An insert at an inner tuple that gains a node, or that is split.
-use Rattle.std.proofs.Common.{◌≡◌, ℕ, ◌<◌, Bool, ⊎_elim, Option, Some, None, length, refl, sym, ap, ◌∙◌, subst, inl}
+use Rattle.std.proofs.Common.{◌≡◌, ℕ, ◌<◌, Bool, ⊎_elim, Option, Some, None, length, sym, ap, ◌∙◌, subst, inl}
 use Rattle.std.specs.Prelude.{ℤ}
 use Rattle.spg_opclass.specs.Meaning.{Meaning}
 use Rattle.spg_forest.specs.View.{Place}
 use Rattle.spg_forest.specs.Pages.{moved}
-use Rattle.spg_forest.specs.Sheets.{sheet_at}
 use Rattle.spg_forest.specs.Shape.{Shape}
 use Rattle.spg_forest.specs.Section.{Leaves, Cost}
 use Rattle.spg_tree.specs.Table.{Table, sheets_of, latch_at}
 use Rattle.spg_tree.specs.Descents.{Descending, in_nulls}
 use Rattle.spg_tree.specs.declared.stand.Stand.{Stand}
 use Rattle.spg_tree.specs.declared.stand.Stand.TheVariants.{Start, Root, At, Empty}
-use Rattle.spg_descend.specs.Below.{IsTicked}
 use Rattle.spg_descend.specs.Carried.{root_of, IsCarried}
 use Rattle.spg_descend.specs.Follows.{IsAtInner, IsOpenTo, tuple_place, latched}
 use Rattle.spg_descend.specs.Leaves.{released, stand_block, parent_block}
@@ -19,7 +17,7 @@ use Rattle.spg_descend.specs.Puts.{IsQuiet}
 use Rattle.spg_move.specs.Answers.{IsInnerOf}
 use Rattle.spg_move.specs.Nodes.{node_cost, IsNodeAdded}
 use Rattle.spg_core.specs.declared.answer.InsertOut.TheVariants as outs
-use Rattle.spg_core.specs.Stepping.{HasInnerRoot, StandsAt, Stands, SamePages, GoesOn, IsStepOut}
+use Rattle.spg_core.specs.Stepping.{HasInnerRoot, StandsAt, Stands, SamePages, IsStepOut}
 use Rattle.spg_core.specs.Latches.{InsertHolds, left_block}
 use Rattle.spg_core.proofs.Stands.{root_range, inner_stand}
 use Rattle.spg_core.proofs.Moves.{left_out, kinds_grow, led_goes}
