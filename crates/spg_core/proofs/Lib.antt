@@ -5,6 +5,7 @@ pub mod Weights
 pub mod Trees
 pub mod Limits
 pub mod Holding
+pub mod Inners
 pub mod Founds
 pub mod Slots
 pub mod Steps

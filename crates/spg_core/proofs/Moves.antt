@@ -173,8 +173,8 @@ put_out {Key} {Recon} m t t1 t2 d d2 seat off adds limit grow freed row =
       row,
     )
 
--- the leaves were divided without that of an insert, and then its latches were changed
-left_out : {Key Recon Cond : Type 0} (m : Meaning Key Recon Cond) (t t1 t2 : Table) (d d2 : Descending Recon) (seat : ℕ) (cost : Cost) (f : Place → Place) → IsAtNoInner t d.stand →
+-- the index was changed without the row of an insert, and then its latches were changed
+pub left_out : {Key Recon Cond : Type 0} (m : Meaning Key Recon Cond) (t t1 t2 : Table) (d d2 : Descending Recon) (seat : ℕ) (cost : Cost) (f : Place → Place) → (d.stand ≡ Start → ⊥) →
     Leaves m (sheets_of t) (sheets_of t1) t1.touched cost 0 f → t1.limit ≡ t.limit → RootsGrow t t1 d → GoesOn m t t1 d d2 → SamePages t1 t2 → t2.touched ≡ t1.touched → IsStepOut m t t2 d d2 seat outs.Restructured
 left_out {Key} {Recon} m t t1 t2 d d2 seat cost f off L limit grow (row, nulls, at, carries) (eS, el) et = (
   off,
@@ -217,17 +217,16 @@ stands_led t nulls z None root tree led inner = led
 stands_led t nulls z (Some (p, i)) root tree led inner = (root, tree, led, inl inner)
 
 -- it goes on from there
-chain_goes : {Key Recon Cond : Type 0} (m : Meaning Key Recon Cond) (t t1 : Table) (d d2 : Descending Recon) (z : Place) (spread : ℕ) → ((key : Option Key) × IsCarried m (sheets_of t) d key) → HasInnerRoot t (in_nulls d) → IsTicked t t1 →
-    (d2.row ≡ d.row) → (in_nulls d2 ≡ in_nulls d) → (d2.stand ≡ At z) → (d2.parent ≡ d.parent) → SplitsWithout m t t1 d d2 z spread → GoesOn m t t1 d d2
-chain_goes {Key} {Recon} m t t1 d d2 z spread (key, C) root ticked row nulls stand parent W =
-    let H : Shape m (sheets_of t1) = W.leaves.section.shape in
-    let tree : (sheet_at (sheets_of t1) z.block).nulls ≡ in_nulls d2 = place_tree m (sheets_of t1) H d2 key z (W.carries key C) stand in
+pub led_goes : {Key Recon Cond : Type 0} (m : Meaning Key Recon Cond) (t t1 : Table) (d d2 : Descending Recon) (z : Place) → ((key : Option Key) × IsCarried m (sheets_of t) d key) → HasInnerRoot t (in_nulls d) → IsTicked t t1 →
+    (d2.row ≡ d.row) → (in_nulls d2 ≡ in_nulls d) → (d2.stand ≡ At z) → (d2.parent ≡ d.parent) → Shape m (sheets_of t1) → IsAtInner t1 (At z) → IsLedTo t1 d.parent z → ((key : Option Key) → IsCarried m (sheets_of t) d key → IsCarried m (sheets_of t1) d2 key) → GoesOn m t t1 d d2
+led_goes {Key} {Recon} m t t1 d d2 z (key, C) root ticked row nulls stand parent H inner led carries =
+    let tree : (sheet_at (sheets_of t1) z.block).nulls ≡ in_nulls d2 = place_tree m (sheets_of t1) H d2 key z (carries key C) stand in
     let root1 : HasInnerRoot t1 (in_nulls d) = ticked.roots (root_of (in_nulls d)) (root_range (in_nulls d)).1 ∙ root in
-    let at : StandsAt t1 (in_nulls d2) (At z) d.parent = stands_led t1 (in_nulls d2) z d.parent (subst (λ (b : Bool). HasInnerRoot t1 b) (sym nulls) root1) tree W.link W.inner in (
+    let at : StandsAt t1 (in_nulls d2) (At z) d.parent = stands_led t1 (in_nulls d2) z d.parent (subst (λ (b : Bool). HasInnerRoot t1 b) (sym nulls) root1) tree led inner in (
       row,
       nulls,
       subst (λ (p : Option (Place × ℕ)). StandsAt t1 (in_nulls d2) d2.stand p) (sym parent) (subst (λ (s : Stand). StandsAt t1 (in_nulls d2) s d.parent) (sym stand) at),
-      W.carries,
+      carries,
     )
 
 -- a chain was divided without the leaf of the insert
@@ -239,4 +238,5 @@ chain_out {Key} {Recon} m t t1 t2 d d2 seat of_key off root ticked (z, ways) sam
     ways
   where
     one : (spread : ℕ) → d2.row ≡ d.row → in_nulls d2 ≡ in_nulls d → d2.stand ≡ At z → d2.parent ≡ d.parent → SplitsWithout m t t1 d d2 z spread → IsStepOut m t t2 d d2 seat outs.Restructured
-    one spread row nulls stand parent W = left_out m t t1 t2 d d2 seat (split_cost d.stand spread) (moved (tuple_place d.stand) z) off W.leaves ticked.limit (kinds_grow t t1 d ticked.roots) (chain_goes m t t1 d d2 z spread of_key root ticked row nulls stand parent W) same et
+    one spread row nulls stand parent W = left_out m t t1 t2 d d2 seat (split_cost d.stand spread) (moved (tuple_place d.stand) z) off.0 W.leaves ticked.limit (kinds_grow t t1 d ticked.roots)
+        (led_goes m t t1 d d2 z of_key root ticked row nulls stand parent W.leaves.section.shape W.inner W.link W.carries) same et

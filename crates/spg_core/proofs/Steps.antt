@@ -119,7 +119,6 @@ module _ {O Key Recon Cond : Type 0} (m : Meaning Key Recon Cond) where
         states = rw now row.states;
         keys = rw now row.keys;
         room = room;
-        plain = kept.plain;
         limit = limit ∙ kept.limit;
       }
 
@@ -147,7 +146,6 @@ module _ {O Key Recon Cond : Type 0} (m : Meaning Key Recon Cond) where
         states = kept.states;
         keys = kept.keys;
         room = rw slots_are (omega (arith, kept.room, open_count-set-le s.slots.items seat slot was));
-        plain = kept.plain;
         limit = limit ∙ kept.limit;
       }
 
@@ -165,7 +163,6 @@ module _ {O Key Recon Cond : Type 0} (m : Meaning Key Recon Cond) where
     states = rw events_are kept.states;
     keys = rw events_are kept.keys;
     room = omega (arith, kept.room, room);
-    plain = kept.plain;
     limit = kept.limit;
   })
 
@@ -182,7 +179,6 @@ module _ {O Key Recon Cond : Type 0} (m : Meaning Key Recon Cond) where
     states = kept.states;
     keys = kept.keys;
     room = rw items kept.room;
-    plain = kept.plain;
     limit = kept.limit;
   })
 

@@ -2,6 +2,7 @@
 #![tactic(auto)]
 
 mod answer;
+mod inner;
 mod insert;
 mod latches;
 mod operations;
