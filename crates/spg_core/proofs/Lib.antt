@@ -10,6 +10,7 @@ pub mod Founds
 pub mod Slots
 pub mod Steps
 pub mod Inserts
+pub mod Going
 pub mod Opens
 pub mod Scans
 pub mod Counting

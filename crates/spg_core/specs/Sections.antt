@@ -56,6 +56,13 @@ IsOutOf old new seat out (reading s) = ⊥
 abbrev pub IsInsertOut : {O Key Recon Cond : Type 0} → Seen O Key Recon Cond → Seen O Key Recon Cond → ℕ → InsertOut → Type 0
 IsInsertOut old new seat out = IsOutOf old new seat out (stage_at old seat)
 
+-- the insert was not sent back to its start
+abbrev pub IsNoRestart : InsertOut → Type 0
+IsNoRestart outs.Descended = Unit {0}
+IsNoRestart outs.Restructured = Unit {0}
+IsNoRestart (outs.Restarted block by) = ⊥
+IsNoRestart outs.Put = Unit {0}
+
 -- the keys of the insert's tree that were ever inserted take more than 8,160 bytes
 abbrev pub IsHeavyFor : {O Key Recon Cond : Type 0} → Meaning Key Recon Cond → Seen O Key Recon Cond → Stage O Key Recon Cond → Type 0
 IsHeavyFor m seen free = ⊥

@@ -35,6 +35,15 @@ pub enum InsertOut {
     Put,
 }
 
+/// What came of the sections of an insert, one after another.
+#[derive(Clone, Copy, Debug, PartialEq, Eq)]
+pub enum InsertRan {
+    /// The row stands in the index, and the insert has ended.
+    Put,
+    /// Another seat holds the block of the root or child to be visited; it is back at its start.
+    Restarted { block: Block, by: SeatNo },
+}
+
 /// What a seat has open.
 #[derive(Clone, Copy, Debug, PartialEq, Eq)]
 pub enum OpenKind {

@@ -9,8 +9,9 @@ mod operations;
 mod slot;
 mod stat;
 mod state;
+mod through;
 
-pub use answer::{InsertOut, OpenKind, OpenRefused};
+pub use answer::{InsertOut, InsertRan, OpenKind, OpenRefused};
 pub use spg_scan::{Closed, ReadOut};
 pub use spg_tree::StepRefused;
 pub use state::State;
