@@ -23,18 +23,7 @@ use Rattle.spg_core.proofs.Stands.{root_range, inner_stand}
 use Rattle.spg_core.proofs.Moves.{left_out, kinds_grow, led_goes}
 use Rattle.spg_core.proofs.Holding.{anew_holds, inner_block}
 
--- it stands at an inner tuple of its tree
-pub inner_spot : {Recon : Type 0} (t : Table) (d : Descending Recon) → Stands t d → IsAtInner t d.stand → IsInnerOf t (in_nulls d) d.stand d.parent
-inner_spot t d at i = go d.stand d.parent at i
-  where
-    go : (st : Stand) (p : Option (Place × ℕ)) → StandsAt t (in_nulls d) st p → IsAtInner t st → IsInnerOf t (in_nulls d) st p
-    go Start p a i = absurd i.0
-    go (Root b) p a i = (a.0, i)
-    go (At x) None a i = absurd a
-    go (At x) (Some (p, j)) (root, tree, link, k) i = (i, tree, link)
-    go Empty p a i = absurd i.0
-
--- so it is not at its start
+-- at an inner tuple it is not at its start
 pub off_start : {Recon : Type 0} (t : Table) (d : Descending Recon) → IsAtInner t d.stand → d.stand ≡ Start → ⊥
 off_start t d i e = (subst (λ (s : Stand). IsAtInner t s) e i).0
 
@@ -42,7 +31,7 @@ off_start t d i e = (subst (λ (s : Stand). IsAtInner t s) e i).0
 pub inner_root : {Key Recon Cond : Type 0} (m : Meaning Key Recon Cond) (t : Table) (d : Descending Recon) → Shape m (sheets_of t) → Stands t d → IsAtInner t d.stand → HasInnerRoot t (in_nulls d)
 inner_root m t d H at i = (inner_stand m t (in_nulls d) d.stand d.parent H at i).0
 
--- where the tuple stays in its place the insert stands as it did
+-- where the tuple stays in its place the insert stands as it did, and goes on from there
 stands_inner : (t t1 : Table) (nulls : Bool) (st : Stand) (p : Option (Place × ℕ)) → StandsAt t nulls st p → HasInnerRoot t1 nulls → IsInnerOf t1 nulls st p → StandsAt t1 nulls st p
 stands_inner t t1 nulls Start p a root i = absurd i
 stands_inner t t1 nulls (Root b) p a root i = a

@@ -19,7 +19,7 @@ use Rattle.spg_descend.specs.Follows.{IsAtInner, tuple_place, link_of, stand_bel
 use Rattle.spg_descend.specs.Below.{IsChainBelow, IsAtChain, IsTicked}
 use Rattle.spg_descend.specs.Puts.{IsAtLeaves, IsAtEmpty, Fits}
 use Rattle.spg_descend.specs.Rules.{IsThere, IsAtNoInner, MayMove}
-use Rattle.spg_descend.specs.declared.enter.Entered.TheVariants.{In}
+use Rattle.spg_descend.specs.declared.enter.Entered.TheVariants.{In, Busy}
 use Rattle.spg_descend.proofs.Starts.{spots_are_there}
 use Rattle.spg_split.specs.Splits.{IsAtRoot, IsCalm, split_cost}
 use Rattle.spg_split.specs.Below.{IsLedTo, SplitsWithout, IsChainSplit}
@@ -29,7 +29,7 @@ use Rattle.spg_core.specs.Stepping.{HasInnerRoot, StandsAt, Stands, SamePages, G
 use Rattle.spg_core.proofs.Stands.{root_range, stand_put, stands_same, child_stands, released_same, latched_same, same_trans, root_leaf}
 use Rattle.spg_core.proofs.Trees.{place_tree}
 
-released_touched : (t : Table) (b : Option ℕ) (seat : ℕ) → (released t b seat).touched ≡ t.touched
+pub released_touched : (t : Table) (b : Option ℕ) (seat : ℕ) → (released t b seat).touched ≡ t.touched
 released_touched t None seat = refl
 released_touched t (Some b) seat = elim (is_held (latch_at t b) seat) as (λ h. (cond h (with_latch t b None) t).touched ≡ t.touched) [ true ↦ refl | false ↦ refl ]
 
@@ -79,6 +79,19 @@ freed_same t a b seat = same_trans t (released t a seat) (released (released t a
 
 freed_touched : (t : Table) (a b : Option ℕ) (seat : ℕ) → (released (released t a seat) b seat).touched ≡ t.touched
 freed_touched t a b seat = released_touched (released t a seat) b seat ∙ released_touched t a seat
+
+-- an insert that has gone back to its start
+pub back_out : {Key Recon Cond : Type 0} (m : Meaning Key Recon Cond) (t t1 t2 : Table) (d d2 : Descending Recon) (seat block by node : ℕ) (rest : List ℕ) →
+    FollowsNode m t t1 d d2 seat node rest (Busy block by) → CarriesBelow m t t1 d d2 node rest (Busy block by) → SamePages t1 t2 → IsStepOut m t t2 d d2 seat (outs.Restarted block by)
+back_out {Key} {Recon} m t t1 t2 d d2 seat block by node rest (eb, held, other, et, ed) carries same =
+    let s1 : SamePages t t1 = subst (λ (z : Table). SamePages t z) (sym et) (freed_same t (stand_block d.stand) (parent_block d.parent) seat) in
+    let starts : Stands t2 d2 = subst (λ (z : Descending Recon). Stands t2 z) (sym ed) refl in (
+      held,
+      other,
+      ap (λ (z : Descending Recon). z.stand) ed,
+      same_trans t t1 t2 s1 same,
+      (ap (λ (z : Descending Recon). z.row) ed, ap (λ (z : Descending Recon). in_nulls z) ed, starts, λ key C. subst (λ (S : Sheets). IsCarried m S d2 key) (sym same.0) (carries key C)),
+    )
 
 -- below the root of its tree the root is an inner tuple
 pub below_root : {Recon : Type 0} (t : Table) (d : Descending Recon) → Stands t d → IsAtNoInner t d.stand → (IsAtRoot d.stand → ⊥) → HasInnerRoot t (in_nulls d)

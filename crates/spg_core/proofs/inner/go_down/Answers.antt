@@ -8,7 +8,7 @@ use Rattle.spg_descend.specs.Leaves.{stand_block}
 use Rattle.spg_descend.specs.Follows.{FollowsNode, CarriesBelow, tuple_place, link_of, stand_below}
 use Rattle.spg_core.specs.Stepping.{SamePages, StandsAt}
 use Rattle.spg_core.proofs.Stands.{child_stands, here_there}
-use Rattle.spg_core.proofs.Moves.{down_out}
+use Rattle.spg_core.proofs.Moves.{down_out, back_out}
 use Rattle.spg_core.proofs.Holding.{follow_holds, back_holds}
 use Rattle.spg_core.proofs.inner.go_down.Goals as goal
 use Rattle.spg_core.proofs.inner.go_down.Goals.{then-by_turn, else-by_turn}
@@ -28,6 +28,22 @@ returns-in-In-clause-ok g c =
     let rest = c.args.rest in
     down_out m t t1 c.if-by_turn.table d d2 c.args.seat node rest c.requires.shape c.requires.inner c.requires.stands c.requires.chosen.0 c.requires.chosen.1 c.requires.chosen.2
     (subst (λ (e : Entered). FollowsNode m t t1 d d2 c.args.seat node rest e) c.in-In.is c.in_ok-entered.ensures.ok) (subst (λ (e : Entered). CarriesBelow m t t1 d d2 node rest e) c.in-In.is c.in_ok-entered.ensures.carries) same
+
+pub returns-in-Busy-clause-ok : goal.returns-in-Busy-clause-ok
+returns-in-Busy-clause-ok g c =
+    let t = c.args.table.now in
+    let d = c.args.descent.now in
+    let m = g.O.OpClass.meaning in
+    let t1 = c.follow.new.table in
+    let d2 = c.follow.new.descent in
+    let same : SamePages t1 c.if-by_turn.table = elim c.if-by_turn.branch [
+      | then-by_turn w ↦ (ap sheets_of (w.table-is ∙ w.turn_counter.ensures), ap (λ (z : Table). z.limit) (w.table-is ∙ w.turn_counter.ensures))
+      | else-by_turn w ↦ (ap sheets_of w.table-is, ap (λ (z : Table). z.limit) w.table-is)
+    ] in
+    let node = c.args.node in
+    let rest = c.args.rest in
+    back_out m t t1 c.if-by_turn.table d d2 c.args.seat c.in-Busy.block c.in-Busy.by node rest
+    (subst (λ (e : Entered). FollowsNode m t t1 d d2 c.args.seat node rest e) c.in-Busy.is c.in_ok-entered.ensures.ok) (subst (λ (e : Entered). CarriesBelow m t t1 d d2 node rest e) c.in-Busy.is c.in_ok-entered.ensures.carries) same
 
 pub returns-in-In-clause-latches : goal.returns-in-In-clause-latches
 returns-in-In-clause-latches g c = λ h.
