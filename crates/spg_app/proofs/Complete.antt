@@ -13,6 +13,10 @@ use Rattle.spg_quad.specs.Quad.{quad_meaning}
 use Rattle.spg_kd.specs.declared.class.Kd.{Kd}
 use Rattle.spg_kd.specs.declared.class.KdRecon.{KdRecon}
 use Rattle.spg_kd.specs.Kd.{kd_meaning}
+use Rattle.spg_radix.specs.declared.radix.Radix.{Radix}
+use Rattle.spg_radix.specs.declared.recon.RadixRecon.{RadixRecon}
+use Rattle.spg_radix.specs.declared.condition.TextCond.{TextCond}
+use Rattle.spg_radix.specs.Radix.{radix_meaning}
 use Rattle.spg_io.specs.Causes.{Rose}
 use Rattle.spg_app.specs.declared.command.ClassName.TheVariants as class
 use Rattle.spg_app.specs.declared.command.Script.{Script}
@@ -24,7 +28,7 @@ use Rattle.spg_app.specs.declared.status.Status.{Status}
 use Rattle.spg_app.specs.declared.status.Status.TheVariants.{Done, Usage, BadScript, ReadFault, WriteFault, Memory}
 use Rattle.spg_app.specs.declared.stream.TheConstants.{LONGEST}
 use Rattle.spg_app.specs.Io.{ReadMore}
-use Rattle.spg_app.specs.Speech.{point_speech}
+use Rattle.spg_app.specs.Speech.{point_speech, text_speech}
 use Rattle.spg_app.specs.Script.{lines_of, IsScript, CanGoOn, IsFirstBad}
 use Rattle.spg_app.specs.Ending.{Ends}
 use Rattle.spg_app.specs.Headline.{Streams, GaveScript, GaveNoScript, EndsRun, IsAnswer, HoldsScript, HoldsNoScript, NoFault, ended}
@@ -46,6 +50,13 @@ module _ (io : Streams) (script : Script) (gave : GaveScript io.left io.left_aft
   kd_answers is (ending.WriteFault seen) ends = (record { script = script; gave = gave; of_class = is; run = ends.0 }, ends.1)
   kd_answers is ending.Memory (inl nothing) = inl nothing
   kd_answers is ending.Memory (inr (seen, run)) = inr (state.Kd seen, record { script = script; gave = gave; of_class = is; run = run })
+
+  pub radix_answers : script.class ≡ class.Radix → (how : Ending Radix (List ℕ) RadixRecon TextCond) → Ends radix_meaning text_speech script.commands io.taken io.taken_after io.write_faults io.write_faults_after how
+      → IsAnswer io (codes "run" ∷ []) (ended state.Radix how).0 (ended state.Radix how).1
+  radix_answers is (ending.Done seen) ends = record { script = script; gave = gave; of_class = is; run = ends }
+  radix_answers is (ending.WriteFault seen) ends = (record { script = script; gave = gave; of_class = is; run = ends.0 }, ends.1)
+  radix_answers is ending.Memory (inl nothing) = inl nothing
+  radix_answers is ending.Memory (inr (seen, run)) = inr (state.Radix seen, record { script = script; gave = gave; of_class = is; run = run })
 
 -- ---- what a source that tells its bytes gave
 
@@ -103,6 +114,7 @@ no_script_given (Some all) left_after n script (inr long) gave = omega (arith, g
 no_run : (io : Streams) (n : ℕ) (IsText : List ℕ → Type 0) (end : EndState) → HoldsNoScript io.left n → EndsRun io IsText end → ⊥
 no_run io n IsText (state.Quad seen) holds ran = no_script_given io.left io.left_after n ran.script holds ran.gave
 no_run io n IsText (state.Kd seen) holds ran = no_script_given io.left io.left_after n ran.script holds ran.gave
+no_run io n IsText (state.Radix seen) holds ran = no_script_given io.left io.left_after n ran.script holds ran.gave
 
 same_line : (left left_after : Option (List ℕ)) (m n : ℕ) → HoldsNoScript left n → GaveNoScript left left_after m ⊎ ((m ≡ 0) × ReadMore left left_after LONGEST) → m ≡ n
 same_line None left_after m n holds gave = absurd holds

@@ -1,6 +1,11 @@
 pub mod Lines
-pub mod Spelled
+pub mod Options
+pub mod Digits
+pub mod TextLemmas
+pub mod CondLines
+pub mod CommandLines
 pub mod CondsLemmas
+pub mod Known
 pub mod ScriptLines
 pub mod Streams
 pub mod Runs

@@ -3,7 +3,6 @@ use Rattle.std.specs.Prelude.{is_none, option_map}
 use Rattle.std.proofs.Common.{◌≡◌, ◌<◌, ℕ, Bool, true, false, List, [], ◌∷◌, ◌++◌, length, reverse, Option, Some, None, Result, Ok, Err, refl, sym, ap, ◌∙◌, subst}
 use Rattle.std.proofs.lemmas.List.{append_assoc, append-nil, reverse-append}
 use Rattle.spg_base.specs.Row.{RowAt}
-use Rattle.spg_base.specs.declared.point.Point.{Point}
 use Rattle.spg_opclass.specs.Meaning.{Meaning}
 use Rattle.spg_opclass.specs.declared.query.Query.{Query}
 use Rattle.spg_forest.specs.Shape.{Shape}
@@ -19,12 +18,13 @@ use Rattle.spg_core.specs.Stage.{Stage, free, descending, reading, given_up}
 use Rattle.spg_core.specs.Seen.{Seen, stage_at}
 use Rattle.spg_core.specs.Sections.{OpensInsert, OpensScan, ClosesScan, GivesUp}
 use Rattle.spg_core.specs.Weight.{opened_keys}
+use Rattle.spg_app.specs.declared.command.AnyKey.{AnyKey}
 use Rattle.spg_app.specs.declared.command.AnyQuery.{AnyQuery}
 use Rattle.spg_app.specs.declared.command.Command.TheVariants.{Insert, Find}
 use Rattle.spg_app.specs.declared.record.Outcome.{Outcome}
 use Rattle.spg_app.specs.declared.record.Outcome.TheVariants.{Added, RowUsed, Full, ClockFull, Found}
 use Rattle.spg_app.specs.declared.record.Record.{Record}
-use Rattle.spg_app.specs.Speech.{Speech, query_in}
+use Rattle.spg_app.specs.Speech.{Speech, key_or_null_in, query_in}
 use Rattle.spg_app.specs.Walks.{TellsWalk, IsToldWalk}
 use Rattle.spg_app.specs.Run.{Performed, Does, IsDue}
 use Rattle.spg_core.specs.Through.{IsInsertOf, StillInserts, PutsRow}
@@ -44,16 +44,22 @@ pub record Spans (r : Record) (outcome : Outcome) (from to : ℕ) : Type 0 where
   pub from_is : r.span.from ≡ from
   pub to_is : r.span.to ≡ to
 
--- a key of the class for each key of a script
-same_null : {A B : Type 0} (f : A → B) (key : Option A) → is_none (option_map f key) ≡ is_none key
-same_null f None = refl
-same_null f (Some x) = refl
+-- a null is the class's null
+some_key : {Key : Type 0} (found : Option Key) (k : Option Key) → option_map (λ x. Some x) found ≡ Some k → is_none k ≡ false
+some_key None k is = (cc)
+some_key (Some x) None is = (cc)
+some_key (Some x) (Some y) is = refl
+
+same_null : {Key Cond : Type 0} (speech : Speech Key Cond) (key : Option AnyKey) (k : Option Key) → key_or_null_in speech key ≡ Some k → is_none k ≡ is_none key
+same_null speech None None is = refl
+same_null speech None (Some x) is = (cc)
+same_null speech (Some key) k is = some_key (speech.key_in key) k is
 
 module _ {O Key Recon Cond : Type 0} (m : Meaning Key Recon Cond) (speech : Speech Key Cond) where
   two_events : (old opened new : List (Event O Key Recon Cond)) (a b : Event O Key Recon Cond) → opened ≡ old ++ a ∷ [] → new ≡ opened ++ b ∷ [] → new ≡ old ++ a ∷ b ∷ []
   two_events old opened new a b first second = second ∙ ap (λ j. j ++ b ∷ []) first ∙ append_assoc old (a ∷ []) (b ∷ [])
 
-  pub row_used : (s0 s1 : Seen O Key Recon Cond) (row : RowAt) (key : Option Point) (r : Record) → s1 ≡ s0 → Spans r RowUsed (length s0.journal) (length s1.journal) → is_claimed row (reverse s0.journal) ≡ true
+  pub row_used : (s0 s1 : Seen O Key Recon Cond) (row : RowAt) (key : Option AnyKey) (r : Record) → s1 ≡ s0 → Spans r RowUsed (length s0.journal) (length s1.journal) → is_claimed row (reverse s0.journal) ≡ true
       → Performed m speech s0 s1 (Insert row key) r
   row_used s0 s1 row key r same spans claimed = record {
     events = [];
@@ -84,7 +90,7 @@ module _ {O Key Recon Cond : Type 0} (m : Meaning Key Recon Cond) (speech : Spee
     pub not_free : (s2 : Seen O Key Recon Cond) → StillInserts s1 s2 seat → stage_at s2 seat ≡ free → ⊥
     not_free s2 goes is = subst (λ (s : Stage O Key Recon Cond). IsInsertOf row k s) is (goes.insert row k inserts)
 
-  module _ (s0 s1 : Seen O Key Recon Cond) (seat : ℕ) (first : seat ≡ 0) (row : RowAt) (key : Option Point) (k : Option Key) (named : k ≡ option_map speech.key_in key) (opens : OpensInsert m s0 s1 seat row k) (r : Record) (claimed : is_claimed row (reverse s0.journal) ≡ false) where
+  module _ (s0 s1 : Seen O Key Recon Cond) (seat : ℕ) (first : seat ≡ 0) (row : RowAt) (key : Option AnyKey) (k : Option Key) (named : key_or_null_in speech key ≡ Some k) (opens : OpensInsert m s0 s1 seat row k) (r : Record) (claimed : is_claimed row (reverse s0.journal) ≡ false) where
     pub added : (s2 : Seen O Key Recon Cond) → PutsRow s1 s2 seat → Spans r Added (length s0.journal) (length s2.journal) → Performed m speech s0 s2 (Insert row key) r
     added s2 puts spans = record {
       events = OpenInsert seat row k ∷ Put seat row ∷ [];
@@ -92,7 +98,7 @@ module _ {O Key Recon Cond : Type 0} (m : Meaning Key Recon Cond) (speech : Spee
       by_seat = (first, (first, tt));
       from = spans.from_is;
       to = spans.to_is;
-      does = rw spans.outcome_is (rw (first, named) refl);
+      does = rw spans.outcome_is (k, named, rw first refl);
       due = rw spans.outcome_is claimed;
       origin = puts.origin ∙ ap (λ s. s.origin) opens.0;
       pages = λ are. absurd are;
@@ -110,11 +116,11 @@ module _ {O Key Recon Cond : Type 0} (m : Meaning Key Recon Cond) (speech : Spee
 
       heavy : 8160 < weight_of m (is_none key) (opened_keys (reverse s3.journal))
       heavy =
-          subst (λ (b : Bool). 8160 < weight_of m b (opened_keys (reverse s3.journal))) (ap is_none named ∙ same_null speech.key_in key)
+          subst (λ (b : Bool). 8160 < weight_of m b (opened_keys (reverse s3.journal))) (same_null speech key k named)
           (subst (λ (keys : List (Option Key)). 8160 < weight_of m (is_none k) keys) same_keys (outgrown row k (inserts s0 s1 seat row k opens)))
 
       pub given_up_with : (outcome : Outcome) → Spans r outcome (length s0.journal) (length s3.journal)
-          → Does {O = O} {Key = Key} {Recon = Recon} {Cond = Cond} speech 0 (Insert row key) outcome (OpenInsert 0 row (option_map speech.key_in key) ∷ Drop 0 row cause ∷ [])
+          → Does {O = O} {Key = Key} {Recon = Recon} {Cond = Cond} speech 0 (Insert row key) outcome (OpenInsert 0 row k ∷ Drop 0 row cause ∷ [])
           → (8160 < weight_of m (is_none key) (opened_keys (reverse s3.journal)) → IsDue m (Insert row key) outcome (reverse s0.journal) (reverse s3.journal))
           → Performed m speech s0 s3 (Insert row key) r
       given_up_with outcome spans does due = record {
@@ -123,7 +129,7 @@ module _ {O Key Recon Cond : Type 0} (m : Meaning Key Recon Cond) (speech : Spee
         by_seat = (first, (first, tt));
         from = spans.from_is;
         to = spans.to_is;
-        does = rw spans.outcome_is (rw (first, named) does);
+        does = rw spans.outcome_is (rw first does);
         due = rw spans.outcome_is (due heavy);
         origin = ap (λ s. s.origin) gives.0 ∙ goes.origin ∙ ap (λ s. s.origin) opens.0;
         pages = λ are. absurd are;
@@ -131,20 +137,20 @@ module _ {O Key Recon Cond : Type 0} (m : Meaning Key Recon Cond) (speech : Spee
       }
 
     pub full : (s2 s3 : Seen O Key Recon Cond) → StillInserts s1 s2 seat → GivesUp s2 s3 seat why.Full → HasOutgrown m s1 seat → Spans r Full (length s0.journal) (length s3.journal) → Performed m speech s0 s3 (Insert row key) r
-    full s2 s3 goes gives outgrown spans = given_up_with why.Full s2 s3 goes gives outgrown Full spans refl (λ heavy. (claimed, heavy))
+    full s2 s3 goes gives outgrown spans = given_up_with why.Full s2 s3 goes gives outgrown Full spans (k, named, refl) (λ heavy. (claimed, heavy))
 
     pub clock_full : (s2 s3 : Seen O Key Recon Cond) → StillInserts s1 s2 seat → GivesUp s2 s3 seat why.Clock → HasOutgrown m s1 seat → Spans r ClockFull (length s0.journal) (length s3.journal) → Performed m speech s0 s3 (Insert row key) r
-    clock_full s2 s3 goes gives outgrown spans = given_up_with why.Clock s2 s3 goes gives outgrown ClockFull spans refl (λ heavy. (claimed, heavy))
+    clock_full s2 s3 goes gives outgrown spans = given_up_with why.Clock s2 s3 goes gives outgrown ClockFull spans (k, named, refl) (λ heavy. (claimed, heavy))
 
-  module _ (s0 s1 s2 s3 : Seen O Key Recon Cond) (seat : ℕ) (first : seat ≡ 0) (query : AnyQuery) (q : Query O Key Recon Cond) (asked : q ≡ query_in speech query) (closed : Closed) (r : Record) (shape : Shape m (sheets_of s1.table))
+  module _ (s0 s1 s2 s3 : Seen O Key Recon Cond) (seat : ℕ) (first : seat ≡ 0) (query : AnyQuery) (q : Query O Key Recon Cond) (asked : query_in speech query ≡ Some q) (closed : Closed) (r : Record) (shape : Shape m (sheets_of s1.table))
       (opens : OpensScan m s0 s1 seat q) (reads : ReadsToEnd m s1 s2 seat) (closes : ClosesScan s2 s3 seat closed) where
     same_pages : s3.table ≡ s1.table
     same_pages = ap (λ s. s.table) closes.0 ∙ reads.reads.table
 
-    walked : IsToldWalk {O = O} m (sheets_of s3.table) (query_in speech query) closed.met
+    walked : IsToldWalk {O = O} m (sheets_of s3.table) q closed.met
     walked =
         let at_end : IsToldWalk {O = O} m (sheets_of s1.table) q closed.met = told m (sheets_of s1.table) q closed.met (stage_at s2 seat) (reads.reads.scan q (opens_resting m s0 s1 seat q shape opens)) reads.end closes.2 in
-        subst (λ (t : Table). IsToldWalk {O = O} m (sheets_of t) (query_in speech query) closed.met) (sym same_pages) (subst (λ (x : Query O Key Recon Cond). IsToldWalk {O = O} m (sheets_of s1.table) x closed.met) asked at_end)
+        subst (λ (t : Table). IsToldWalk {O = O} m (sheets_of t) q closed.met) (sym same_pages) at_end
 
     pub found : Spans r (Found closed.rows closed.met) (length s0.journal) (length s3.journal) → Performed m speech s0 s3 (Find query) r
     found spans = record {
@@ -153,9 +159,9 @@ module _ {O Key Recon Cond : Type 0} (m : Meaning Key Recon Cond) (speech : Spee
       by_seat = (first, (first, tt));
       from = spans.from_is;
       to = spans.to_is;
-      does = rw spans.outcome_is (rw (first, asked) refl);
+      does = rw spans.outcome_is (q, asked, rw first refl);
       due = tt;
       origin = ap (λ s. s.origin) closes.0 ∙ reads.reads.origin ∙ ap (λ s. s.origin) opens.0;
       pages = λ are. same_pages ∙ ap (λ s. s.table) opens.0;
-      walk = subst (λ (o : Outcome). TellsWalk O m speech (sheets_of s3.table) (Find query) o) (sym spans.outcome_is) walked;
+      walk = subst (λ (o : Outcome). TellsWalk O m speech (sheets_of s3.table) (Find query) o) (sym spans.outcome_is) (q, asked, walked);
     }

@@ -4,7 +4,7 @@ use Rattle.std.specs.List.{AllZip, AllByRecursion}
 use Rattle.std.proofs.lemmas.List.{drop-append-le, take-append-le, take_at, drop_at, take_all}
 use Rattle.std.proofs.lemmas.Bool.{cases_lt, eq-eqb}
 use Rattle.spg_base.specs.Row.{RowAt}
-use Rattle.spg_base.specs.declared.point.Point.{Point}
+use Rattle.spg_app.specs.declared.command.AnyKey.{AnyKey}
 use Rattle.spg_opclass.specs.Meaning.{Meaning}
 use Rattle.spg_forest.specs.Sheets.{Sheets}
 use Rattle.spg_rows.specs.declared.event.Event.{Event}
@@ -46,7 +46,7 @@ each_push R (a ∷ xs) (b ∷ ys) x y all one = (all.0, each_push R xs ys x y al
 
 -- ---- what the finds at the end tell
 
-not_finds : (commands : List Command) (row : RowAt) (key : Option Point) → AreFinds (commands ++ Insert row key ∷ []) → ⊥
+not_finds : (commands : List Command) (row : RowAt) (key : Option AnyKey) → AreFinds (commands ++ Insert row key ∷ []) → ⊥
 not_finds [] row key are = are
 not_finds (Insert row2 key2 ∷ commands) row key are = are
 not_finds (Find query ∷ commands) row key are = not_finds commands row key are
@@ -66,7 +66,7 @@ module _ {Key Recon Cond : Type 0} (O : Type 0) (m : Meaning Key Recon Cond) (sp
   after_find S (c ∷ commands) (x ∷ records) query r tells one = (λ are. tells.0 (finds_front commands (Find query) are), after_find S commands records query r tells.1 one)
 
   -- no find before an insert is at the end
-  after_insert : (S S2 : Sheets) (commands : List Command) (records : List Record) (row : RowAt) (key : Option Point) (r : Record) → TellsWalks O m speech S commands records
+  after_insert : (S S2 : Sheets) (commands : List Command) (records : List Record) (row : RowAt) (key : Option AnyKey) (r : Record) → TellsWalks O m speech S commands records
       → TellsWalks O m speech S2 (commands ++ Insert row key ∷ []) (records ++ r ∷ [])
   after_insert S S2 [] [] row key r tells = (λ _. tt, tt)
   after_insert S S2 [] (x ∷ records) row key r tells = absurd tells

@@ -4,6 +4,7 @@ use Rattle.std.specs.Io.KnownBytes.{Appends}
 use Rattle.spg_opclass.specs.Meaning.{Meaning}
 use Rattle.spg_quad.specs.Quad.{quad_meaning}
 use Rattle.spg_kd.specs.Kd.{kd_meaning}
+use Rattle.spg_radix.specs.Radix.{radix_meaning}
 use Rattle.spg_core.specs.Seen.{Seen}
 use Rattle.spg_io.specs.Causes.{Rose}
 use Rattle.spg_app.specs.declared.command.ClassName.{ClassName}
@@ -12,11 +13,11 @@ use Rattle.spg_app.specs.declared.command.Script.{Script}
 use Rattle.spg_app.specs.declared.status.Status.{Status}
 use Rattle.spg_app.specs.declared.status.Status.TheVariants.{Done, Usage, BadScript, ReadFault, WriteFault, Memory}
 use Rattle.spg_app.specs.declared.end_state.EndState.{EndState}
-use Rattle.spg_app.specs.declared.end_state.EndState.TheVariants.{Quad, Kd}
+use Rattle.spg_app.specs.declared.end_state.EndState.TheVariants.{Quad, Kd, Radix}
 use Rattle.spg_app.specs.declared.session.Ending.{Ending}
 use Rattle.spg_app.specs.declared.session.Ending.TheVariants as ending
 use Rattle.spg_app.specs.declared.stream.TheConstants.{LONGEST}
-use Rattle.spg_app.specs.Speech.{Speech, point_speech}
+use Rattle.spg_app.specs.Speech.{Speech, point_speech, text_speech}
 use Rattle.spg_app.specs.Ending.{RanCommands}
 use Rattle.spg_app.specs.Io.{ReadWhole, ReadMore, WroteSome}
 use Rattle.spg_app.specs.Script.{IsScript, IsFirstBad}
@@ -62,6 +63,7 @@ pub record Ran {O Key Recon Cond : Type 0} (m : Meaning Key Recon Cond) (speech 
 abbrev pub EndsRun : Streams → (List ℕ → Type 0) → EndState → Type 0
 EndsRun io IsText (Quad seen) = Ran quad_meaning point_speech class.Quad io IsText seen
 EndsRun io IsText (Kd seen) = Ran kd_meaning point_speech class.Kd io IsText seen
+EndsRun io IsText (Radix seen) = Ran radix_meaning text_speech class.Radix io IsText seen
 
 -- the sink took a text
 abbrev pub Took : Streams → List ℕ → Type 0

@@ -1,4 +1,6 @@
 pub mod Spelling
+pub mod Quoted
+pub mod Line
 pub mod Script
 pub mod Reading
 pub mod Refusal

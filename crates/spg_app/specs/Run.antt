@@ -1,7 +1,8 @@
 -- When a journal and a list of records are a run of a list of commands.
-use Rattle.std.specs.Prelude.{◌≡◌, ◌<◌, ◌≤◌, ◌⊎◌, ◌-◌, ◌++◌, ℕ, true, false, List, [], ◌∷◌, length, take, drop, reverse, slice_get, Some, is_none, option_map, IsSomeAnd, ⊤}
+use Rattle.std.specs.Prelude.{◌≡◌, ◌<◌, ◌≤◌, ◌⊎◌, ◌-◌, ◌++◌, ℕ, true, false, List, [], ◌∷◌, length, take, drop, reverse, slice_get, Option, Some, is_none, IsSomeAnd, ⊤}
 use Rattle.std.specs.List.{AllZip, AllByRecursion}
 use Rattle.spg_opclass.specs.Meaning.{Meaning}
+use Rattle.spg_opclass.specs.declared.query.Query.{Query}
 use Rattle.spg_forest.specs.Walk.{weight_of}
 use Rattle.spg_rows.specs.declared.event.Event.{Event}
 use Rattle.spg_rows.specs.declared.event.Event.TheVariants.{OpenInsert, Put, Drop, OpenScan, CloseScan}
@@ -16,17 +17,17 @@ use Rattle.spg_app.specs.declared.command.Command.TheVariants.{Insert, Find}
 use Rattle.spg_app.specs.declared.record.Outcome.{Outcome}
 use Rattle.spg_app.specs.declared.record.Outcome.TheVariants.{Added, RowUsed, Full, ClockFull, Found}
 use Rattle.spg_app.specs.declared.record.Record.{Record}
-use Rattle.spg_app.specs.Speech.{Speech, query_in}
+use Rattle.spg_app.specs.Speech.{Speech, key_or_null_in, query_in}
 use Rattle.spg_app.specs.Walks.{TellsWalk, TellsWalks, AreFinds}
 
 -- the events of a command of a seat with this outcome, in order
 abbrev pub Does : {O Key Recon Cond : Type 0} → Speech Key Cond → ℕ → Command → Outcome → List (Event O Key Recon Cond) → Type 0
-Does speech seat (Insert row key) Added events = events ≡ OpenInsert seat row (option_map speech.key_in key) ∷ Put seat row ∷ []
+Does {Key = Key} speech seat (Insert row key) Added events = (k : Option Key) × (key_or_null_in speech key ≡ Some k) × (events ≡ OpenInsert seat row k ∷ Put seat row ∷ [])
 Does speech seat (Insert row key) RowUsed events = events ≡ []
-Does speech seat (Insert row key) Full events = events ≡ OpenInsert seat row (option_map speech.key_in key) ∷ Drop seat row why.Full ∷ []
-Does speech seat (Insert row key) ClockFull events = events ≡ OpenInsert seat row (option_map speech.key_in key) ∷ Drop seat row why.Clock ∷ []
+Does {Key = Key} speech seat (Insert row key) Full events = (k : Option Key) × (key_or_null_in speech key ≡ Some k) × (events ≡ OpenInsert seat row k ∷ Drop seat row why.Full ∷ [])
+Does {Key = Key} speech seat (Insert row key) ClockFull events = (k : Option Key) × (key_or_null_in speech key ≡ Some k) × (events ≡ OpenInsert seat row k ∷ Drop seat row why.Clock ∷ [])
 Does speech seat (Insert row key) (Found rows walk) events = ⊥
-Does speech seat (Find query) (Found rows walk) events = events ≡ OpenScan seat (query_in speech query) ∷ CloseScan seat rows ∷ []
+Does {O} {Key} {Recon} {Cond} speech seat (Find query) (Found rows walk) events = (asked : Query O Key Recon Cond) × (query_in speech query ≡ Some asked) × (events ≡ OpenScan seat asked ∷ CloseScan seat rows ∷ [])
 Does speech seat (Find query) Added events = ⊥
 Does speech seat (Find query) RowUsed events = ⊥
 Does speech seat (Find query) Full events = ⊥

@@ -1,9 +1,9 @@
 -- The grammar of scripts.
 use Rattle.std.specs.Prelude.{◌≡◌, ◌≤◌, ◌+◌, ◌-◌, ◌==◌, ℕ, List, [], ◌∷◌, ◌++◌, take, length, if◌then◌else◌}
 use Rattle.std.specs.List.{AllZip}
-use Rattle.spg_app.specs.declared.command.Command.{Command}
 use Rattle.spg_app.specs.declared.command.Script.{Script}
-use Rattle.spg_app.specs.Spelling.{class_text, command_text, IsCommand}
+use Rattle.spg_app.specs.Spelling.{class_text}
+use Rattle.spg_app.specs.Line.{Spells}
 
 -- a byte joins the first line
 abbrev pub onto_first : ℕ → List (List ℕ) → List (List ℕ)
@@ -15,15 +15,10 @@ abbrev pub lines_of : List ℕ → List (List ℕ)
 lines_of [] = []
 lines_of (b ∷ bytes) = if b == 10 then [] ∷ lines_of bytes else onto_first b (lines_of bytes)
 
--- a line is this command's
-pub record Spells (command : Command) (line : List ℕ) : Type 0 where
-  pub spelled : line ≡ command_text command
-  pub fine : IsCommand command
-
--- the first line names the class, and each further one is a command's
+-- the first line names the class, and each further one is a command's of that class
 abbrev pub AreLines : List (List ℕ) → Script → Type 0
 AreLines [] script = ⊥
-AreLines (line ∷ lines) script = (line ≡ class_text script.class) × AllZip Spells script.commands lines
+AreLines (line ∷ lines) script = (line ≡ class_text script.class) × AllZip (Spells script.class) script.commands lines
 
 -- bytes are a script
 abbrev pub IsScript : List ℕ → Script → Type 0

@@ -1,23 +1,20 @@
--- How classes, conditions, queries and commands are spelled in a script.
-use Rattle.std.specs.Prelude.{ℕ, ◌<◌, ◌≤◌, ◌^◌, ◌≤ℤ◌, ℤ, List, [], ◌∷◌, ◌++◌, length, Option, Some, None, codes, FitsSigned, IfSome, All as Each, ⊤}
+-- How classes, points and conditions on them are spelled in a script.
+use Rattle.std.specs.Prelude.{ℕ, ◌<◌, ◌^◌, ◌≤ℤ◌, ℤ, List, [], ◌∷◌, ◌++◌, codes, FitsSigned}
 use Rattle.std.specs.Int.{w32}
 use Rattle.std.specs.Fmt.{signed_decimal}
 use Rattle.spg_base.specs.Row.{RowAt}
-use Rattle.spg_base.specs.Text.{row_text, point_text}
+use Rattle.spg_base.specs.Text.{point_text}
 use Rattle.spg_base.specs.declared.point.Point.{Point}
 use Rattle.spg_base.specs.declared.point.PointCond.{PointCond}
 use Rattle.spg_base.specs.declared.point.PointCond.TheVariants.{Eq, Left, Right, Below, Above, Inside}
 use Rattle.spg_app.specs.declared.command.ClassName.{ClassName}
-use Rattle.spg_app.specs.declared.command.ClassName.TheVariants.{Quad, Kd}
-use Rattle.spg_app.specs.declared.command.AnyQuery.{AnyQuery}
-use Rattle.spg_app.specs.declared.command.AnyQuery.TheVariants.{All, Null, Where}
-use Rattle.spg_app.specs.declared.command.Command.{Command}
-use Rattle.spg_app.specs.declared.command.Command.TheVariants.{Insert, Find}
+use Rattle.spg_app.specs.declared.command.ClassName.TheVariants.{Quad, Kd, Radix}
 
 -- the line of a class
 abbrev pub class_text : ClassName → List ℕ
 class_text Quad = codes "class quad"
 class_text Kd = codes "class kd"
+class_text Radix = codes "class radix"
 
 -- two corners of a rectangle, the lower first
 abbrev pub corners_text : ℤ → ℤ → ℤ → ℤ → List ℕ
@@ -36,22 +33,6 @@ cond_text (Inside x1 y1 x2 y2) = codes "in " ++ corners_text x1 y1 x2 y2
 abbrev pub conds_text : {Cond : Type 0} → (Cond → List ℕ) → List ℕ → List Cond → List ℕ
 conds_text spell word [] = []
 conds_text spell word (c ∷ conds) = word ++ spell c ++ conds_text spell (codes " and ") conds
-
--- a query
-abbrev pub asked_text : AnyQuery → List ℕ
-asked_text All = codes "all"
-asked_text Null = codes "null"
-asked_text (Where conds) = conds_text cond_text (codes "where ") conds
-
--- a key: a point or a null
-abbrev pub key_text : Option Point → List ℕ
-key_text None = codes "null"
-key_text (Some point) = point_text point
-
--- a command
-abbrev pub command_text : Command → List ℕ
-command_text (Insert row key) = codes "insert " ++ row_text row ++ 32 ∷ key_text key
-command_text (Find query) = codes "find " ++ asked_text query
 
 -- a row's numbers are in range
 pub record IsRow (row : RowAt) : Type 0 where
@@ -72,19 +53,3 @@ IsCond (Right x) = FitsSigned w32 x
 IsCond (Below y) = FitsSigned w32 y
 IsCond (Above y) = FitsSigned w32 y
 IsCond (Inside x1 y1 x2 y2) = IsPoint (record { x = x1; y = y1 }) × IsPoint (record { x = x2; y = y2 }) × (x1 ≤ℤ x2) × (y1 ≤ℤ y2)
-
--- there are 1 to 8 conditions
-pub record IsConds (conds : List PointCond) : Type 0 where
-  pub some : 1 ≤ length conds
-  pub few : length conds ≤ 8
-  pub each : Each IsCond conds
-
-abbrev pub IsAsked : AnyQuery → Type 0
-IsAsked All = ⊤
-IsAsked Null = ⊤
-IsAsked (Where conds) = IsConds conds
-
--- a command's numbers are in range
-abbrev pub IsCommand : Command → Type 0
-IsCommand (Insert row key) = IsRow row × IfSome key IsPoint
-IsCommand (Find query) = IsAsked query

@@ -1,5 +1,5 @@
 -- What finds tell of the pages that they walk.
-use Rattle.std.specs.Prelude.{◌≡◌, ℕ, List, [], ◌∷◌, ⊤}
+use Rattle.std.specs.Prelude.{◌≡◌, ℕ, List, [], ◌∷◌, Some, ⊤}
 use Rattle.spg_opclass.specs.Meaning.{Meaning}
 use Rattle.spg_opclass.specs.declared.query.Query.{Query}
 use Rattle.spg_forest.specs.Sheets.{Sheets}
@@ -18,9 +18,7 @@ IsToldWalk m S query walk = (k : ℕ) × Walk m S query k × (walk ≡ counted k
 
 -- a find tells the walk of its query over the pages
 abbrev pub TellsWalk : {Key Recon Cond : Type 0} → (O : Type 0) → Meaning Key Recon Cond → Speech Key Cond → Sheets → Command → Outcome → Type 0
-TellsWalk {Key} {Recon} {Cond} O m speech S (Find query) (Found rows walk) =
-    let asked : Query O Key Recon Cond = query_in speech query in
-    IsToldWalk m S asked walk
+TellsWalk {Key} {Recon} {Cond} O m speech S (Find query) (Found rows walk) = (asked : Query O Key Recon Cond) × (query_in speech query ≡ Some asked) × IsToldWalk m S asked walk
 TellsWalk O m speech S (Find query) Added = ⊤
 TellsWalk O m speech S (Find query) RowUsed = ⊤
 TellsWalk O m speech S (Find query) Full = ⊤

@@ -1,42 +1,81 @@
-ghost use Rattle.std.specs.Prelude.{◌≡◌, ◌↔◌, IsTrue, IfOk, IfSome, IfNone};
-ghost use Rattle.spg_app.specs.Spelling.{IsCommand, IsPoint};
-ghost use Rattle.spg_app.specs.Script.{Spells};
-ghost use Rattle.spg_app.specs.Reading.{insert_of, find_of, command_of};
+ghost use Rattle.std.specs.Prelude.{◌≡◌, IfOk, IfSome, IfNone};
+ghost use Rattle.spg_app.specs.Line.{Spells, has_texts};
+ghost use Rattle.spg_app.specs.Reading.{key_of, insert_of, find_of, command_of};
 ghost use Rattle.spg_app.specs.declared.command.Command.{Command};
 
 use crate::bytes::split;
-use crate::command::{AnyQuery, Command};
-use crate::conditions::{are_conds, conds};
-use crate::numbers::{key, row};
-use crate::spelling::command_text;
-use spg_base::{Memory, Point};
+use crate::command::{AnyKey, AnyQuery, ClassName, Command};
+use crate::conditions::conds;
+use crate::numbers::{point, row};
+use crate::texts::whole_text;
+use spg_base::Memory;
 use std::alloc::Global;
 
-#[tactic(auto, unfolding(crate::specs::Reading::insert_of))]
-fn insert(bytes: &[u8]) -> Option<Command>
-    ensures { result ≡ insert_of bytes.now }
+/// Whether the keys of a class are texts; else they are points.
+fn has_texts(class: ClassName) -> bool
+    ensures { result ≡ has_texts class }
 {
-    let (front, back) = split(bytes, b' ')?;
-    let row = row(front)?;
-    let key = key(back)?;
-    Some(Command::Insert { row, key })
+    match class {
+        ClassName::Quad | ClassName::Kd => false,
+        ClassName::Radix => true,
+    }
+}
+
+/// The key that the bytes spell: a text, or else a point, or a null.
+#[tactic(auto, unfolding(crate::specs::Reading::key_of))]
+fn key(alloc: Global, texts: bool, bytes: &[u8]) -> Result<Option<Option<AnyKey>>, Memory>
+    ensures { IfOk result (λ found. found ≡ key_of texts bytes.now) }
+{
+    if bytes == b"null".as_slice() {
+        return Ok(Some(None));
+    }
+    if texts {
+        match whole_text(alloc, bytes)? {
+            Some(text) => Ok(Some(Some(AnyKey::Text(text)))),
+            None => Ok(None),
+        }
+    } else {
+        match point(bytes) {
+            Some(point) => Ok(Some(Some(AnyKey::Point(point)))),
+            None => Ok(None),
+        }
+    }
+}
+
+#[tactic(auto, unfolding(crate::specs::Reading::insert_of))]
+fn insert(alloc: Global, texts: bool, bytes: &[u8]) -> Result<Option<Command>, Memory>
+    ensures { IfOk result (λ found. found ≡ insert_of texts bytes.now) }
+{
+    let Some((front, back)) = split(bytes, b' ') else {
+        return Ok(None);
+    };
+    let Some(row) = row(front) else {
+        return Ok(None);
+    };
+    match key(alloc, texts, back)? {
+        Some(key) => Ok(Some(Command::Insert { row, key })),
+        None => Ok(None),
+    }
 }
 
 #[tactic(auto, unfolding(crate::specs::Reading::find_of))]
-fn find(alloc: Global, bytes: &[u8]) -> Result<Option<Command>, Memory>
-    ensures { IfOk result (λ found. found ≡ find_of bytes.now) }
+fn find(alloc: Global, texts: bool, bytes: &[u8]) -> Result<Option<Command>, Memory>
+    ensures { IfOk result (λ found. found ≡ find_of texts bytes.now) }
 {
+    if bytes == b"all".as_slice() {
+        return Ok(Some(Command::Find {
+            query: AnyQuery::All,
+        }));
+    }
     if bytes == b"null".as_slice() {
         return Ok(Some(Command::Find {
             query: AnyQuery::Null,
         }));
     }
     if !bytes.starts_with(b"where ") {
-        return Ok(Some(Command::Find {
-            query: AnyQuery::All,
-        }));
+        return Ok(None);
     }
-    match conds(alloc, &bytes[6..])? {
+    match conds(alloc, texts, &bytes[6..])? {
         Some(conds) => Ok(Some(Command::Find {
             query: AnyQuery::Where(conds),
         })),
@@ -44,65 +83,23 @@ fn find(alloc: Global, bytes: &[u8]) -> Result<Option<Command>, Memory>
     }
 }
 
-/// The command that the line may spell.
 #[tactic(auto, unfolding(crate::specs::Reading::command_of))]
-fn guess(alloc: Global, line: &[u8]) -> Result<Option<Command>, Memory>
-    ensures { IfOk result (λ found. found ≡ command_of line.now) }
+fn command(alloc: Global, texts: bool, line: &[u8]) -> Result<Option<Command>, Memory>
+    ensures { IfOk result (λ found. found ≡ command_of texts line.now) }
 {
     if line.starts_with(b"insert ") {
-        Ok(insert(&line[7..]))
+        insert(alloc, texts, &line[7..])
     } else if line.starts_with(b"find ") {
-        find(alloc, &line[5..])
+        find(alloc, texts, &line[5..])
     } else {
         Ok(None)
     }
 }
 
-/// Whether a point's coordinates are in range; a null has none.
-fn is_key(key: &Option<Point>) -> bool
-    ensures { IsTrue result ↔ IfSome key.now IsPoint }
+/// The command that the line spells in a script of a class. None exactly where it spells none.
+pub fn read_command(alloc: Global, class: ClassName, line: &[u8]) -> Result<Option<Command>, Memory>
+    ensures found { IfOk result (λ found. IfSome found (λ c. Spells class c line.now)) }
+    ensures none { IfOk result (λ found. IfNone found ((c : Command) → Spells class c line.now → ⊥)) }
 {
-    if let Some(point) = key {
-        let _x = point.x;
-        let _y = point.y;
-    }
-    true
-}
-
-/// Whether the command's numbers are in range.
-fn is_command(command: &Command) -> bool
-    ensures { IsTrue result ↔ IsCommand command.now }
-{
-    match command {
-        Command::Insert { row, key } => {
-            let _block = row.block();
-            let _offset = row.offset();
-            is_key(key)
-        }
-        Command::Find {
-            query: AnyQuery::All | AnyQuery::Null,
-        } => true,
-        Command::Find {
-            query: AnyQuery::Where(conds),
-        } => are_conds(conds.as_slice()),
-    }
-}
-
-/// The command that the line spells. None exactly where it spells none.
-pub fn read_command(alloc: Global, line: &[u8]) -> Result<Option<Command>, Memory>
-    ensures found { IfOk result (λ found. IfSome found (λ c. Spells c line.now)) }
-    ensures none { IfOk result (λ found. IfNone found ((c : Command) → Spells c line.now → ⊥)) }
-{
-    let Some(command) = guess(alloc, line)? else {
-        return Ok(None);
-    };
-    if !is_command(&command) {
-        return Ok(None);
-    }
-    let text = command_text(alloc, &command)?;
-    if text.as_bytes() == line {
-        Ok(Some(command))
-    } else {
-        Ok(None)
-    }
+    command(alloc, has_texts(class), line)
 }

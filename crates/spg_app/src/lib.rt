@@ -17,9 +17,10 @@ mod speech;
 mod spelling;
 mod status;
 mod stream;
+mod texts;
 mod writing;
 
-pub use command::{AnyQuery, ClassName, Command, Script};
+pub use command::{AnyCond, AnyKey, AnyQuery, ClassName, Command, Script};
 pub use end_state::EndState;
 pub use program::run;
 pub use record::{Outcome, Record, Records};

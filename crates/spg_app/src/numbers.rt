@@ -1,11 +1,11 @@
 ghost use Rattle.std.specs.Prelude.{◌≡◌};
-ghost use Rattle.spg_app.specs.Reading.{value_from, positive_of, negative_of, coordinate_of, row_of, point_of, key_of};
+ghost use Rattle.spg_app.specs.Reading.{value_from, number_of, positive_of, negative_of, coordinate_of, row_of, point_of};
 
 use crate::bytes::split;
 use spg_base::{Point, Row};
 
 /// The number that the digits spell, where it is below 2^32. Leading zeros are let through.
-fn number(bytes: &[u8]) -> Option<u32>
+fn value(bytes: &[u8]) -> Option<u32>
     ensures { result ≡ value_from 0 bytes.now }
 {
     let mut value = 0u64;
@@ -21,12 +21,24 @@ fn number(bytes: &[u8]) -> Option<u32>
     Some(value as u32)
 }
 
+/// The number that the bytes spell, where it is below 2^32. None where it has a leading zero.
+fn number(bytes: &[u8]) -> Option<u32>
+    ensures { result ≡ number_of bytes.now }
+{
+    match bytes {
+        [] => None,
+        [b'0', more @ ..] => if more.is_empty() { Some(0) } else { None },
+        _ => value(bytes),
+    }
+}
+
 /// The coordinate that the bytes spell.
 #[tactic(auto, unfolding(crate::specs::Reading::coordinate_of))]
 pub fn coordinate(bytes: &[u8]) -> Option<i32>
     ensures { result ≡ coordinate_of bytes.now }
 {
     match bytes {
+        [] => None,
         [b'-', digits @ ..] => negative(digits),
         _ => positive(bytes),
     }
@@ -43,7 +55,7 @@ fn negative(digits: &[u8]) -> Option<i32>
     ensures { result ≡ negative_of digits.now }
 {
     let n = number(digits)?;
-    if n > 1 << 31 {
+    if n == 0 || n > 1 << 31 {
         None
     } else {
         Some((-i64::from(n)) as i32)
@@ -74,16 +86,4 @@ pub fn point(bytes: &[u8]) -> Option<Point>
     let x = coordinate(x)?;
     let y = coordinate(y)?;
     Some(Point { x, y })
-}
-
-/// The key that the bytes spell: a point or a null.
-#[tactic(auto, unfolding(crate::specs::Reading::key_of))]
-pub fn key(bytes: &[u8]) -> Option<Option<Point>>
-    ensures { result ≡ key_of bytes.now }
-{
-    if bytes == b"null".as_slice() {
-        Some(None)
-    } else {
-        Some(Some(point(bytes)?))
-    }
 }

@@ -51,6 +51,8 @@ fn read_class(line: &[u8]) -> Option<ClassName>
         Some(ClassName::Quad)
     } else if line == b"class kd".as_slice() {
         Some(ClassName::Kd)
+    } else if line == b"class radix".as_slice() {
+        Some(ClassName::Radix)
     } else {
         None
     }
@@ -74,7 +76,7 @@ pub fn parse(alloc: Global, bytes: &[u8]) -> Result<Script, ScriptRefused>
     while !rest.is_empty() {
         let (line, after) = first_line(rest);
         number += 1;
-        match read_command(alloc, line)? {
+        match read_command(alloc, class, line)? {
             Some(command) => commands.push(command)?,
             None => return Err(ScriptRefused::BadLine(number)),
         }

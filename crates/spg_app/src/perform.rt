@@ -1,19 +1,19 @@
-ghost use Rattle.std.specs.Prelude.{◌≡◌, IfOk, OnOk, OnErr, IsErrOf, length, map, option_map};
+ghost use Rattle.std.specs.Prelude.{◌≡◌, IfOk, OnOk, OnErr, IsErrOf, length};
 ghost use Rattle.spg_forest.specs.Shape.{Shape};
 ghost use Rattle.spg_tree.specs.Table.{sheets_of};
 ghost use Rattle.spg_tree.specs.declared.stand.StepRefused.TheVariants.{IndexFull, ClockFull};
 ghost use Rattle.spg_core.specs.Stage.{free, IsInserting, held_count};
 ghost use Rattle.spg_core.specs.Seen.{stage_at};
-ghost use Rattle.spg_app.specs.Speech.{query_in};
+ghost use Rattle.spg_app.specs.Speech.{key_or_null_in, conds_in, query_in, IsKnown};
 ghost use Rattle.spg_app.specs.Run.{Performed};
 ghost use Rattle.spg_core.specs.Through.{StillInserts, PutsRow};
 ghost use Rattle.spg_app.specs.Underway.{HasOutgrown, IsScanning, ReadsToEnd};
 ghost use Rattle.spg_app.specs.declared.command.Command.TheVariants.{Insert, Find};
 
-use crate::command::{AnyQuery, Command};
+use crate::command::{AnyCond, AnyKey, AnyQuery, Command};
 use crate::record::{Outcome, Record};
 use crate::speech::Spoken;
-use spg_base::{List, Memory, Point, PointCond, Row, SeatNo, Span};
+use spg_base::{List, Memory, Row, SeatNo, Span};
 use spg_core::{InsertRan, OpenKind, OpenRefused, State, StepRefused};
 use spg_opclass::Query;
 use spg_rows::Why;
@@ -56,24 +56,30 @@ fn put<O: Spoken>(state: &mut State<O>, seat: SeatNo) -> Result<(), StepRefused>
     }
 }
 
-/// The class's key for a script's, or a null.
-fn key_in<O: Spoken>(class: &O, key: &Option<Point>) -> Result<Option<O::Key>, Memory>
-    ensures { IfOk result (λ found. found ≡ option_map O.speech.key_in key.now) }
+/// The class's key for a script's, or a null. None exactly where the class has no such key.
+fn key_in<O: Spoken>(class: &O, key: &Option<AnyKey>) -> Result<Option<Option<O::Key>>, Memory>
+    ensures { IfOk result (λ found. found ≡ key_or_null_in O.speech key.now) }
 {
-    match key {
-        Some(point) => Ok(Some(class.key_in(point)?)),
+    let Some(key) = key else {
+        return Ok(Some(None));
+    };
+    match class.key_in(key)? {
+        Some(found) => Ok(Some(Some(found))),
         None => Ok(None),
     }
 }
 
-fn insert<O: Spoken>(state: &mut State<O>, row: Row, key: &Option<Point>) -> Result<Record, Memory>
-    requires { stage_at state.old 0 ≡ free }
+fn insert<O: Spoken>(state: &mut State<O>, row: Row, key: &Option<AnyKey>) -> Result<Record, Memory>
+    requires free { stage_at state.old 0 ≡ free }
+    requires known { IsKnown O.speech (Insert row key.now) }
     ensures done { IfOk result (Performed O.meaning O.speech state.old state.new (Insert row key.now)) }
     ensures free { IfOk result (λ _. stage_at state.new 0 ≡ free) }
 {
     let seat = SeatNo::first();
     let from = position(state);
-    let found = key_in(state.class(), key)?;
+    let Some(found) = key_in(state.class(), key)? else {
+        unreachable!()
+    };
     match state.open_insert(seat, row, found) {
         Ok(()) => {}
         Err(OpenRefused::RowUsed) => return Ok(recorded(state, from, Outcome::RowUsed)),
@@ -93,29 +99,39 @@ fn insert<O: Spoken>(state: &mut State<O>, row: Row, key: &Option<Point>) -> Res
     }
 }
 
-/// The class's conditions for a script's.
+/// The class's conditions for a script's. None exactly where the class lacks one.
 fn conds_in<O: Spoken>(
     alloc: Global,
     class: &O,
-    conds: &[PointCond],
-) -> Result<List<O::Cond>, Memory>
-    ensures { IfOk result (λ found. found ≡ map O.speech.cond_in conds.now) }
+    conds: &[AnyCond],
+) -> Result<Option<List<O::Cond>>, Memory>
+    ensures { IfOk result (λ found. found ≡ conds_in O.speech conds.now) }
 {
     let mut found = List::new(alloc);
     for cond in conds {
-        found.push(class.cond_in(cond)?)?;
+        let Some(one) = class.cond_in(cond)? else {
+            return Ok(None);
+        };
+        found.push(one)?;
     }
-    Ok(found)
+    Ok(Some(found))
 }
 
-/// The class's query for a script's.
-fn query_in<O: Spoken>(alloc: Global, class: &O, query: &AnyQuery) -> Result<Query<O>, Memory>
+/// The class's query for a script's. None exactly where the class lacks a condition.
+fn query_in<O: Spoken>(
+    alloc: Global,
+    class: &O,
+    query: &AnyQuery,
+) -> Result<Option<Query<O>>, Memory>
     ensures { IfOk result (λ found. found ≡ query_in O.speech query.now) }
 {
     match query {
-        AnyQuery::All => Ok(Query::All),
-        AnyQuery::Null => Ok(Query::Null),
-        AnyQuery::Where(conds) => Ok(Query::Where(conds_in(alloc, class, conds.as_slice())?)),
+        AnyQuery::All => Ok(Some(Query::All)),
+        AnyQuery::Null => Ok(Some(Query::Null)),
+        AnyQuery::Where(conds) => match conds_in(alloc, class, conds.as_slice())? {
+            Some(found) => Ok(Some(Query::Where(found))),
+            None => Ok(None),
+        },
     }
 }
 
@@ -149,13 +165,16 @@ fn read_on<O: Spoken>(state: &mut State<O>, seat: SeatNo) -> Result<(), Memory>
 }
 
 fn find<O: Spoken>(alloc: Global, state: &mut State<O>, query: &AnyQuery) -> Result<Record, Memory>
-    requires { stage_at state.old 0 ≡ free }
+    requires free { stage_at state.old 0 ≡ free }
+    requires known { IsKnown O.speech (Find query.now) }
     ensures done { IfOk result (Performed O.meaning O.speech state.old state.new (Find query.now)) }
     ensures free { IfOk result (λ _. stage_at state.new 0 ≡ free) }
 {
     let seat = SeatNo::first();
     let from = position(state);
-    let query = query_in(alloc, state.class(), query)?;
+    let Some(query) = query_in(alloc, state.class(), query)? else {
+        unreachable!()
+    };
     state.open_scan(seat, query)?;
     let _ = state.pages();
     read_on(state, seat)?;
@@ -173,7 +192,8 @@ pub fn perform<O: Spoken>(
     state: &mut State<O>,
     command: &Command,
 ) -> Result<Record, Memory>
-    requires { stage_at state.old 0 ≡ free }
+    requires free { stage_at state.old 0 ≡ free }
+    requires known { IsKnown O.speech command.now }
     ensures done { IfOk result (Performed O.meaning O.speech state.old state.new command.now) }
     ensures free { IfOk result (λ _. stage_at state.new 0 ≡ free) }
 {

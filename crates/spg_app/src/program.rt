@@ -12,6 +12,7 @@ use crate::stream::{ReadRefused, read_all};
 use spg_io::{Sink, Source};
 use spg_kd::Kd;
 use spg_quad::Quad;
+use spg_radix::Radix;
 use std::alloc::Global;
 
 fn quad_ended(ending: Ending<Quad>) -> (Status, Option<EndState>)
@@ -30,6 +31,16 @@ fn kd_ended(ending: Ending<Kd>) -> (Status, Option<EndState>)
     match ending {
         Ending::Done(state) => (Status::Done, Some(EndState::Kd(state))),
         Ending::WriteFault(state) => (Status::WriteFault, Some(EndState::Kd(state))),
+        Ending::Memory => (Status::Memory, None),
+    }
+}
+
+fn radix_ended(ending: Ending<Radix>) -> (Status, Option<EndState>)
+    ensures { result ≡ ended state.Radix ending }
+{
+    match ending {
+        Ending::Done(state) => (Status::Done, Some(EndState::Radix(state))),
+        Ending::WriteFault(state) => (Status::WriteFault, Some(EndState::Radix(state))),
         Ending::Memory => (Status::Memory, None),
     }
 }
@@ -70,6 +81,7 @@ fn run_script<S: Source, K: Sink>(
     match script.class {
         ClassName::Quad => quad_ended(run_commands(alloc, Quad, commands, out)),
         ClassName::Kd => kd_ended(run_commands(alloc, Kd, commands, out)),
+        ClassName::Radix => radix_ended(run_commands(alloc, Radix, commands, out)),
     }
 }
 

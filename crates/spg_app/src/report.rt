@@ -1,4 +1,5 @@
-ghost use Rattle.std.specs.Prelude.{◌≡◌, IfOk, string_bytes, codes};
+ghost use Rattle.std.specs.Prelude.{◌≡◌, ◌++◌, ◌∷◌, IfOk, string_bytes, codes};
+ghost use Rattle.spg_base.specs.Text.{row_text};
 ghost use Rattle.spg_rows.specs.History.{seat_of};
 ghost use Rattle.spg_app.specs.Spelling.{conds_text};
 ghost use Rattle.spg_app.specs.Speech.{key_or_null_text, query_text};
@@ -6,7 +7,7 @@ ghost use Rattle.spg_app.specs.Text.{result_line, event_line, journal_line, outc
 
 use crate::record::{Outcome, Record};
 use crate::speech::Spoken;
-use spg_base::{Memory, Row, SeatNo};
+use spg_base::{Bytes, Memory, Row, SeatNo};
 use spg_opclass::Query;
 use spg_rows::Event;
 use std::alloc::{AllocError, Global};
@@ -56,36 +57,36 @@ pub fn journal_line(alloc: Global, count: u64) -> Result<String, AllocError>
 }
 
 /// The text of conditions: the first behind `where`, each further one behind `and`.
-pub fn where_text<O: Spoken>(alloc: Global, class: &O, conds: &[O::Cond]) -> Result<String, Memory>
-    ensures { IfOk result (λ text. string_bytes text ≡ conds_text O.speech.cond_text (codes "where ") conds.now) }
+fn where_text<O: Spoken>(alloc: Global, class: &O, conds: &[O::Cond]) -> Result<Bytes, Memory>
+    ensures { IfOk result (λ text. text ≡ conds_text O.speech.cond_text (codes "where ") conds.now) }
 {
-    let mut text = String::new(alloc);
-    let mut word = "where ";
+    let mut text = Bytes::new(alloc);
+    let mut word: &[u8] = b"where ";
     for cond in conds {
         let one = class.cond_text(alloc, cond)?;
-        text.push_str(word)?;
-        text.push_str(one.as_str())?;
-        word = " and ";
+        text.extend(word)?;
+        text.extend(one.as_slice())?;
+        word = b" and ";
     }
     Ok(text)
 }
 
-fn query_text<O: Spoken>(alloc: Global, class: &O, query: &Query<O>) -> Result<String, Memory>
-    ensures { IfOk result (λ text. string_bytes text ≡ query_text O.speech query.now) }
+fn query_text<O: Spoken>(alloc: Global, class: &O, query: &Query<O>) -> Result<Bytes, Memory>
+    ensures { IfOk result (λ text. text ≡ query_text O.speech query.now) }
 {
     match query {
-        Query::All => Ok(String::from_str(alloc, "all")?),
-        Query::Null => Ok(String::from_str(alloc, "null")?),
+        Query::All => Bytes::copy(alloc, b"all"),
+        Query::Null => Bytes::copy(alloc, b"null"),
         Query::Where(conds) => where_text(alloc, class, conds.as_slice()),
     }
 }
 
-fn key_text<O: Spoken>(alloc: Global, class: &O, key: &Option<O::Key>) -> Result<String, Memory>
-    ensures { IfOk result (λ text. string_bytes text ≡ key_or_null_text O.speech key.now) }
+fn key_text<O: Spoken>(alloc: Global, class: &O, key: &Option<O::Key>) -> Result<Bytes, Memory>
+    ensures { IfOk result (λ text. text ≡ key_or_null_text O.speech key.now) }
 {
     match key {
         Some(key) => class.key_text(alloc, key),
-        None => Ok(String::from_str(alloc, "null")?),
+        None => Bytes::copy(alloc, b"null"),
     }
 }
 
@@ -106,30 +107,56 @@ fn seat_of<O: Spoken>(event: &Event<O>) -> SeatNo
     }
 }
 
-fn event_text<O: Spoken>(alloc: Global, class: &O, event: &Event<O>) -> Result<String, Memory>
-    ensures { IfOk result (λ text. string_bytes text ≡ event_text O.speech event.now) }
+/// The bytes of a text.
+fn bytes_of(alloc: Global, text: &str) -> Result<Bytes, Memory>
+    ensures { IfOk result (λ bytes. bytes ≡ text.now) }
 {
-    match event {
-        Event::OpenInsert { row, key, .. } => {
-            let key = key_text(alloc, class, key)?;
-            Ok(format!(in alloc; "open insert {row} {key}")?)
-        }
-        Event::Put { row, .. } => Ok(format!(in alloc; "put {row}")?),
-        Event::Drop { row, .. } => Ok(format!(in alloc; "drop {row}")?),
-        Event::Kill { row, .. } => Ok(format!(in alloc; "kill {row}")?),
-        Event::OpenScan { query, .. } => {
-            let query = query_text(alloc, class, query)?;
-            Ok(format!(in alloc; "open scan {query}")?)
-        }
+    Bytes::copy(alloc, text.as_bytes())
+}
+
+fn opening_text<O: Spoken>(
+    alloc: Global,
+    class: &O,
+    row: Row,
+    key: &Option<O::Key>,
+) -> Result<Bytes, Memory>
+    ensures { IfOk result (λ text. text ≡ codes "open insert " ++ row_text row ++ 32 ∷ key_or_null_text O.speech key.now) }
+{
+    let key = key_text(alloc, class, key)?;
+    let front = format!(in alloc; "open insert {row} ")?;
+    let mut text = bytes_of(alloc, front.as_str())?;
+    text.extend(key.as_slice())?;
+    Ok(text)
+}
+
+fn scan_text<O: Spoken>(alloc: Global, class: &O, query: &Query<O>) -> Result<Bytes, Memory>
+    ensures { IfOk result (λ text. text ≡ codes "open scan " ++ query_text O.speech query.now) }
+{
+    let query = query_text(alloc, class, query)?;
+    let mut text = Bytes::copy(alloc, b"open scan ")?;
+    text.extend(query.as_slice())?;
+    Ok(text)
+}
+
+fn event_text<O: Spoken>(alloc: Global, class: &O, event: &Event<O>) -> Result<Bytes, Memory>
+    ensures { IfOk result (λ text. text ≡ event_text O.speech event.now) }
+{
+    let text = match event {
+        Event::OpenInsert { row, key, .. } => return opening_text(alloc, class, *row, key),
+        Event::OpenScan { query, .. } => return scan_text(alloc, class, query),
+        Event::Put { row, .. } => format!(in alloc; "put {row}")?,
+        Event::Drop { row, .. } => format!(in alloc; "drop {row}")?,
+        Event::Kill { row, .. } => format!(in alloc; "kill {row}")?,
         Event::CloseScan { rows, .. } => {
             let count = rows.len();
-            Ok(format!(in alloc; "close scan {count}")?)
+            format!(in alloc; "close scan {count}")?
         }
-        Event::OpenVacuum { .. } => Ok(String::from_str(alloc, "open vacuum")?),
-        Event::Sweep { row, .. } => Ok(format!(in alloc; "sweep {row}")?),
-        Event::CloseVacuum { swept, .. } => Ok(format!(in alloc; "close vacuum {swept}")?),
-        Event::Leave { .. } => Ok(String::from_str(alloc, "leave")?),
-    }
+        Event::OpenVacuum { .. } => String::from_str(alloc, "open vacuum")?,
+        Event::Sweep { row, .. } => format!(in alloc; "sweep {row}")?,
+        Event::CloseVacuum { swept, .. } => format!(in alloc; "close vacuum {swept}")?,
+        Event::Leave { .. } => String::from_str(alloc, "leave")?,
+    };
+    bytes_of(alloc, text.as_str())
 }
 
 /// The line of an event.
@@ -138,10 +165,14 @@ pub fn event_line<O: Spoken>(
     class: &O,
     at: u64,
     event: &Event<O>,
-) -> Result<String, Memory>
-    ensures { IfOk result (λ line. string_bytes line ≡ event_line O.speech at event.now) }
+) -> Result<Bytes, Memory>
+    ensures { IfOk result (λ line. line ≡ event_line O.speech at event.now) }
 {
     let seat = seat_of(event).number();
     let what = event_text(alloc, class, event)?;
-    Ok(format!(in alloc; "{at} {seat} {what}\n")?)
+    let front = format!(in alloc; "{at} {seat} ")?;
+    let mut line = bytes_of(alloc, front.as_str())?;
+    line.extend(what.as_slice())?;
+    line.push(b'\n')?;
+    Ok(line)
 }

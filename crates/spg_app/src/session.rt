@@ -1,7 +1,8 @@
-ghost use Rattle.std.specs.Prelude.{◌≡◌, [], IfOk};
+ghost use Rattle.std.specs.Prelude.{◌≡◌, [], IfOk, All};
 ghost use Rattle.spg_core.specs.Stage.{free};
 ghost use Rattle.spg_core.specs.Seen.{stage_at};
 ghost use Rattle.spg_rows.specs.Right.{Right};
+ghost use Rattle.spg_app.specs.Speech.{IsKnown};
 ghost use Rattle.spg_app.specs.Run.{RunTo};
 ghost use Rattle.spg_app.specs.Ending.{Ends, made_with};
 
@@ -25,6 +26,7 @@ fn perform_all<O: Spoken>(
     state: &mut State<O>,
     commands: &[Command],
 ) -> Result<Records, Memory>
+    requires known { All (IsKnown O.speech) commands.now }
     requires empty { state.old.journal ≡ [] }
     requires free { stage_at state.old 0 ≡ free }
     ensures run { IfOk result (RunTo O.meaning O.speech commands.now state.new) }
@@ -44,6 +46,7 @@ pub fn perform_script<O: Spoken>(
     class: O,
     commands: &[Command],
 ) -> Result<(State<O>, Records), Memory>
+    requires known { All (IsKnown O.speech) commands.now }
     ensures made { IfOk result (λ done. done.0.origin ≡ made_with) }
     ensures run { IfOk result (λ done. RunTo O.meaning O.speech commands.now done.0 done.1) }
     ensures right { IfOk result (λ done. Right O.meaning done.0.journal) }
@@ -72,6 +75,7 @@ pub fn run_commands<O: Spoken, K: Sink>(
     commands: &[Command],
     out: &mut K,
 ) -> Ending<O>
+    requires { All (IsKnown O.speech) commands.now }
     ensures { Ends O.meaning O.speech commands.now (K.contents out.old) (K.contents out.new) (K.faults out.old) (K.faults out.new) result }
 {
     let Ok((state, records)) = perform_script(alloc, class, commands) else {

@@ -1,32 +1,54 @@
 ghost use Rattle.std.specs.Prelude.{◌≡◌, IfOk, string_bytes};
-ghost use Rattle.spg_app.specs.Speech.{Speech};
+ghost use Rattle.spg_app.specs.Speech.{Speech, point_in, point_cond_in, text_in, text_cond_in};
 
-use crate::spelling::cond_text;
-use spg_base::{Memory, Point, PointCond};
+use crate::command::{AnyCond, AnyKey};
+use crate::spelling::{cond_text, quoted, text_cond_text};
+use spg_base::{Bytes, Memory, Point, PointCond, Same};
 use spg_kd::Kd;
 use spg_opclass::OpClass;
 use spg_quad::Quad;
+use spg_radix::{ByteText, Radix, TextCond};
 use std::alloc::Global;
 
 /// A class whose keys and conditions scripts can name, and texts can tell.
 pub trait Spoken: OpClass {
     ghost speech: { Speech Self.Key Self.Cond };
 
-    /// The class's key for a script's.
-    fn key_in(&self, key: &Point) -> Result<Self::Key, Memory>
+    /// The class's key for a script's. None exactly where the class has no such key.
+    fn key_in(&self, key: &AnyKey) -> Result<Option<Self::Key>, Memory>
         ensures { IfOk result (λ found. found ≡ speech.key_in key.now) };
 
-    /// The class's condition for a script's.
-    fn cond_in(&self, cond: &PointCond) -> Result<Self::Cond, Memory>
+    /// The class's condition for a script's. None exactly where the class has no such condition.
+    fn cond_in(&self, cond: &AnyCond) -> Result<Option<Self::Cond>, Memory>
         ensures { IfOk result (λ found. found ≡ speech.cond_in cond.now) };
 
     /// The text of a key.
-    fn key_text(&self, alloc: Global, key: &Self::Key) -> Result<String, Memory>
-        ensures { IfOk result (λ text. string_bytes text ≡ speech.key_text key.now) };
+    fn key_text(&self, alloc: Global, key: &Self::Key) -> Result<Bytes, Memory>
+        ensures { IfOk result (λ text. text ≡ speech.key_text key.now) };
 
     /// The text of a condition.
-    fn cond_text(&self, alloc: Global, cond: &Self::Cond) -> Result<String, Memory>
-        ensures { IfOk result (λ text. string_bytes text ≡ speech.cond_text cond.now) };
+    fn cond_text(&self, alloc: Global, cond: &Self::Cond) -> Result<Bytes, Memory>
+        ensures { IfOk result (λ text. text ≡ speech.cond_text cond.now) };
+}
+
+/// The point of a key. None exactly where it is a text.
+fn point_in(key: &AnyKey) -> Option<Point>
+    ensures { result ≡ point_in key.now }
+{
+    match key {
+        AnyKey::Point(point) => Some(*point),
+        AnyKey::Text(_) => None,
+    }
+}
+
+/// The condition on points. None exactly where it is one on texts.
+fn point_cond_in(cond: &AnyCond) -> Option<PointCond>
+    ensures { result ≡ point_cond_in cond.now }
+{
+    match cond {
+        AnyCond::Point(cond) => Some(*cond),
+        AnyCond::Text(_) => None,
+    }
 }
 
 impl Spoken for Quad {
@@ -34,20 +56,22 @@ impl Spoken for Quad {
 
     ghost speech = { point_speech };
 
-    fn key_in(&self, key: &Point) -> Result<Point, Memory> {
-        Ok(*key)
+    fn key_in(&self, key: &AnyKey) -> Result<Option<Point>, Memory> {
+        Ok(point_in(key))
     }
 
-    fn cond_in(&self, cond: &PointCond) -> Result<PointCond, Memory> {
-        Ok(*cond)
+    fn cond_in(&self, cond: &AnyCond) -> Result<Option<PointCond>, Memory> {
+        Ok(point_cond_in(cond))
     }
 
-    fn key_text(&self, alloc: Global, key: &Point) -> Result<String, Memory> {
-        Ok(format!(in alloc; "{key}")?)
+    fn key_text(&self, alloc: Global, key: &Point) -> Result<Bytes, Memory> {
+        let text = format!(in alloc; "{key}")?;
+        Bytes::copy(alloc, text.as_bytes())
     }
 
-    fn cond_text(&self, alloc: Global, cond: &PointCond) -> Result<String, Memory> {
-        Ok(cond_text(alloc, cond)?)
+    fn cond_text(&self, alloc: Global, cond: &PointCond) -> Result<Bytes, Memory> {
+        let text = cond_text(alloc, cond)?;
+        Bytes::copy(alloc, text.as_bytes())
     }
 }
 
@@ -56,19 +80,49 @@ impl Spoken for Kd {
 
     ghost speech = { point_speech };
 
-    fn key_in(&self, key: &Point) -> Result<Point, Memory> {
-        Ok(*key)
+    fn key_in(&self, key: &AnyKey) -> Result<Option<Point>, Memory> {
+        Ok(point_in(key))
     }
 
-    fn cond_in(&self, cond: &PointCond) -> Result<PointCond, Memory> {
-        Ok(*cond)
+    fn cond_in(&self, cond: &AnyCond) -> Result<Option<PointCond>, Memory> {
+        Ok(point_cond_in(cond))
     }
 
-    fn key_text(&self, alloc: Global, key: &Point) -> Result<String, Memory> {
-        Ok(format!(in alloc; "{key}")?)
+    fn key_text(&self, alloc: Global, key: &Point) -> Result<Bytes, Memory> {
+        let text = format!(in alloc; "{key}")?;
+        Bytes::copy(alloc, text.as_bytes())
     }
 
-    fn cond_text(&self, alloc: Global, cond: &PointCond) -> Result<String, Memory> {
-        Ok(cond_text(alloc, cond)?)
+    fn cond_text(&self, alloc: Global, cond: &PointCond) -> Result<Bytes, Memory> {
+        let text = cond_text(alloc, cond)?;
+        Bytes::copy(alloc, text.as_bytes())
+    }
+}
+
+impl Spoken for Radix {
+    ghost use Rattle.spg_app.specs.Speech.{text_speech};
+
+    ghost speech = { text_speech };
+
+    fn key_in(&self, key: &AnyKey) -> Result<Option<ByteText>, Memory> {
+        match key {
+            AnyKey::Text(text) => Ok(Some(text.copy()?)),
+            AnyKey::Point(_) => Ok(None),
+        }
+    }
+
+    fn cond_in(&self, cond: &AnyCond) -> Result<Option<TextCond>, Memory> {
+        match cond {
+            AnyCond::Text(cond) => Ok(Some(cond.copy()?)),
+            AnyCond::Point(_) => Ok(None),
+        }
+    }
+
+    fn key_text(&self, alloc: Global, key: &ByteText) -> Result<Bytes, Memory> {
+        quoted(alloc, key.as_slice())
+    }
+
+    fn cond_text(&self, alloc: Global, cond: &TextCond) -> Result<Bytes, Memory> {
+        text_cond_text(alloc, cond)
     }
 }

@@ -1,13 +1,15 @@
-ghost use Rattle.std.specs.Prelude.{◌≡◌, IfOk, string_bytes};
-ghost use Rattle.spg_app.specs.Spelling.{cond_text, asked_text, key_text, command_text};
+ghost use Rattle.std.specs.Prelude.{◌≡◌, ◌<◌, ◌++◌, IfOk, OnOk, string_bytes};
+ghost use Rattle.spg_app.specs.Quoted.{hex_digit, byte_text, quoted};
+ghost use Rattle.spg_app.specs.Line.{word_of};
+ghost use Rattle.spg_app.specs.Spelling.{cond_text};
+ghost use Rattle.spg_app.specs.Speech.{text_cond_text};
 
-use crate::command::{AnyQuery, Command};
-use crate::report::where_text;
-use spg_base::{Memory, Point, PointCond};
-use spg_quad::Quad;
+use crate::texts::is_plain;
+use spg_base::{Bytes, Memory, PointCond};
+use spg_radix::TextCond;
 use std::alloc::{AllocError, Global};
 
-/// The text of a condition.
+/// The text of a condition on points.
 pub fn cond_text(alloc: Global, cond: &PointCond) -> Result<String, AllocError>
     ensures { IfOk result (λ text. string_bytes text ≡ cond_text cond.now) }
 {
@@ -21,39 +23,59 @@ pub fn cond_text(alloc: Global, cond: &PointCond) -> Result<String, AllocError>
     }
 }
 
-/// The text of a query. All classes of points spell conditions alike.
-fn asked_text(alloc: Global, query: &AnyQuery) -> Result<String, Memory>
-    ensures { IfOk result (λ text. string_bytes text ≡ asked_text query.now) }
+/// A hexadecimal digit of lower case.
+fn hex_digit(n: u8) -> u8
+    requires { n < 16 }
+    ensures { result ≡ hex_digit n }
 {
-    match query {
-        AnyQuery::All => Ok(String::from_str(alloc, "all")?),
-        AnyQuery::Null => Ok(String::from_str(alloc, "null")?),
-        AnyQuery::Where(conds) => where_text(alloc, &Quad, conds.as_slice()),
+    if n < 10 { 48 + n } else { 87 + n }
+}
+
+/// Adds a byte of a text, by itself where it may be.
+fn push_byte(text: &mut Bytes, b: u8) -> Result<(), Memory>
+    ensures { OnOk result (text.new ≡ text.old ++ byte_text b) }
+{
+    if is_plain(b) {
+        text.push(b)
+    } else {
+        text.extend(&[b'\\', b'x', hex_digit(b / 16), hex_digit(b % 16)])
     }
 }
 
-/// The text of a key: a point or a null.
-fn key_text(alloc: Global, key: &Option<Point>) -> Result<String, AllocError>
-    ensures { IfOk result (λ text. string_bytes text ≡ key_text key.now) }
+/// A text between quotes, as it is printed.
+pub fn quoted(alloc: Global, text: &[u8]) -> Result<Bytes, Memory>
+    ensures { IfOk result (λ printed. printed ≡ quoted text.now) }
 {
-    match key {
-        Some(point) => format!(in alloc; "{point}"),
-        None => String::from_str(alloc, "null"),
+    let mut printed = Bytes::new(alloc);
+    printed.push(b'"')?;
+    for b in text {
+        push_byte(&mut printed, *b)?;
+    }
+    printed.push(b'"')?;
+    Ok(printed)
+}
+
+/// The word of a condition on texts.
+fn word(cond: &TextCond) -> &[u8]
+    ensures { result.now ≡ word_of cond.now }
+{
+    match cond {
+        TextCond::Eq(_) => b"eq",
+        TextCond::Lt(_) => b"lt",
+        TextCond::Le(_) => b"le",
+        TextCond::Gt(_) => b"gt",
+        TextCond::Ge(_) => b"ge",
+        TextCond::Starts(_) => b"starts",
     }
 }
 
-/// The line of a command.
-pub fn command_text(alloc: Global, command: &Command) -> Result<String, Memory>
-    ensures { IfOk result (λ text. string_bytes text ≡ command_text command.now) }
+/// The text of a condition on texts.
+pub fn text_cond_text(alloc: Global, cond: &TextCond) -> Result<Bytes, Memory>
+    ensures { IfOk result (λ text. text ≡ text_cond_text cond.now) }
 {
-    match command {
-        Command::Insert { row, key } => {
-            let key = key_text(alloc, key)?;
-            Ok(format!(in alloc; "insert {row} {key}")?)
-        }
-        Command::Find { query } => {
-            let asked = asked_text(alloc, query)?;
-            Ok(format!(in alloc; "find {asked}")?)
-        }
-    }
+    let named = quoted(alloc, cond.named())?;
+    let mut text = Bytes::copy(alloc, word(cond))?;
+    text.push(b' ')?;
+    text.extend(named.as_slice())?;
+    Ok(text)
 }

@@ -23,7 +23,7 @@ fn ran(rt: &HostRuntime, script: &[u8]) -> Result<(Status, Vec<u8>), Fail> {
 }
 
 /// Scripts, and the texts of their runs.
-const RUNS: [(&[u8], &[u8]); 6] = [
+const RUNS: [(&[u8], &[u8]); 9] = [
     (b"class quad", b"journal 0\n"),
     (b"class kd\n", b"journal 0\n"),
     (
@@ -41,6 +41,18 @@ const RUNS: [(&[u8], &[u8]); 6] = [
     (
         b"class quad\ninsert 2.1 -3,4\ninsert 1.9 -3,-2147483648\nfind where left 0 and below 5\nfind where above 4\n",
         b"1 0 2 added\n2 2 4 added\n3 4 6 found 2 walk 2 1.9 2.1\n4 6 8 found 0 walk 2\njournal 8\n0 0 open insert 2.1 -3,4\n1 0 put 2.1\n2 0 open insert 1.9 -3,-2147483648\n3 0 put 1.9\n4 0 open scan where left 0 and below 5\n5 0 close scan 2\n6 0 open scan where above 4\n7 0 close scan 0\n",
+    ),
+    (
+        b"class radix\ninsert 1.1 \"a\\x42 and \xc3\xa9\"\nfind where starts \"aB\" and ge \"a and \"\n",
+        b"1 0 2 added\n2 2 4 found 0 walk 1\njournal 4\n0 0 open insert 1.1 \"aB and \xc3\xa9\"\n1 0 put 1.1\n2 0 open scan where starts \"aB\" and ge \"a and \"\n3 0 close scan 0\n",
+    ),
+    (
+        b"class radix\ninsert 1.1 \"\"\ninsert 1.2 \"\\x00\\xFf\\x22\\x5C\\x7f~\"\nfind where lt \"b\"\nfind where eq \"\"\n",
+        b"1 0 2 added\n2 2 4 added\n3 4 6 found 2 walk 2 1.1 1.2\n4 6 8 found 1 walk 2 1.1\njournal 8\n0 0 open insert 1.1 \"\"\n1 0 put 1.1\n2 0 open insert 1.2 \"\\x00\xff\\x22\\x5c\\x7f~\"\n3 0 put 1.2\n4 0 open scan where lt \"b\"\n5 0 close scan 2\n6 0 open scan where eq \"\"\n7 0 close scan 1\n",
+    ),
+    (
+        b"class radix\ninsert 1.1 null\nfind where le \"\" and gt \"z\"\nfind null",
+        b"1 0 2 added\n2 2 4 found 0 walk 0\n3 4 6 found 1 walk 1 1.1\njournal 6\n0 0 open insert 1.1 null\n1 0 put 1.1\n2 0 open scan where le \"\" and gt \"z\"\n3 0 close scan 0\n4 0 open scan null\n5 0 close scan 1\n",
     ),
 ];
 
@@ -93,7 +105,7 @@ fn adds_below_a_divided_root(rt: HostRuntime) -> Result<(), Fail> {
 }
 
 /// Bytes that break one rule of the grammar each, and their first bad line.
-const BAD: [(&[u8], u32); 35] = [
+const BAD: [(&[u8], u32); 63] = [
     (b"", 1),
     (b"\nclass quad", 1),
     (b"class", 1),
@@ -132,6 +144,34 @@ const BAD: [(&[u8], u32); 35] = [
         b"class quad\nfind where left 1 and left 2 and left 3 and left 4 and left 5 and left 6 and left 7 and left 8 and left 9\n",
         2,
     ),
+    (b"class radix\ninsert 1.1 \"ab\n", 2),
+    (b"class radix\ninsert 1.1 ab\"\n", 2),
+    (b"class radix\ninsert 1.1 \"a\\x4\"\n", 2),
+    (b"class radix\ninsert 1.1 \"a\\X41\"\n", 2),
+    (b"class radix\ninsert 1.1 \"a\\x4g\"\n", 2),
+    (b"class radix\ninsert 1.1 \"a\\\"\"\n", 2),
+    (b"class radix\ninsert 1.1 \"a\x01b\"\n", 2),
+    (b"class radix\ninsert 1.1 \"a\tb\"\n", 2),
+    (b"class radix\ninsert 1.1 \"a\x7fb\"\n", 2),
+    (b"class radix\ninsert 1.1 \"a\" \n", 2),
+    (b"class radix\ninsert 1.1 \"a\"b\n", 2),
+    (b"class radix\ninsert 1.1 \"a\"\"\n", 2),
+    (b"class radix\ninsert 1.1 3,4\n", 2),
+    (b"class radix\ninsert 1.1 text\n", 2),
+    (b"class radix\nfind where left 3\n", 2),
+    (b"class radix\nfind where eq 3,4\n", 2),
+    (b"class radix\nfind where eq \"a\" \n", 2),
+    (b"class radix\nfind where eq\"a\"\n", 2),
+    (b"class radix\nfind where eq \"a\"and eq \"b\"\n", 2),
+    (b"class radix\nfind where eq \"a\" and\n", 2),
+    (b"class radix\nfind where starts a\n", 2),
+    (b"class radix\nfind where in \"a\"\n", 2),
+    (b"class quad\ninsert 1.1 \"a\"\n", 2),
+    (b"class kd\nfind where eq \"a\"\n", 2),
+    (b"class quad\nfind where starts \"3\"\n", 2),
+    (b"class radi\n", 1),
+    (b"class quad\nfind where left 3 and  right 4\n", 2),
+    (b"class quad\nfind everything\n", 2),
 ];
 
 #[test]
@@ -141,6 +181,25 @@ fn names_the_first_bad_line(rt: HostRuntime) -> Result<(), Fail> {
         assert_eq!(rt; status, Status::BadScript(line));
         assert_eq!(rt; taken.is_empty(), true);
     }
+    Ok(())
+}
+
+/// A script that asks for a text of so many bytes.
+fn asks_for_length(alloc: Global, length: usize) -> Result<String, AllocError> {
+    let mut script = String::from_str(alloc, "class radix\nfind where eq \"\\x41")?;
+    for _ in 1..length {
+        script.push_str("b")?;
+    }
+    script.push_str("\"\n")?;
+    Ok(script)
+}
+
+#[test]
+fn takes_texts_of_3900_bytes(rt: HostRuntime) -> Result<(), Fail> {
+    let script = asks_for_length(rt.alloc(), 3900)?;
+    assert_eq!(rt; ran(&rt, script.as_bytes())?.0, Status::Done);
+    let script = asks_for_length(rt.alloc(), 3901)?;
+    assert_eq!(rt; ran(&rt, script.as_bytes())?.0, Status::BadScript(2));
     Ok(())
 }
 

@@ -36,7 +36,7 @@ fn write_events<O: Spoken, K: Sink>(
 {
     for (at, event) in journal.iter().enumerate() {
         let line = event_line(alloc, class, at as u64, event)?;
-        write_all(sink, line.as_bytes())?;
+        write_all(sink, line.as_slice())?;
     }
     Ok(())
 }

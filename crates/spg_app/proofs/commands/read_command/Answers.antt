@@ -1,27 +1,29 @@
-use Rattle.std.proofs.Common.{◌≡◌, sym, ap, ◌∙◌, subst, Some}
-use Rattle.std.proofs.lemmas.Bool.{false≢true, eqb-true, eq-eqb}
-use Rattle.std.proofs.lemmas.Slice.Eq.{slice_eq-Decides}
+use Rattle.std.proofs.Common.{◌≡◌, Bool, List, ℕ, Option, Some, None, Result, Ok, Err, IfOk, IfSome, IfNone, refl, sym, ◌∙◌}
 use Rattle.spg_app.specs.declared.command.Command.{Command}
-use Rattle.spg_app.specs.Spelling.{IsCommand, command_text}
+use Rattle.spg_app.specs.declared.command.ClassName.{ClassName}
+use Rattle.spg_app.specs.Line.{Spells, has_texts}
 use Rattle.spg_app.specs.Reading.{command_of}
-use Rattle.spg_app.proofs.Spelled.{command_of-text}
+use Rattle.spg_app.proofs.CommandLines.{command_of-spelled, spelled-command_of}
 use Rattle.spg_app.proofs.commands.read_command.Goals as goal
 
-same_command : (x y : Command) → Some x ≡ Some y → x ≡ y
-same_command x y is = (cc)
+found_is : (class : ClassName) (line : List ℕ) (found : Option Command) → found ≡ command_of (has_texts class) line → IfSome found (λ c. Spells class c line)
+found_is class line None is = tt
+found_is class line (Some c) is = spelled-command_of (has_texts class) line c (sym is)
 
-pub returns-in_default-clause-none : goal.returns-in_default-clause-none
-returns-in_default-clause-none c = λ x is. c.in_default.not-Some x (c.in_ok-command.ensures ∙ ap command_of is.spelled ∙ command_of-text x is.fine)
+none_is : (class : ClassName) (line : List ℕ) (found : Option Command) → found ≡ command_of (has_texts class) line → IfNone found ((c : Command) → Spells class c line → ⊥)
+none_is class line (Some c) is = tt
+none_is class line None is = λ c spells. let clash : None ≡ Some c = is ∙ command_of-spelled (has_texts class) c line spells in (cc)
 
-pub returns-then-not-is_command-clause-none : goal.returns-then-not-is_command-clause-none
-returns-then-not-is_command-clause-none c = λ x is.
-    let found = c.in_ok-command.ensures ∙ ap command_of is.spelled ∙ command_of-text x is.fine in
-    let same = same_command _ _ (sym c.in-Some.is ∙ found) in
-    absurd (false≢true (sym c.if-not-is_command.true ∙ c.is_command.ensures.1 (subst IsCommand (sym same) is.fine)))
+each_found : {E : Type 0} (class : ClassName) (line : List ℕ) (texts : Bool) (r : Result (Option Command) E) → texts ≡ has_texts class → IfOk r (λ found. found ≡ command_of texts line) → IfOk r (λ found. IfSome found (λ c. Spells class c line))
+each_found class line texts (Ok found) of is = found_is class line found (rw of at is)
+each_found class line texts (Err e) of is = tt
 
-pub returns-else-eq-clause-none : goal.returns-else-eq-clause-none
-returns-else-eq-clause-none c = λ x is.
-    let found = c.in_ok-command.ensures ∙ ap command_of is.spelled ∙ command_of-text x is.fine in
-    let same = same_command _ _ (sym c.in-Some.is ∙ found) in
-    let equal = c.as_bytes.ensures.value ∙ c.in_ok-text.ensures ∙ ap command_text same ∙ sym is.spelled in
-    absurd (false≢true (sym c.if-eq.false ∙ (slice_eq-Decides (λ a b. (eqb-true a b, eq-eqb a b)) c.as_bytes.result.now c.args.line.now c.eq.result c.eq.ensures).1 equal))
+each_none : {E : Type 0} (class : ClassName) (line : List ℕ) (texts : Bool) (r : Result (Option Command) E) → texts ≡ has_texts class → IfOk r (λ found. found ≡ command_of texts line) → IfOk r (λ found. IfNone found ((c : Command) → Spells class c line → ⊥))
+each_none class line texts (Ok found) of is = none_is class line found (rw of at is)
+each_none class line texts (Err e) of is = tt
+
+pub returns-clause-found : goal.returns-clause-found
+returns-clause-found c = each_found c.args.class c.args.line.now c.has_texts.result c.command.result c.has_texts.ensures c.command.ensures
+
+pub returns-clause-none : goal.returns-clause-none
+returns-clause-none c = each_none c.args.class c.args.line.now c.has_texts.result c.command.result c.has_texts.ensures c.command.ensures
