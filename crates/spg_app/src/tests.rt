@@ -44,7 +44,7 @@ const RUNS: [(&[u8], &[u8]); 9] = [
     ),
     (
         b"class radix\ninsert 1.1 \"a\\x42 and \xc3\xa9\"\nfind where starts \"aB\" and ge \"a and \"\n",
-        b"1 0 2 added\n2 2 4 found 0 walk 1\njournal 4\n0 0 open insert 1.1 \"aB and \xc3\xa9\"\n1 0 put 1.1\n2 0 open scan where starts \"aB\" and ge \"a and \"\n3 0 close scan 0\n",
+        b"1 0 2 added\n2 2 4 found 1 walk 1 1.1\njournal 4\n0 0 open insert 1.1 \"aB and \xc3\xa9\"\n1 0 put 1.1\n2 0 open scan where starts \"aB\" and ge \"a and \"\n3 0 close scan 1\n",
     ),
     (
         b"class radix\ninsert 1.1 \"\"\ninsert 1.2 \"\\x00\\xFf\\x22\\x5C\\x7f~\"\nfind where lt \"b\"\nfind where eq \"\"\n",
