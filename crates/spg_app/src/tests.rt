@@ -66,7 +66,7 @@ fn prints_the_run(rt: HostRuntime) -> Result<(), Fail> {
     Ok(())
 }
 
-/// 292 points on a line, of which the last is one too many for a root leaf page.
+/// 292 points on a line. The last one divides the root, and then a chain.
 fn line_of_points(alloc: Global) -> Result<String, AllocError> {
     let mut script = String::from_str(alloc, "class quad\n")?;
     for i in 1..293u16 {
@@ -83,13 +83,13 @@ fn divides_the_root(rt: HostRuntime) -> Result<(), Fail> {
     let (status, taken) = ran(&rt, script.as_bytes())?;
     assert_eq!(rt; status, Status::Done);
     let mut lines = taken.as_slice().split(|b| *b == b'\n').skip(291);
-    assert_eq!(rt; lines.next(), Some(b"292 582 584 full".as_slice()));
+    assert_eq!(rt; lines.next(), Some(b"292 582 584 added".as_slice()));
     let found = lines.next().unwrap_or(b"");
     assert_eq!(rt;
-        found.starts_with(b"293 584 586 found 291 walk 292 1.1 1.2 "),
+        found.starts_with(b"293 584 586 found 292 walk 294 1.1 1.2 "),
         true
     );
-    assert_eq!(rt; found.ends_with(b" 1.290 1.291"), true);
+    assert_eq!(rt; found.ends_with(b" 1.291 1.292"), true);
     Ok(())
 }
 
