@@ -7,4 +7,6 @@ mod calls;
 #[cfg(test)]
 mod divides;
 #[cfg(test)]
+mod driver;
+#[cfg(test)]
 mod tests;
