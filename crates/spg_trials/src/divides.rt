@@ -13,7 +13,7 @@ use std::test::Fail;
 
 /// The keys of inserts, which are counted from 1.
 #[derive(Clone, Copy)]
-enum Keys {
+pub(crate) enum Keys {
     /// The number of the insert and this y.
     Line(i32),
     /// The first point at odd numbers, the second at even ones.
@@ -34,7 +34,7 @@ fn key_at(keys: Keys, number: u16) -> Option<Point> {
 }
 
 /// Inserts so many keys with rows 1.1, 1.2 and so on. The letters are those of the last insert.
-fn fill<O: Spoken>(
+pub(crate) fn fill<O: Spoken>(
     state: &mut State<O>,
     keys: Keys,
     count: u16,
