@@ -1,10 +1,10 @@
 -- Pages at another moment of the clock, and inserts of nulls over them.
-use Rattle.std.proofs.Common.{◌≡◌, ℕ, ◌<◌, ◌≤◌, ◌&&◌, not, Bool, true, false, List, [], Option, Some, None, length, refl, sym, ap, ◌∙◌, subst, inl, inr, arith}
+use Rattle.std.proofs.Common.{◌≡◌, ℕ, ◌<◌, ◌≤◌, ◌&&◌, not, Bool, true, false, List, Some, length, refl, sym, ap, ◌∙◌, subst, arith}
 use Rattle.std.proofs.lemmas.Bool.{false≢true}
 use Rattle.spg_base.specs.Row.{RowAt}
 use Rattle.spg_opclass.specs.Meaning.{Meaning}
 use Rattle.spg_forest.specs.Pages.{IsFresh}
-use Rattle.spg_forest.specs.Sheets.{Sheet, Sheets, blank}
+use Rattle.spg_forest.specs.Sheets.{Sheet, Sheets}
 use Rattle.spg_forest.specs.Shape.{Shape, Represents, spots}
 use Rattle.spg_forest.proofs.Keeping.{entry_of}
 use Rattle.spg_rows.specs.History.{History}

@@ -1,4 +1,4 @@
-use Rattle.std.proofs.Common.{◌≡◌, rules, subst}
+use Rattle.std.proofs.Common.{subst}
 use Rattle.spg_forest.specs.Tuples.{Live}
 use Rattle.spg_descend.specs.Carried.{carried}
 use Rattle.spg_descend.specs.Rules.{IsRule}
