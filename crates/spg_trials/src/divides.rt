@@ -1,106 +1,283 @@
-ghost use Rattle.std.specs.Prelude.{◌≡◌, true, false, IfOk, [], OnOk};
-ghost use Rattle.spg_core.specs.Stage.{free, IsInserting};
+ghost use Rattle.std.specs.Prelude.{◌≡◌, OnOk};
+ghost use Rattle.spg_core.specs.Stage.{free};
 ghost use Rattle.spg_core.specs.Seen.{stage_at};
 
-use spg_base::{Memory, Point, Row, SeatNo, Stat};
-use spg_core::{InsertOut, OpenRefused, State, StepRefused};
+use crate::driver::{Ask, find, insert};
+use spg_app::{ClassName, Spoken};
+use spg_base::{Memory, Point, PointCond, Row, Stat};
+use spg_core::State;
+use spg_kd::Kd;
 use spg_quad::Quad;
-use spg_rows::Why;
+use std::process::Abort;
 use std::test::Fail;
 
-/// The letter of a section's outcome.
-fn letter(out: &InsertOut) -> u8 {
-    match out {
-        InsertOut::Descended => b'D',
-        InsertOut::Restructured => b'S',
-        InsertOut::Restarted { .. } => b'R',
-        InsertOut::Put => b'P',
+/// The keys of inserts, which are counted from 1.
+#[derive(Clone, Copy)]
+pub(crate) enum Keys {
+    /// The number of the insert and this y.
+    Line(i32),
+    /// The first point at odd numbers, the second at even ones.
+    ByTurns(Point, Point),
+    /// Nulls.
+    Nulls,
+}
+
+fn key_at(keys: Keys, number: u16) -> Option<Point> {
+    match keys {
+        Keys::Line(y) => Some(Point {
+            x: i32::from(number),
+            y,
+        }),
+        Keys::ByTurns(odd, even) => Some(if number % 2 == 1 { odd } else { even }),
+        Keys::Nulls => None,
     }
 }
 
-/// Whether the insert of seat 0 has ended with a section, whose letter is noted. It is given up
-/// where it is refused.
-fn ends(state: &mut State<Quad>, log: &mut Vec<u8>) -> Result<bool, Memory>
-    requires { IsInserting (stage_at state.old 0) }
-    ensures ended { IfOk result (λ ended. ended ≡ true → stage_at state.new 0 ≡ free) }
-    ensures goes_on { IfOk result (λ ended. ended ≡ false → IsInserting (stage_at state.new 0)) }
-{
-    match state.insert_step(SeatNo::first()) {
-        Ok(InsertOut::Put) => {
-            log.push(b'P')?;
-            Ok(true)
-        }
-        Ok(out) => {
-            log.push(letter(&out))?;
-            Ok(false)
-        }
-        Err(StepRefused::IndexFull) => {
-            state.abandon(SeatNo::first(), Why::Full);
-            log.push(b'F')?;
-            Ok(true)
-        }
-        Err(_) => Err(Memory),
-    }
-}
-
-/// Does an insert, and notes a letter for each of its sections.
-fn insert(state: &mut State<Quad>, row: Row, key: Point, log: &mut Vec<u8>) -> Result<(), Memory>
+/// Inserts so many keys with rows 1.1, 1.2 and so on. The letters are those of the last insert.
+pub(crate) fn fill<O: Spoken>(
+    state: &mut State<O>,
+    keys: Keys,
+    count: u16,
+    log: &mut Vec<u8>,
+) -> Result<(), Memory>
     requires { stage_at state.old 0 ≡ free }
     ensures { OnOk result (stage_at state.new 0 ≡ free) }
 {
-    match state.open_insert(SeatNo::first(), row, Some(key)) {
-        Ok(()) => {}
-        Err(OpenRefused::RowUsed) => return Ok(()),
-        Err(OpenRefused::Memory) => return Err(Memory),
-    }
-    for _ in 0..8 {
-        if ends(state, log)? {
-            return Ok(());
-        }
-    }
-    Err(Memory)
-}
-
-/// Inserts points 1,0 to 292,0 with rows 1.1 to 1.292. The letters are those of the last one.
-fn fill(state: &mut State<Quad>, log: &mut Vec<u8>) -> Result<(), Memory>
-    requires { stage_at state.old 0 ≡ free }
-    ensures { OnOk result (stage_at state.new 0 ≡ free) }
-{
-    for i in 1..293u16 {
+    for index in 0..count {
+        let number = index + 1;
         log.clear();
-        let key = Point {
-            x: i32::from(i),
-            y: 0,
-        };
-        insert(state, Row::at(1, i), key, log)?;
+        insert(state, Row::at(1, number), key_at(keys, number), log)?;
     }
     Ok(())
 }
 
-fn stat(pages: u32, inner: u64, leaf: u64) -> Stat {
-    Stat {
-        pages,
-        inner,
-        leaf,
-        redirect: 0,
-        dead: 0,
-        placeholder: 0,
-        clock: 0,
-    }
+/// Keys of an index, the letters of the last insert, queries with the numbers of rows found and of
+/// tuples met, and the counts at the end.
+#[derive(Clone, Copy)]
+struct Case {
+    class: ClassName,
+    keys: Keys,
+    count: u16,
+    letters: &'static [u8],
+    finds: [(Ask, usize, u64); 3],
+    stat: Stat,
 }
 
-/// The 292nd point divides the root and then meets a chain that has no room. A point at an empty
-/// node still finds a page.
-#[test]
-fn divides_the_root(rt: HostRuntime) -> Result<(), Fail> {
-    let mut state = State::new(rt.alloc(), Quad, 65536)?;
+const ORIGIN: Point = Point { x: 0, y: 0 };
+
+const ONE: Point = Point { x: 1, y: 0 };
+
+const LEAST: Point = Point {
+    x: -2147483648,
+    y: -2147483648,
+};
+
+const GREATEST: Point = Point {
+    x: 2147483647,
+    y: 2147483647,
+};
+
+/// The counts of an index after the clock's first moment was given to a redirect.
+const COUNTS: Stat = Stat {
+    pages: 6,
+    inner: 2,
+    leaf: 292,
+    redirect: 1,
+    dead: 0,
+    placeholder: 16,
+    clock: 1,
+};
+
+const CASES: [Case; 6] = [
+    // The 292nd point of a line divides the root, and then the chain that it meets.
+    Case {
+        class: ClassName::Quad,
+        keys: Keys::Line(0),
+        count: 292,
+        letters: b"DSDP",
+        finds: [
+            (Ask::All, 292, 294),
+            (Ask::Where(PointCond::Eq(Point { x: 292, y: 0 })), 1, 75),
+            (Ask::Where(PointCond::Left(100)), 99, 147),
+        ],
+        stat: Stat {
+            placeholder: 71,
+            ..COUNTS
+        },
+    },
+    // Equal points go to the nodes in turn, and a short chain moves.
+    Case {
+        class: ClassName::Quad,
+        keys: Keys::ByTurns(ORIGIN, ORIGIN),
+        count: 300,
+        letters: b"DDP",
+        finds: [
+            (Ask::All, 300, 301),
+            (Ask::Where(PointCond::Eq(ORIGIN)), 300, 301),
+            (Ask::Where(PointCond::Eq(ONE)), 0, 301),
+        ],
+        stat: Stat {
+            pages: 5,
+            inner: 1,
+            leaf: 300,
+            placeholder: 29,
+            ..COUNTS
+        },
+    },
+    // The average of 0 and 1 is taken up to 1.
+    Case {
+        class: ClassName::Quad,
+        keys: Keys::ByTurns(ORIGIN, ONE),
+        count: 292,
+        letters: b"DSDP",
+        finds: [
+            (Ask::Where(PointCond::Eq(ONE)), 146, 148),
+            (Ask::Where(PointCond::Eq(ORIGIN)), 146, 147),
+            (Ask::All, 292, 294),
+        ],
+        stat: COUNTS,
+    },
+    // A root is divided at y and its child at x.
+    Case {
+        class: ClassName::Kd,
+        keys: Keys::Line(5),
+        count: 292,
+        letters: b"DSDP",
+        finds: [
+            (Ask::Where(PointCond::Eq(Point { x: 100, y: 5 })), 1, 221),
+            (Ask::All, 292, 294),
+            (Ask::Null, 0, 0),
+        ],
+        stat: Stat {
+            placeholder: 71,
+            ..COUNTS
+        },
+    },
+    // The ends of the coordinates.
+    Case {
+        class: ClassName::Quad,
+        keys: Keys::ByTurns(LEAST, GREATEST),
+        count: 292,
+        letters: b"DSDP",
+        finds: [
+            (
+                Ask::Where(PointCond::Inside {
+                    x1: -2147483648,
+                    y1: -2147483648,
+                    x2: 2147483647,
+                    y2: 2147483647,
+                }),
+                292,
+                294,
+            ),
+            (Ask::Where(PointCond::Left(-2147483648)), 0, 1),
+            (Ask::All, 292, 294),
+        ],
+        stat: COUNTS,
+    },
+    // One null more than a root leaf page holds.
+    Case {
+        class: ClassName::Quad,
+        keys: Keys::Nulls,
+        count: 409,
+        letters: b"DSDP",
+        finds: [
+            (Ask::Null, 409, 410),
+            (Ask::All, 409, 410),
+            (Ask::Where(PointCond::Eq(ORIGIN)), 0, 0),
+        ],
+        stat: Stat {
+            pages: 5,
+            inner: 1,
+            leaf: 409,
+            placeholder: 50,
+            ..COUNTS
+        },
+    },
+];
+
+/// Runs the queries, and compares their numbers and the counts of the index with those of the case.
+fn compare<R: AllocGlobal + Abort, O: Spoken>(
+    rt: &R,
+    state: &mut State<O>,
+    case: &Case,
+) -> Result<(), Fail>
+    requires { stage_at state.old 0 ≡ free }
+{
+    for (ask, rows, met) in case.finds {
+        let closed = find(rt.alloc(), state, ask)?;
+        assert_eq!(rt; (closed.rows.len(), closed.met), (rows, met));
+    }
+    assert_eq!(rt; state.stat(), case.stat);
+    Ok(())
+}
+
+/// Builds the index of a case and compares what it answers.
+fn try_case<R: AllocGlobal + Abort, O: Spoken>(rt: &R, class: O, case: &Case) -> Result<(), Fail> {
+    let mut state = State::new(rt.alloc(), class, 65536)?;
     let mut log = Vec::new(rt.alloc());
-    fill(&mut state, &mut log)?;
+    fill(&mut state, case.keys, case.count, &mut log)?;
+    assert_eq!(rt; log.as_slice(), case.letters);
+    compare(rt, &mut state, case)
+}
+
+/// Whole indexes of equal and of unequal keys, each with more than a root leaf page holds.
+#[test]
+fn divides_and_finds_again(rt: HostRuntime) -> Result<(), Fail> {
+    for case in CASES {
+        match case.class {
+            ClassName::Quad => try_case(&rt, Quad, &case)?,
+            ClassName::Kd => try_case(&rt, Kd, &case)?,
+        }
+    }
+    Ok(())
+}
+
+/// Inserts into an index whose last page is near, with their letters: at a node that leads nowhere a
+/// page is found, the row of an insert that was given up is free again, and nulls have a root of
+/// their own.
+const LATER: [(u32, u16, Option<Point>, &[u8]); 5] = [
+    (2, 1, Some(Point { x: 200, y: -5 }), b"DDP"),
+    (2, 2, Some(Point { x: 300, y: 0 }), b"DDF"),
+    (1, 292, Some(Point { x: -3, y: 7 }), b"DDP"),
+    (1, 292, Some(Point { x: -3, y: 7 }), b"U"),
+    (2, 3, None, b"DP"),
+];
+
+/// An insert that needs a page past the limit is given up. What stood stays, and inserts that need no
+/// such page go in.
+#[test]
+fn goes_on_when_full(rt: HostRuntime) -> Result<(), Fail> {
+    let mut state = State::new(rt.alloc(), Quad, 5)?;
+    let mut log = Vec::new(rt.alloc());
+    fill(&mut state, Keys::Line(0), 292, &mut log)?;
     assert_eq!(rt; log.as_slice(), b"DSDF".as_slice());
-    assert_eq!(rt; state.stat(), stat(4, 1, 291));
-    log.clear();
-    insert(&mut state, Row::at(2, 1), Point { x: 200, y: -5 }, &mut log)?;
-    assert_eq!(rt; log.as_slice(), b"DDP".as_slice());
-    assert_eq!(rt; state.stat(), stat(5, 1, 292));
+    let stat = Stat {
+        pages: 4,
+        inner: 1,
+        leaf: 291,
+        redirect: 0,
+        placeholder: 0,
+        clock: 0,
+        ..COUNTS
+    };
+    let closed = find(rt.alloc(), &mut state, Ask::All)?;
+    assert_eq!(rt; (closed.rows.len(), closed.met), (291, 292));
+    assert_eq!(rt; state.stat(), stat);
+    for (block, offset, key, letters) in LATER {
+        log.clear();
+        insert(&mut state, Row::at(block, offset), key, &mut log)?;
+        assert_eq!(rt; log.as_slice(), letters);
+    }
+    let closed = find(rt.alloc(), &mut state, Ask::All)?;
+    assert_eq!(rt; (closed.rows.len(), closed.met), (294, 295));
+    assert_eq!(rt;
+        state.stat(),
+        Stat {
+            pages: 5,
+            leaf: 294,
+            ..stat
+        }
+    );
     Ok(())
 }

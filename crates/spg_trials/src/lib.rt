@@ -5,6 +5,12 @@
 #[cfg(test)]
 mod calls;
 #[cfg(test)]
+mod clock;
+#[cfg(test)]
 mod divides;
+#[cfg(test)]
+mod driver;
+#[cfg(test)]
+mod moments;
 #[cfg(test)]
 mod tests;

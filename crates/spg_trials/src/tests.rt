@@ -52,22 +52,67 @@ fn runs_alike_for_each_class(rt: HostRuntime) -> Result<(), Fail> {
     Ok(())
 }
 
-#[test]
-fn divides_the_root_of_a_kd_tree(rt: HostRuntime) -> Result<(), Fail> {
+/// Every fiftieth row has a null.
+fn is_null(number: u16) -> bool {
+    number % 50 == 0
+}
+
+/// Rows 1.1 to 1.300, each with its point on a line or with a null, and queries.
+fn mixed_commands<R: AllocGlobal>(rt: &R) -> Result<String, AllocError> {
     let mut commands = String::new(rt.alloc());
-    for i in 1..293u16 {
-        let line = format!(in rt.alloc(); "insert 1.{i} {i},0\n")?;
+    for number in 1..301u16 {
+        let line = if is_null(number) {
+            format!(in rt.alloc(); "insert 1.{number} null\n")?
+        } else {
+            format!(in rt.alloc(); "insert 1.{number} {number},0\n")?
+        };
         commands.push_str(line.as_str())?;
     }
-    commands.push_str("find all\n")?;
-    let (status, taken) = ran(&rt, "class kd\n", commands.as_str())?;
+    commands.push_str("find null\nfind all\nfind where left 120 and right 90\n")?;
+    Ok(commands)
+}
+
+/// The line of a find of those rows from the first number to the last that have a null, or a point.
+fn found<R: AllocGlobal>(
+    rt: &R,
+    start: &str,
+    numbers: (u16, u16),
+    nulls: bool,
+    points: bool,
+) -> Result<String, AllocError> {
+    let mut line = String::from_str(rt.alloc(), start)?;
+    for number in numbers.0..numbers.1 {
+        if (is_null(number) && nulls) || (!is_null(number) && points) {
+            let row = format!(in rt.alloc(); " 1.{number}")?;
+            line.push_str(row.as_str())?;
+        }
+    }
+    Ok(line)
+}
+
+/// Nulls and points in one index: the points divide the root of their tree, and each query finds the
+/// rows of its own.
+#[test]
+fn keeps_nulls_and_points_apart(rt: HostRuntime) -> Result<(), Fail> {
+    let commands = mixed_commands(&rt)?;
+    let (status, taken) = ran(&rt, "class quad\n", commands.as_str())?;
     assert_eq!(rt; status, Status::Done);
-    let mut lines = taken.as_slice().split(|b| *b == b'\n').skip(291);
-    assert_eq!(rt; lines.next(), Some(b"292 582 584 full".as_slice()));
-    let found = lines.next().unwrap_or(b"");
+    let mut lines = taken.as_slice().split(|b| *b == b'\n').skip(299);
+    assert_eq!(rt; lines.next(), Some(b"300 598 600 added".as_slice()));
+    let nulls = found(&rt, "301 600 602 found 6 walk 6", (1, 301), true, false)?;
+    assert_eq!(rt; lines.next(), Some(nulls.as_bytes()));
+    let all = found(&rt, "302 602 604 found 300 walk 302", (1, 301), true, true)?;
+    assert_eq!(rt; lines.next(), Some(all.as_bytes()));
+    let between = found(&rt, "303 604 606 found 28 walk 147", (91, 120), false, true)?;
+    assert_eq!(rt; lines.next(), Some(between.as_bytes()));
+    assert_eq!(rt; lines.next(), Some(b"journal 606".as_slice()));
+    let mut ends = lines.skip(598);
     assert_eq!(rt;
-        found.starts_with(b"293 584 586 found 291 walk 292 1.1 1.2 "),
-        true
+        ends.next(),
+        Some(b"598 0 open insert 1.300 null".as_slice())
     );
+    assert_eq!(rt; ends.next(), Some(b"599 0 put 1.300".as_slice()));
+    assert_eq!(rt; ends.next(), Some(b"600 0 open scan null".as_slice()));
+    assert_eq!(rt; ends.next(), Some(b"601 0 close scan 6".as_slice()));
     Ok(())
 }

@@ -3,5 +3,5 @@ use Rattle.spg_core.specs.Stage.{free}
 use Rattle.spg_core.specs.Seen.{stage_at}
 use Rattle.spg_trials.proofs.divides.fill.Given as goal
 
-abbrev pub invariant-loop-i : goal.invariant-loop-i
-invariant-loop-i l = stage_at l.state 0 ≡ free
+abbrev pub invariant-loop-index : goal.invariant-loop-index
+invariant-loop-index g l = stage_at l.state 0 ≡ free

@@ -1,0 +1,79 @@
+-- Pages at another moment of the clock, and inserts of nulls over them.
+use Rattle.std.proofs.Common.{◌≡◌, ℕ, ◌<◌, ◌≤◌, ◌&&◌, not, Bool, true, false, List, Some, length, refl, sym, ap, ◌∙◌, subst, arith}
+use Rattle.std.proofs.lemmas.Bool.{false≢true}
+use Rattle.spg_base.specs.Row.{RowAt}
+use Rattle.spg_opclass.specs.Meaning.{Meaning}
+use Rattle.spg_forest.specs.Pages.{IsFresh}
+use Rattle.spg_forest.specs.Sheets.{Sheet, Sheets}
+use Rattle.spg_forest.specs.Shape.{Shape, Represents, spots}
+use Rattle.spg_forest.proofs.Keeping.{entry_of}
+use Rattle.spg_rows.specs.History.{History}
+use Rattle.spg_rows.specs.Legal.{IsLegal}
+use Rattle.spg_rows.specs.Rows.{is_claimed, is_put, is_swept, is_present}
+use Rattle.spg_rows.proofs.Histories.{sane_from_legal, put_claimed}
+use Rattle.spg_forest.specs.View.{Place}
+use Rattle.spg_forest.specs.Tuples.{Tuple}
+use Rattle.spg_forest.specs.Sheets.{links}
+use Rattle.spg_tree.specs.Table.{Table, sheets_of, tuple_at}
+use Rattle.spg_tree.specs.Descents.{Descending, in_nulls}
+use Rattle.spg_descend.specs.Leaves.{parent_block, stand_block}
+use Rattle.spg_descend.specs.Follows.{IsAtInner, tuple_place, link_of, stand_below, latched, left_behind, table_below, FollowsNode}
+use Rattle.spg_descend.specs.declared.enter.Entered.TheVariants.{In}
+use Rattle.spg_core.specs.Seen.{IsPresentWith}
+use Rattle.spg_core.specs.Stepping.{Stands, StandsAt, SamePages}
+use Rattle.spg_core.proofs.Stands.{stands_same, child_stands, released_same, latched_same, same_trans}
+use Rattle.spg_core.proofs.Chooses.{framed}
+
+-- a well formed index stays one at a later moment
+pub later : {Key Recon Cond : Type 0} (m : Meaning Key Recon Cond) (c d : ℕ) (ss : List Sheet) → c ≤ d → Shape m (record { clock = c; sheets = ss }) → Shape m (record { clock = d; sheets = ss })
+later m c d ss le H = record {
+  links = record {
+    meta = H.links.meta;
+    root = H.links.root;
+    downlink = H.links.downlink;
+    next = H.links.next;
+    one = H.links.one;
+    reached = H.links.reached;
+    stamps = λ x y u e. let h : u < c = H.links.stamps x y u e in omega (arith, h, le);
+  };
+  rows = H.rows;
+  keys = H.keys;
+  pages = record {
+    count = H.pages.count;
+    each = H.pages.each;
+    main = H.pages.main;
+    nulls = H.pages.nulls;
+    empty_root = H.pages.empty_root;
+    trees = H.pages.trees;
+    redirects = H.pages.redirects;
+  };
+}
+
+module _ {O Key Recon Cond : Type 0} (m : Meaning Key Recon Cond) where
+  present_put : (r : RowAt) (past : History O Key Recon Cond) → is_present r past ≡ true → is_put r past ≡ true
+  present_put r past h = go (is_put r past) h
+    where
+      go : (b : Bool) → b && not (is_swept r past) ≡ true → b ≡ true
+      go true h = refl
+      go false h = h
+
+  -- no leaf has a row that is not claimed
+  pub unclaimed_fresh : (S : Sheets) (past : History O Key Recon Cond) (row : RowAt) → Represents m S (IsPresentWith past) → IsLegal past → is_claimed row past ≡ false → IsFresh (spots S) row
+  unclaimed_fresh S past row R legal unclaimed x l a e =
+      let (key, h) = entry_of m S x l R.shape a in
+      let p : is_present l.row past ≡ true = ((R.entries l.row key).0 h).0 in
+      false≢true (sym unclaimed ∙ ap (λ r. is_claimed r past) (sym e) ∙ put_claimed past (sane_from_legal past legal) l.row (present_put l.row past p))
+
+-- below the first node of an inner tuple the pages are the same, and the insert stands again
+pub below : {Key Recon Cond : Type 0} (m : Meaning Key Recon Cond) (t t1 : Table) (d d2 : Descending Recon) (seat : ℕ) (rest : List ℕ) → Shape m (sheets_of t) → Stands t d → IsAtInner t d.stand → FollowsNode m t t1 d d2 seat 0 rest In → Shape m (sheets_of t1) × Stands t1 d2
+below {Key} {Recon} m t t1 d d2 seat rest H at i (free, et, ed) =
+    let x : Place = tuple_place d.stand in
+    let st = stand_below (link_of t x 0) in
+    let F = framed m t d H i at in
+    let n : 0 < length (links (tuple_at t x)) = subst (λ (u : Tuple). 0 < length (links u)) (sym F.tuple) F.nodes.some in
+    let s0 : SamePages t (table_below t d x st seat) = same_trans t (latched t (stand_block st) seat) (table_below t d x st seat) (latched_same t (stand_block st) seat) (released_same (latched t (stand_block st) seat) (left_behind (parent_block d.parent) x.block (stand_block st)) seat) in
+    let s1 : SamePages t t1 = subst (λ (z : Table). SamePages t z) (sym et) s0 in
+    let stands : StandsAt t (in_nulls d) st (Some (x, 0)) = child_stands m t (in_nulls d) d.stand d.parent 0 H at i n in (
+      subst (λ (S : Sheets). Shape m S) (sym s1.0) H,
+      subst (λ (z : Descending Recon). Stands t1 z) (sym ed) (stands_same t t1 (in_nulls d) st (Some (x, 0)) s1 stands),
+    )
