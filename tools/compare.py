@@ -1,50 +1,116 @@
 #!/usr/bin/env python3
 """Compares the program with another model of it on random scripts.
 
-    compare.py --program 'PATH run' --model 'PATH run' [--count N] [--seed S] [--inserts PART]
+    compare.py --program 'PATH run' --model 'PATH run' [--count N] [--seed S] [--large PART] [--classes quad,kd]
 
-Both commands read a script from standard input. They must write the same text, end with the same
-status and name the same bad line. A script on which they differ is left as NAME.differs.
+Both commands read a script from standard input. They must write the same text, end with the same status and name the
+same bad line. A script on which they differ is left as NAME.differs. Small scripts have edges and bad lines; large ones
+have hundreds to thousands of inserts of one shape, with finds between and behind them.
 """
 
 import argparse
+import os
 import pathlib
 import random
 import shlex
 import subprocess
 import sys
+from concurrent.futures import ThreadPoolExecutor
 
 EDGES = [-2147483648, -2147483647, -1, 0, 1, 2147483646, 2147483647]
+PLAIN = set(range(32, 127)) - {34, 92} | set(range(128, 256))
 
 
-def coordinate(rng, wide):
-    return rng.choice(EDGES) if rng.random() < 0.1 else rng.randint(-wide, wide)
+class Points:
+    """Keys and conditions of points."""
+
+    def __init__(self, rng, shape, wide):
+        self.rng, self.shape, self.wide = rng, shape, wide
+
+    def at(self, i):
+        rng, wide = self.rng, self.wide
+        if self.shape == "equal":
+            return (0, 0) if rng.random() < 0.97 else (rng.randint(-1, 1), rng.randint(-1, 1))
+        if self.shape == "few":
+            return rng.randint(0, wide % 7), rng.randint(0, 2)
+        if self.shape == "clustered":
+            centre = rng.randint(0, 5)
+            return centre * 1000 + rng.randint(-3, 3), centre * centre * 100 + rng.randint(-3, 3)
+        if self.shape == "sorted":
+            return i, i % rng.choice([1, 5])
+        if self.shape == "ends" or rng.random() < 0.1:
+            return rng.choice(EDGES), rng.choice(EDGES)
+        return rng.randint(-wide, wide), rng.randint(-wide, wide)
+
+    def key(self, i):
+        return b"%d,%d" % self.at(i)
+
+    def condition(self):
+        x, y = self.at(self.rng.randrange(4000))
+        kind = self.rng.choice([b"eq", b"left", b"right", b"below", b"above", b"in"])
+        if kind == b"eq":
+            return b"eq %d,%d" % (x, y)
+        if kind == b"in":
+            a, b = self.at(self.rng.randrange(4000))
+            return b"in %d,%d,%d,%d" % (min(x, a), min(y, b), max(x, a), max(y, b))
+        return kind + b" %d" % (x if kind in (b"left", b"right") else y)
 
 
-def point(rng, wide):
-    return f"{coordinate(rng, wide)},{coordinate(rng, wide)}"
+class Texts:
+    """Keys and conditions of texts."""
+
+    def __init__(self, rng, shape, wide):
+        self.rng, self.shape = rng, shape
+        self.alphabet = rng.choice([b"a", b"ab", b"abc", bytes(range(256)), b"\x00\xff", b"0123456789"])
+        self.prefix = bytes(rng.choice(self.alphabet) for _ in range(rng.choice([0, 0, 1, 5, 60, 300, 2000])))
+
+    def text(self, i):
+        rng = self.rng
+        if self.shape == "equal" and rng.random() < 0.97:
+            return self.prefix
+        if self.shape == "sorted":
+            return b"%06d" % i
+        body = bytes(rng.choice(self.alphabet) for _ in range(rng.choice([0, 1, 2, 3, 5, 8, 13])))
+        front = self.prefix if self.shape == "clustered" else b""
+        return (front[: rng.randint(0, len(front))] + body)[:3900]
+
+    def spelled(self, text):
+        rng = self.rng
+        told = b'"'
+        for byte in text:
+            if byte in PLAIN and rng.random() < 0.9:
+                told += bytes([byte])
+            else:
+                told += (b"\\x%02x" if rng.random() < 0.8 else b"\\x%02X") % byte
+        return told + b'"'
+
+    def key(self, i):
+        return self.spelled(self.text(i))
+
+    def condition(self):
+        kind = self.rng.choice([b"eq", b"lt", b"le", b"gt", b"ge", b"starts"])
+        text = self.text(self.rng.randrange(4000))
+        return kind + b" " + self.spelled(text[: self.rng.randint(0, len(text))])
 
 
-def condition(rng, wide):
-    kind = rng.choice(["eq", "left", "right", "below", "above", "in"])
-    if kind == "eq":
-        return f"eq {point(rng, wide)}"
-    if kind == "in":
-        xs = sorted(coordinate(rng, wide) for _ in range(2))
-        ys = sorted(coordinate(rng, wide) for _ in range(2))
-        return f"in {xs[0]},{ys[0]},{xs[1]},{ys[1]}"
-    return f"{kind} {coordinate(rng, wide)}"
+def query(rng, keys):
+    chance = rng.random()
+    if chance < 0.15:
+        return b"find all"
+    if chance < 0.25:
+        return b"find null"
+    return b"find where " + b" and ".join(keys.condition() for _ in range(rng.choice([1, 1, 1, 2, 2, 3, 8])))
 
 
-def command(rng, wide, inserts):
-    if rng.random() < inserts:
-        block = rng.choice([0, 1, 2, 4294967295])
-        offset = rng.choice([1, 2, 3, 4, 5, 6, 7, 8, 9, 65535, rng.randint(1, 400)])
-        return f"insert {block}.{offset} {point(rng, wide)}"
-    if rng.random() < 0.15:
-        return "find all"
-    count = rng.choice([1, 1, 1, 2, 2, 3, 8])
-    return "find where " + " and ".join(condition(rng, wide) for _ in range(count))
+def insert(rng, keys, i, row, nulls):
+    return b"insert %s " % row + (b"null" if rng.random() < nulls else keys.key(i))
+
+
+def keys_of(rng, classes):
+    name = rng.choice(classes)
+    shape = rng.choice(["equal", "few", "uniform", "clustered", "sorted", "ends"])
+    wide = rng.choice([2, 5, 20, 10000, 1000000])
+    return name, (Texts if name == "radix" else Points)(rng, shape, wide)
 
 
 def broken(rng, line):
@@ -54,61 +120,84 @@ def broken(rng, line):
     if change == 0:
         return line[:at] + line[at + 1 :]
     if change == 1:
-        return line[:at] + rng.choice(" 0-+.,9xand") + line[at:]
+        return line[:at] + rng.choice([b" ", b"0", b"-", b"+", b".", b",", b"9", b"x", b'"', b"\\", b"\x7f"]) + line[at:]
     if change == 2:
-        return line.replace(" ", "  ", 1)
-    return line + rng.choice([" ", " and", " and left 3", ",0", ".1"])
+        return line.replace(b" ", b"  ", 1)
+    return line + rng.choice([b" ", b" and", b" and left 3", b",0", b".1", b'"'])
 
 
-def script(rng, inserts):
+def small(rng, classes):
     """A script, in one of five cases with a line changed."""
-    wide = rng.choice([2, 5, 20, 1000000])
-    lines = [f"class {rng.choice(['quad', 'kd'])}"]
-    lines += [command(rng, wide, inserts) for _ in range(rng.choice([0, 3, 10, 40, 350]))]
+    name, keys = keys_of(rng, classes)
+    lines = [b"class " + name.encode()]
+    for i in range(rng.choice([0, 3, 10, 40, 350])):
+        row = b"%d.%d" % (rng.choice([0, 1, 2, 4294967295]), rng.choice([1, 2, 3, 65535, rng.randint(1, 400)]))
+        lines.append(insert(rng, keys, i, row, 0.1) if rng.random() < 0.7 else query(rng, keys))
     if rng.random() < 0.2:
         at = rng.randrange(len(lines))
         lines[at] = broken(rng, lines[at])
-    end = "" if rng.random() < 0.2 else "\n"
-    return "\n".join(lines) + end
+    return b"\n".join(lines) + (b"" if rng.random() < 0.2 else b"\n")
+
+
+def large(rng, classes):
+    """Many inserts of one shape."""
+    name, keys = keys_of(rng, classes)
+    count = rng.choice([300, 400, 600, 1000, 1500, 2500, 4000])
+    rows = list(range(count))
+    if rng.random() < 0.5:
+        rng.shuffle(rows)
+    nulls = rng.choice([0, 0, 0.1, 0.5, 0.9])
+    lines = [b"class " + name.encode()]
+    for i in range(count):
+        row = rows[i] if rng.random() < 0.99 else rng.randrange(count)
+        lines.append(insert(rng, keys, i, b"%d.%d" % (row // 300, row % 300 + 1), nulls))
+        if rng.random() < 8 / count:
+            lines.append(query(rng, keys))
+    lines += [query(rng, keys) for _ in range(rng.randint(1, 6))]
+    return b"\n".join(lines) + b"\n"
 
 
 def ran(words, text):
-    done = subprocess.run(words, input=text.encode(), capture_output=True, check=False)
-    errors = done.stderr.decode().splitlines()
-    return done.returncode, done.stdout.decode(), errors[:1]
+    done = subprocess.run(words, input=text, capture_output=True, check=False)
+    return done.returncode, done.stdout, done.stderr.splitlines()[:1]
 
 
 def show(name, text, ours, other):
     print(f"{name} differs: {ours[0]} and {other[0]}, {ours[2]} and {other[2]}")
     for number, (a, b) in enumerate(zip(ours[1].splitlines(), other[1].splitlines()), 1):
         if a != b:
-            print(f"  line {number}: {a!r} and {b!r}")
+            print(f"  line {number}: {a[:200]!r} and {b[:200]!r}")
             break
-    pathlib.Path(f"{name}.differs").write_text(text)
+    pathlib.Path(f"{name}.differs").write_bytes(text)
 
 
 def compare(options):
     program, model = shlex.split(options.program), shlex.split(options.model)
-    bad = refused = 0
-    for number in range(options.count):
-        name = f"{number:05}"
-        text = script(random.Random(f"{options.seed} {number}"), options.inserts)
+    classes = options.classes.split(",")
+
+    def one(number):
+        rng = random.Random(f"{options.seed} {number}")
+        text = (large if rng.random() < options.large else small)(rng, classes)
         ours, other = ran(program, text), ran(model, text)
-        refused += other[0] != 0
         if ours != other:
-            bad += 1
-            show(name, text, ours, other)
-    print(f"{options.count} scripts, {refused} refused by the model, {bad} differ")
+            show(f"{number:05}", text, ours, other)
+        return text.count(b"\n"), other[0] != 0, ours != other
+
+    with ThreadPoolExecutor(options.jobs) as pool:
+        lines, refused, bad = map(sum, zip(*pool.map(one, range(options.count))))
+    print(f"{options.count} scripts, {lines} lines, {refused} refused by the model, {bad} differ")
     return bad
 
 
 def main():
-    parser = argparse.ArgumentParser()
+    parser = argparse.ArgumentParser(description=__doc__, formatter_class=argparse.RawDescriptionHelpFormatter)
     parser.add_argument("--program", required=True)
     parser.add_argument("--model", required=True)
     parser.add_argument("--count", type=int, default=300)
     parser.add_argument("--seed", default="1")
-    parser.add_argument("--inserts", type=float, default=0.7, help="the part of inserts among commands")
+    parser.add_argument("--large", type=float, default=0.3, help="the part of scripts with many inserts")
+    parser.add_argument("--classes", default="quad,kd")
+    parser.add_argument("--jobs", type=int, default=os.cpu_count())
     return 1 if compare(parser.parse_args()) else 0
 
 

@@ -1,96 +1,22 @@
--- A section of an insert, and what it leaves of the state.
-use Rattle.std.proofs.Common.{◌≡◌, ◌<◌, ℕ, List, ◌++◌, [], ◌∷◌, is_none, Option, refl, sym, ap, ◌∙◌, subst, reverse}
+-- The keys of an insert's tree, where its sections found no room.
+use Rattle.std.proofs.Common.{◌<◌, ℕ, List, is_none, Option, subst, reverse}
 use Rattle.spg_base.specs.Row.{RowAt}
 use Rattle.spg_opclass.specs.Meaning.{Meaning}
 use Rattle.spg_forest.specs.Walk.{weight_of}
 use Rattle.spg_rows.specs.declared.event.Event.{Event}
-use Rattle.spg_rows.specs.declared.event.Event.TheVariants as event
-use Rattle.spg_tree.specs.Descents.{Descending}
-use Rattle.spg_core.specs.declared.answer.InsertOut.{InsertOut}
-use Rattle.spg_core.specs.declared.answer.InsertOut.TheVariants.{Descended, Restructured, Restarted, Put}
-use Rattle.spg_core.specs.Stage.{Stage, free, descending, reading, IsInserting}
-use Rattle.spg_core.specs.Seen.{Seen, stage_at, moved, past_of}
-use Rattle.spg_core.specs.Sections.{IsAfterSection, IsOutOf, IsInsertOut, IsHeavyFor, IsHeavy}
+use Rattle.spg_core.specs.Stage.{Stage, free, descending, reading}
+use Rattle.spg_core.specs.Seen.{Seen, stage_at, past_of}
+use Rattle.spg_core.specs.Sections.{IsHeavyFor, IsHeavy}
+use Rattle.spg_core.specs.Through.{IsInsertOf, StillInserts}
 use Rattle.spg_core.specs.Weight.{opened_keys}
-use Rattle.spg_app.specs.Underway.{IsInsertOf, GoesOn, PutsRow, HasOutgrown}
+use Rattle.spg_app.specs.Underway.{HasOutgrown}
 
-module _ {O Key Recon Cond : Type 0} where
-  pub goes_nowhere : (s : Seen O Key Recon Cond) (seat : ℕ) → GoesOn s s seat
-  goes_nowhere s seat = record { journal = refl; origin = refl; insert = λ row key is. is }
+module _ {O Key Recon Cond : Type 0} (m : Meaning Key Recon Cond) where
+  heavy : (seen : Seen O Key Recon Cond) (stage : Stage O Key Recon Cond) (row : RowAt) (key : Option Key) → IsHeavyFor m seen stage → IsInsertOf row key stage → 8160 < weight_of m (is_none key) (opened_keys (past_of seen))
+  heavy seen free row key is was = absurd is
+  heavy seen (descending k d) row key is (a, b) = subst (λ (x : Option Key). 8160 < weight_of m (is_none x) (opened_keys (past_of seen))) a is
+  heavy seen (reading s) row key is was = absurd is
 
-  same_insert : (row : RowAt) (key : Option Key) (k : Option Key) (d d2 : Descending Recon) (stage : Stage O Key Recon Cond) → d2.row ≡ d.row → stage ≡ descending k d2 → (k ≡ key) × (d.row ≡ row) → IsInsertOf row key stage
-  same_insert row key k d d2 stage same is (a, b) = subst (λ (s : Stage O Key Recon Cond). IsInsertOf row key s) (sym is) (a, same ∙ b)
-
-  moves : (s1 s2 : Seen O Key Recon Cond) (seat : ℕ) (k : Option Key) (d d2 : Descending Recon) → stage_at s1 seat ≡ descending k d → d2.row ≡ d.row → s2 ≡ moved s1 seat (descending k d2) s2.table → stage_at s2 seat ≡ descending k d2 → GoesOn s1 s2 seat
-  moves s1 s2 seat k d d2 at same is stage = record {
-    journal = ap (λ s. s.journal) is;
-    origin = ap (λ s. s.origin) is;
-    insert = λ row key was. same_insert row key k d d2 (stage_at s2 seat) same stage (subst (λ (s : Stage O Key Recon Cond). IsInsertOf row key s) at was);
-  }
-
-  section : (s1 s2 : Seen O Key Recon Cond) (seat : ℕ) (k : Option Key) (d : Descending Recon) (out : InsertOut) → stage_at s1 seat ≡ descending k d → IsAfterSection s1 s2 seat k d out → (out ≡ Put → ⊥) → GoesOn s1 s2 seat
-  section s1 s2 seat k d Descended at (d2, same, pages, is, stage) no_put = moves s1 s2 seat k d d2 at same is stage
-  section s1 s2 seat k d Restructured at (d2, same, is, stage) no_put = moves s1 s2 seat k d d2 at same is stage
-  section s1 s2 seat k d (Restarted block by) at (d2, same, pages, is, stage) no_put = moves s1 s2 seat k d d2 at same is stage
-  section s1 s2 seat k d Put at is no_put = absurd (no_put refl)
-
-  section_of : (s1 s2 : Seen O Key Recon Cond) (seat : ℕ) (out : InsertOut) (stage : Stage O Key Recon Cond) → stage_at s1 seat ≡ stage → IsOutOf s1 s2 seat out stage → (out ≡ Put → ⊥) → GoesOn s1 s2 seat
-  section_of s1 s2 seat out free at is no_put = absurd is
-  section_of s1 s2 seat out (descending k d) at is no_put = section s1 s2 seat k d out at is.1 no_put
-  section_of s1 s2 seat out (reading s) at is no_put = absurd is
-
-  pub goes_further : (s0 s1 s2 : Seen O Key Recon Cond) (seat : ℕ) (out : InsertOut) → GoesOn s0 s1 seat → IsInsertOut s1 s2 seat out → (out ≡ Put → ⊥) → GoesOn s0 s2 seat
-  goes_further s0 s1 s2 seat out G is no_put =
-      let H : GoesOn s1 s2 seat = section_of s1 s2 seat out (stage_at s1 seat) refl is no_put in
-      record { journal = H.journal ∙ G.journal; origin = H.origin ∙ G.origin; insert = λ row key was. H.insert row key (G.insert row key was) }
-
-  still_inserting : (k : Option Key) (d d2 : Descending Recon) (stage : Stage O Key Recon Cond) → stage ≡ descending k d2 → IsInserting stage
-  still_inserting k d d2 stage is = subst (λ (s : Stage O Key Recon Cond). IsInserting s) (sym is) tt
-
-  inserting_of : (s1 s2 : Seen O Key Recon Cond) (seat : ℕ) (out : InsertOut) (stage : Stage O Key Recon Cond) → IsOutOf s1 s2 seat out stage → (out ≡ Put → ⊥) → IsInserting (stage_at s2 seat)
-  inserting_of s1 s2 seat out free is no_put = absurd is
-  inserting_of s1 s2 seat out (reading s) is no_put = absurd is
-  inserting_of s1 s2 seat Descended (descending k d) (stood, (d2, same, pages, is, stage)) no_put = still_inserting k d d2 (stage_at s2 seat) stage
-  inserting_of s1 s2 seat Restructured (descending k d) (stood, (d2, same, is, stage)) no_put = still_inserting k d d2 (stage_at s2 seat) stage
-  inserting_of s1 s2 seat (Restarted block by) (descending k d) (stood, (d2, same, pages, is, stage)) no_put = still_inserting k d d2 (stage_at s2 seat) stage
-  inserting_of s1 s2 seat Put (descending k d) is no_put = absurd (no_put refl)
-
-  pub goes_inserting : (s1 s2 : Seen O Key Recon Cond) (seat : ℕ) (out : InsertOut) → IsInsertOut s1 s2 seat out → (out ≡ Put → ⊥) → IsInserting (stage_at s2 seat)
-  goes_inserting s1 s2 seat out is no_put = inserting_of s1 s2 seat out (stage_at s1 seat) is no_put
-
-  -- ---- the row is put
-
-  put_row : (s1 s2 : Seen O Key Recon Cond) (seat : ℕ) (k : Option Key) (d : Descending Recon) → stage_at s1 seat ≡ descending k d → IsAfterSection s1 s2 seat k d Put → PutsRow s1 s2 seat
-  put_row s1 s2 seat k d at (is, stage) = record {
-    journal = λ row key was. ap (λ s. s.journal) is ∙ ap (λ (x : RowAt). s1.journal ++ event.Put seat x ∷ []) (subst (λ (s : Stage O Key Recon Cond). IsInsertOf row key s) at was).1;
-    origin = ap (λ s. s.origin) is;
-    stage = stage;
-  }
-
-  put_of : (s1 s2 : Seen O Key Recon Cond) (seat : ℕ) (stage : Stage O Key Recon Cond) → stage_at s1 seat ≡ stage → IsOutOf s1 s2 seat Put stage → PutsRow s1 s2 seat
-  put_of s1 s2 seat free at is = absurd is
-  put_of s1 s2 seat (descending k d) at is = put_row s1 s2 seat k d at is.1
-  put_of s1 s2 seat (reading s) at is = absurd is
-
-  pub puts : (s0 s1 s2 : Seen O Key Recon Cond) (seat : ℕ) (out : InsertOut) → GoesOn s0 s1 seat → IsInsertOut s1 s2 seat out → out ≡ Put → PutsRow s0 s2 seat
-  puts s0 s1 s2 seat out G is put =
-      let P : PutsRow s1 s2 seat = put_of s1 s2 seat (stage_at s1 seat) refl (subst (λ (o : InsertOut). IsInsertOut s1 s2 seat o) put is) in
-      record {
-        journal = λ row key was. P.journal row key (G.insert row key was) ∙ ap (λ (j : List (Event O Key Recon Cond)). j ++ event.Put seat row ∷ []) G.journal;
-        origin = P.origin ∙ G.origin;
-        stage = P.stage;
-      }
-
-  -- ---- the index is full
-
-  pub goes_same : (s0 s1 s2 : Seen O Key Recon Cond) (seat : ℕ) → GoesOn s0 s1 seat → s2 ≡ s1 → GoesOn s0 s2 seat
-  goes_same s0 s1 s2 seat G same = subst (λ (s : Seen O Key Recon Cond). GoesOn s0 s seat) (sym same) G
-
-  heavy : (m : Meaning Key Recon Cond) (seen : Seen O Key Recon Cond) (stage : Stage O Key Recon Cond) (row : RowAt) (key : Option Key) → IsHeavyFor m seen stage → IsInsertOf row key stage → 8160 < weight_of m (is_none key) (opened_keys (past_of seen))
-  heavy m seen free row key is was = absurd is
-  heavy m seen (descending k d) row key is (a, b) = subst (λ (x : Option Key). 8160 < weight_of m (is_none x) (opened_keys (past_of seen))) a is
-  heavy m seen (reading s) row key is was = absurd is
-
-  pub outgrown : (m : Meaning Key Recon Cond) (s0 s1 : Seen O Key Recon Cond) (seat : ℕ) → GoesOn s0 s1 seat → IsHeavy m s1 seat → HasOutgrown m s0 seat
-  outgrown m s0 s1 seat G is = λ row key was.
-      subst (λ (j : List (Event O Key Recon Cond)). 8160 < weight_of m (is_none key) (opened_keys (reverse j))) G.journal (heavy m s1 (stage_at s1 seat) row key is (G.insert row key was))
+  pub outgrown : (s0 s1 : Seen O Key Recon Cond) (seat : ℕ) → StillInserts s0 s1 seat → IsHeavy m s1 seat → HasOutgrown m s0 seat
+  outgrown s0 s1 seat G is = λ row key was.
+      subst (λ (j : List (Event O Key Recon Cond)). 8160 < weight_of m (is_none key) (opened_keys (reverse j))) G.journal (heavy s1 (stage_at s1 seat) row key is (G.insert row key was))

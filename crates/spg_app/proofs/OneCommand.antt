@@ -27,7 +27,8 @@ use Rattle.spg_app.specs.declared.record.Record.{Record}
 use Rattle.spg_app.specs.Speech.{Speech, query_in}
 use Rattle.spg_app.specs.Walks.{TellsWalk, IsToldWalk}
 use Rattle.spg_app.specs.Run.{Performed, Does, IsDue}
-use Rattle.spg_app.specs.Underway.{IsInsertOf, GoesOn, PutsRow, HasOutgrown, ReadsToEnd}
+use Rattle.spg_core.specs.Through.{IsInsertOf, StillInserts, PutsRow}
+use Rattle.spg_app.specs.Underway.{HasOutgrown, ReadsToEnd}
 use Rattle.spg_app.proofs.Resting.{opens_resting, told}
 
 pub not_true : (b : Bool) → (b ≡ true → ⊥) → b ≡ false
@@ -80,7 +81,7 @@ module _ {O Key Recon Cond : Type 0} (m : Meaning Key Recon Cond) (speech : Spee
         go None o = subst (λ (s : Stage O Key Recon Cond). IsInsertOf row None s) (sym o.1) (refl, refl)
         go (Some x) o = subst (λ (s : Stage O Key Recon Cond). IsInsertOf row (Some x) s) (sym o.1) (refl, refl)
 
-    pub not_free : (s2 : Seen O Key Recon Cond) → GoesOn s1 s2 seat → stage_at s2 seat ≡ free → ⊥
+    pub not_free : (s2 : Seen O Key Recon Cond) → StillInserts s1 s2 seat → stage_at s2 seat ≡ free → ⊥
     not_free s2 goes is = subst (λ (s : Stage O Key Recon Cond). IsInsertOf row k s) is (goes.insert row k inserts)
 
   module _ (s0 s1 : Seen O Key Recon Cond) (seat : ℕ) (first : seat ≡ 0) (row : RowAt) (key : Option Point) (k : Option Key) (named : k ≡ option_map speech.key_in key) (opens : OpensInsert m s0 s1 seat row k) (r : Record) (claimed : is_claimed row (reverse s0.journal) ≡ false) where
@@ -99,7 +100,7 @@ module _ {O Key Recon Cond : Type 0} (m : Meaning Key Recon Cond) (speech : Spee
     }
 
     -- the insert is given up for want of a page, or of a moment of the clock
-    module _ (cause : Why) (s2 s3 : Seen O Key Recon Cond) (goes : GoesOn s1 s2 seat) (gives : GivesUp s2 s3 seat cause) (outgrown : HasOutgrown m s1 seat) where
+    module _ (cause : Why) (s2 s3 : Seen O Key Recon Cond) (goes : StillInserts s1 s2 seat) (gives : GivesUp s2 s3 seat cause) (outgrown : HasOutgrown m s1 seat) where
       dropped : s3.journal ≡ s1.journal ++ Drop seat row cause ∷ []
       dropped = ap (λ s. s.journal) gives.0 ∙ ap (λ (e : Event O Key Recon Cond). s2.journal ++ e ∷ []) (drops seat row k cause (stage_at s2 seat) (goes.insert row k (inserts s0 s1 seat row k opens)))
           ∙ ap (λ (j : List (Event O Key Recon Cond)). j ++ Drop seat row cause ∷ []) goes.journal
@@ -129,10 +130,10 @@ module _ {O Key Recon Cond : Type 0} (m : Meaning Key Recon Cond) (speech : Spee
         walk = tt;
       }
 
-    pub full : (s2 s3 : Seen O Key Recon Cond) → GoesOn s1 s2 seat → GivesUp s2 s3 seat why.Full → HasOutgrown m s1 seat → Spans r Full (length s0.journal) (length s3.journal) → Performed m speech s0 s3 (Insert row key) r
+    pub full : (s2 s3 : Seen O Key Recon Cond) → StillInserts s1 s2 seat → GivesUp s2 s3 seat why.Full → HasOutgrown m s1 seat → Spans r Full (length s0.journal) (length s3.journal) → Performed m speech s0 s3 (Insert row key) r
     full s2 s3 goes gives outgrown spans = given_up_with why.Full s2 s3 goes gives outgrown Full spans refl (λ heavy. (claimed, heavy))
 
-    pub clock_full : (s2 s3 : Seen O Key Recon Cond) → GoesOn s1 s2 seat → GivesUp s2 s3 seat why.Clock → HasOutgrown m s1 seat → Spans r ClockFull (length s0.journal) (length s3.journal) → Performed m speech s0 s3 (Insert row key) r
+    pub clock_full : (s2 s3 : Seen O Key Recon Cond) → StillInserts s1 s2 seat → GivesUp s2 s3 seat why.Clock → HasOutgrown m s1 seat → Spans r ClockFull (length s0.journal) (length s3.journal) → Performed m speech s0 s3 (Insert row key) r
     clock_full s2 s3 goes gives outgrown spans = given_up_with why.Clock s2 s3 goes gives outgrown ClockFull spans refl (λ heavy. (claimed, heavy))
 
   module _ (s0 s1 s2 s3 : Seen O Key Recon Cond) (seat : ℕ) (first : seat ≡ 0) (query : AnyQuery) (q : Query O Key Recon Cond) (asked : q ≡ query_in speech query) (closed : Closed) (r : Record) (shape : Shape m (sheets_of s1.table))

@@ -1,35 +1,17 @@
 -- How far the command of a seat has come.
-use Rattle.std.specs.Prelude.{◌≡◌, ◌<◌, ◌++◌, ℕ, [], ◌∷◌, is_none, Option, ⊤}
+use Rattle.std.specs.Prelude.{◌≡◌, ◌<◌, ℕ, is_none, Option, ⊤}
 use Rattle.spg_base.specs.Row.{RowAt}
 use Rattle.spg_opclass.specs.Meaning.{Meaning}
 use Rattle.spg_opclass.specs.declared.query.Query.{Query}
 use Rattle.spg_forest.specs.Sheets.{Sheets}
 use Rattle.spg_forest.specs.Walk.{weight_of}
-use Rattle.spg_rows.specs.declared.event.Event.TheVariants.{Put}
 use Rattle.spg_tree.specs.Table.{sheets_of}
 use Rattle.spg_scan.specs.Scanning.{counted}
 use Rattle.spg_scan.specs.Rest.{IsAtRest}
 use Rattle.spg_core.specs.Stage.{Stage, free, descending, reading, IsRead}
+use Rattle.spg_core.specs.Through.{IsInsertOf}
 use Rattle.spg_core.specs.Seen.{Seen, stage_at, past_of}
 use Rattle.spg_core.specs.Weight.{opened_keys}
-
--- an insert of this row, with this key or a null
-abbrev pub IsInsertOf : {O Key Recon Cond : Type 0} → RowAt → Option Key → Stage O Key Recon Cond → Type 0
-IsInsertOf row key free = ⊥
-IsInsertOf row key (descending k d) = (k ≡ key) × (d.row ≡ row)
-IsInsertOf row key (reading s) = ⊥
-
--- no event was written since, and the seat's insert is still open
-pub record GoesOn {O Key Recon Cond : Type 0} (old new : Seen O Key Recon Cond) (seat : ℕ) : Type 0 where
-  pub journal : new.journal ≡ old.journal
-  pub origin : new.origin ≡ old.origin
-  pub insert : (row : RowAt) (key : Option Key) → IsInsertOf row key (stage_at old seat) → IsInsertOf row key (stage_at new seat)
-
--- the seat's insert has ended, and its row is put
-pub record PutsRow {O Key Recon Cond : Type 0} (old new : Seen O Key Recon Cond) (seat : ℕ) : Type 0 where
-  pub journal : (row : RowAt) (key : Option Key) → IsInsertOf row key (stage_at old seat) → new.journal ≡ old.journal ++ Put seat row ∷ []
-  pub origin : new.origin ≡ old.origin
-  pub stage : stage_at new seat ≡ free
 
 -- the keys of the tree of the seat's insert that were ever inserted take more than 8,160 bytes
 abbrev pub HasOutgrown : {O Key Recon Cond : Type 0} → Meaning Key Recon Cond → Seen O Key Recon Cond → ℕ → Type 0

@@ -6,14 +6,15 @@ ghost use Rattle.spg_core.specs.Stage.{free, IsInserting, held_count};
 ghost use Rattle.spg_core.specs.Seen.{stage_at};
 ghost use Rattle.spg_app.specs.Speech.{query_in};
 ghost use Rattle.spg_app.specs.Run.{Performed};
-ghost use Rattle.spg_app.specs.Underway.{GoesOn, PutsRow, HasOutgrown, IsScanning, ReadsToEnd};
+ghost use Rattle.spg_core.specs.Through.{StillInserts, PutsRow};
+ghost use Rattle.spg_app.specs.Underway.{HasOutgrown, IsScanning, ReadsToEnd};
 ghost use Rattle.spg_app.specs.declared.command.Command.TheVariants.{Insert, Find};
 
 use crate::command::{AnyQuery, Command};
 use crate::record::{Outcome, Record};
 use crate::speech::Spoken;
 use spg_base::{List, Memory, Point, PointCond, Row, SeatNo, Span};
-use spg_core::{InsertOut, OpenKind, OpenRefused, State, StepRefused};
+use spg_core::{InsertRan, OpenKind, OpenRefused, State, StepRefused};
 use spg_opclass::Query;
 use spg_rows::Why;
 use std::alloc::Global;
@@ -40,23 +41,19 @@ fn recorded<O: Spoken>(state: &State<O>, from: u64, outcome: Outcome) -> Record
     }
 }
 
-/// Goes on with an insert until its row is put.
+/// Runs an insert through, until its row is put.
 fn put<O: Spoken>(state: &mut State<O>, seat: SeatNo) -> Result<(), StepRefused>
     requires first { seat ≡ 0 }
     requires inserting { IsInserting (stage_at state.old seat) }
     ensures ok { OnOk result (PutsRow state.old state.new seat) }
     ensures full { IsErrOf result IndexFull → HasOutgrown O.meaning state.old seat }
     ensures clock { IsErrOf result ClockFull → HasOutgrown O.meaning state.old seat }
-    ensures err { OnErr result (GoesOn state.old state.new seat) }
+    ensures err { OnErr result (StillInserts state.old state.new seat) }
 {
-    // No clause of a section says that an insert comes to its end, so the loop has a bound, which
-    // no run reaches.
-    for _ in 0..u64::MAX {
-        if let InsertOut::Put = state.insert_step(seat)? {
-            return Ok(());
-        }
+    match state.insert_through(seat)? {
+        InsertRan::Put => Ok(()),
+        InsertRan::Restarted { .. } => unreachable!(),
     }
-    Err(StepRefused::Memory)
 }
 
 /// The class's key for a script's, or a null.

@@ -1,4 +1,4 @@
-ghost use Rattle.std.specs.Prelude.{◌≡◌, IfOk, false, string_bytes};
+ghost use Rattle.std.specs.Prelude.{◌≡◌, IfOk, string_bytes};
 ghost use Rattle.spg_app.specs.Speech.{Speech};
 
 use crate::spelling::cond_text;
@@ -27,13 +27,9 @@ pub trait Spoken: OpClass {
     /// The text of a condition.
     fn cond_text(&self, alloc: Global, cond: &Self::Cond) -> Result<String, Memory>
         ensures { IfOk result (λ text. string_bytes text ≡ speech.cond_text cond.now) };
-
-    /// The class has no labels.
-    ghost no_labels: { Self.meaning.labels ≡ false };
 }
 
 impl Spoken for Quad {
-    ghost use Rattle.std.specs.Prelude.{refl};
     ghost use Rattle.spg_app.specs.Speech.{point_speech};
 
     ghost speech = { point_speech };
@@ -53,12 +49,9 @@ impl Spoken for Quad {
     fn cond_text(&self, alloc: Global, cond: &PointCond) -> Result<String, Memory> {
         Ok(cond_text(alloc, cond)?)
     }
-
-    ghost no_labels = { refl };
 }
 
 impl Spoken for Kd {
-    ghost use Rattle.std.specs.Prelude.{refl};
     ghost use Rattle.spg_app.specs.Speech.{point_speech};
 
     ghost speech = { point_speech };
@@ -78,6 +71,4 @@ impl Spoken for Kd {
     fn cond_text(&self, alloc: Global, cond: &PointCond) -> Result<String, Memory> {
         Ok(cond_text(alloc, cond)?)
     }
-
-    ghost no_labels = { refl };
 }

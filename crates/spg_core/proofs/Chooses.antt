@@ -3,7 +3,7 @@ use Rattle.std.proofs.Common.{◌≡◌, ℕ, ◌<◌, Bool, true, false, List, 
 use Rattle.std.specs.Prelude.{option_map}
 use Rattle.std.proofs.lemmas.List.{length-replicate}
 use Rattle.spg_opclass.specs.Meaning.{Meaning, is_tuple}
-use Rattle.spg_opclass.specs.Laws.{MatchLaw, PlainLaw}
+use Rattle.spg_opclass.specs.Laws.{MatchLaw}
 use Rattle.spg_opclass.specs.declared.view.Choice.TheVariants.{Match}
 use Rattle.spg_forest.specs.View.{Place}
 use Rattle.spg_forest.specs.Spot.{Frame}
@@ -59,10 +59,6 @@ module _ {Key Recon Cond : Type 0} (m : Meaning Key Recon Cond) (matches : Match
 
   rebuilt : (key : Option Key) → IsCarried m (sheets_of t) d key → (k : Key) × (m.rebuild recon d.rest ≡ Some k) × (key ≡ Some k)
   rebuilt key C = key_given m recon d.rest key (subst (λ (r : Option Recon). key_of m r d.rest ≡ Some key) er C.rebuilt)
-
-  -- a class without labels answers a match
-  pub is_match : m.labels ≡ false → PlainLaw m → (key : Option Key) → IsCarried m (sheets_of t) d key → (node : ℕ) × (rest : List ℕ) × (m.answer recon w d.rest ≡ Match node rest)
-  is_match plain law key C = let (k, e, q) = rebuilt key C in law plain recon w d.rest k tuple_ok e
 
   -- the node is there
   pub node_there : (key : Option Key) → IsCarried m (sheets_of t) d key → (node : ℕ) (rest : List ℕ) (turn : ℕ) → turn < 8 → m.answer recon w d.rest ≡ Match node rest → named turn w node < length (links (tuple_at t (tuple_place d.stand)))

@@ -122,7 +122,7 @@ below_left None x below b = none_left (is_held below b) (nat_eq x b)
 below_left (Some a) x below b = left_held (nat_eq a x || is_held below a) (is_held below b) (nat_eq x b) a b (λ e.
     subst (λ c. (nat_eq a x || is_held below a) ≡ (is_held below c || nat_eq x c)) e (or_sym (nat_eq a x) (is_held below a) ∙ ap (λ k. is_held below a || k) (eqb_sym a x)))
 
-inner_block : (t : Table) (st : Stand) → IsAtInner t st → stand_block st ≡ Some (tuple_place st).block
+pub inner_block : (t : Table) (st : Stand) → IsAtInner t st → stand_block st ≡ Some (tuple_place st).block
 inner_block t Start i = absurd i.0
 inner_block t (Root b) i = refl
 inner_block t (At x) i = refl
@@ -139,15 +139,15 @@ below_holds t seat d st i within h =
     held_as (released (latched t sb seat) (left_behind par x sb) seat) seat (λ b. not (is_held (left_behind par x sb) b) && (is_held sb b || (nat_eq x b || is_held par b))) (λ b. is_held sb b || nat_eq x b) (below_left par x sb)
     (held_released (latched t sb seat) (left_behind par x sb) seat (λ b. is_held sb b || (nat_eq x b || is_held par b)) taken)
 
--- it goes from a chain to the inner tuple that took its place
+-- it goes to another block below the same tuple
 chain_left : (was : Option ℕ) (z : ℕ) (parent : Option ℕ) (b : ℕ) → (not (is_held (left_block was (Some z) parent) b) && (nat_eq z b || (is_held was b || is_held parent b))) ≡ (nat_eq z b || is_held parent b)
 chain_left None z parent b = refl
 chain_left (Some w) z parent b = ap (λ k. not (is_held (left_block (Some w) (Some z) parent) b) && (nat_eq z b || k)) (or_sym (nat_eq w b) (is_held parent b))
     ∙ left_held (nat_eq z w || is_held parent w) (nat_eq z b) (is_held parent b) w b (λ e. ap (λ c. nat_eq z c || is_held parent c) e)
 
-anew_holds : {Recon : Type 0} (t : Table) (seat : ℕ) (d : Descending Recon) (z : ℕ) → z < length t.latches → InsertHolds t seat d →
+left_holds : {Recon : Type 0} (t : Table) (seat : ℕ) (d : Descending Recon) (z : ℕ) → z < length t.latches → InsertHolds t seat d →
     AreHeld (released (latched t (Some z) seat) (left_block (stand_block d.stand) (Some z) (parent_block d.parent)) seat) seat (λ b. nat_eq z b || is_held (parent_block d.parent) b)
-anew_holds t seat d z within h =
+left_holds t seat d z within h =
     let was : Option ℕ = stand_block d.stand in
     let par : Option ℕ = parent_block d.parent in
     held_as (released (latched t (Some z) seat) (left_block was (Some z) par) seat) seat (λ b. not (is_held (left_block was (Some z) par) b) && (nat_eq z b || (is_held was b || is_held par b))) (λ b. nat_eq z b || is_held par b) (chain_left was z par)
@@ -184,15 +184,15 @@ back_holds {Recon} t t1 t2 seat d d2 et same ed h =
     let none : NoLatches t2 = λ b. same b ∙ subst NoLatches (sym et) (all_free t seat d h) b in
     (none, subst (λ (z : Descending Recon). InsertHolds t2 seat z) (sym ed) none)
 
--- its chain was divided without its leaf, and it stands at the new inner tuple
-pub chain_holds : {Recon : Type 0} (t t1 t2 : Table) (seat : ℕ) (d d2 : Descending Recon) (z : Place) (was : Option ℕ) → z.block < length t1.latches → ((b : ℕ) → latch_at t1 b ≡ latch_at t b) → was ≡ stand_block d.stand → d2.stand ≡ At z → d2.parent ≡ d.parent →
+-- it stands on block z, below the tuple that it stood below
+pub anew_holds : {Recon : Type 0} (t t1 t2 : Table) (seat : ℕ) (d d2 : Descending Recon) (z : ℕ) (was : Option ℕ) → z < length t1.latches → ((b : ℕ) → latch_at t1 b ≡ latch_at t b) → was ≡ stand_block d.stand → stand_block d2.stand ≡ Some z → d2.parent ≡ d.parent →
     (IsOpenTo t1 (stand_block d2.stand) seat → t2 ≡ released (latched t1 (stand_block d2.stand) seat) (left_block was (stand_block d2.stand) (parent_block d2.parent)) seat) → InsertHolds t seat d → InsertHolds t2 seat d2
-chain_holds {Recon} t t1 t2 seat d d2 z was within same ew stand parent held h =
+anew_holds {Recon} t t1 t2 seat d d2 z was within same ew stand parent held h =
     let h1 : InsertHolds t1 seat d = holds_same t t1 seat d d same refl refl h in
     let et : t2 ≡ released (latched t1 (stand_block d2.stand) seat) (left_block was (stand_block d2.stand) (parent_block d2.parent)) seat = held (open_to t1 (stand_block d2.stand) seat (holds_block d) h1) in
-    let anew : AreHeld t2 seat (λ b. nat_eq z.block b || is_held (parent_block d.parent) b) = subst (λ (x : Table). AreHeld x seat (λ b. nat_eq z.block b || is_held (parent_block d.parent) b)) (sym et)
-    (rw (ew, stand, parent) (anew_holds t1 seat d z.block within h1)) in
-    λ b. anew b ∙ ap (λ (p : Option (Place × ℕ)). cond (nat_eq z.block b || is_held (parent_block p) b) (Some seat) None) (sym parent) ∙ ap (λ (s : Stand). cond (is_held (stand_block s) b || is_held (parent_block d2.parent) b) (Some seat) None) (sym stand)
+    let anew : AreHeld t2 seat (λ b. nat_eq z b || is_held (parent_block d.parent) b) = subst (λ (x : Table). AreHeld x seat (λ b. nat_eq z b || is_held (parent_block d.parent) b)) (sym et)
+    (rw (ew, stand, parent) (left_holds t1 seat d z within h1)) in
+    λ b. anew b ∙ ap (λ (p : Option (Place × ℕ)). cond (nat_eq z b || is_held (parent_block p) b) (Some seat) None) (sym parent) ∙ ap (λ (s : Option ℕ). cond (is_held s b || is_held (parent_block d2.parent) b) (Some seat) None) (sym stand)
 
 -- ---- what the callers see of it
 

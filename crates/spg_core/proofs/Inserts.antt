@@ -1,5 +1,5 @@
 -- What a section of an insert leaves of a state.
-use Rattle.std.proofs.Common.{◌≡◌, ◌<◌, ◌+◌, inr, ⊎_elim, ℕ, Bool, List, [], ◌∷◌, ◌++◌, length, get_or, set, reverse, Option, Vec, refl, sym, ap, ◌∙◌, subst, get_or-set_same, length-set, arith, map}
+use Rattle.std.proofs.Common.{◌≡◌, ◌<◌, ◌+◌, inr, ⊎_elim, ℕ, Bool, true, false, cond, Some, None, List, [], ◌∷◌, ◌++◌, length, get_or, set, reverse, Option, Vec, refl, sym, ap, ◌∙◌, subst, get_or-set_same, length-set, arith, map}
 use Rattle.std.specs.Prelude.{is_none}
 use Rattle.spg_forest.specs.Section.{Adds}
 use Rattle.std.specs.declared.alloc.Global.{Global}
@@ -22,8 +22,8 @@ use Rattle.spg_core.specs.declared.slot.Slot.TheVariants.{Free, Insert, Scan}
 use Rattle.spg_core.specs.declared.state.State.TheInside.{Inside}
 use Rattle.spg_core.specs.Stepping.{HasInnerRoot, SamePages, GoesOn, RootsGrow, IsOutgrown}
 use Rattle.spg_core.specs.Operations.{CanStep, IsOutgrownBy, StepsFrom, IsRowOf}
-use Rattle.spg_core.specs.Sections.{IsOutOf, IsHeavyFor, StoodFor}
-use Rattle.spg_core.specs.Latches.{NoLatches, StageHolds, SlotHolds, InsertHolds, LatchesAfter, ChangesHeld}
+use Rattle.spg_core.specs.Sections.{IsOutOf, IsNoRestart, IsHeavyFor, StoodFor}
+use Rattle.spg_core.specs.Latches.{NoLatches, StageHolds, SlotHolds, InsertHolds, LatchesAfter, ChangesHeld, holds_block}
 use Rattle.spg_core.specs.Weight.{opened_keys}
 use Rattle.spg_core.specs.Slot.{stage_of}
 use Rattle.spg_core.specs.Stage.{Stage, free, descending, IsInserting}
@@ -33,6 +33,11 @@ use Rattle.spg_core.proofs.Holding.{changes_held}
 use Rattle.spg_core.proofs.Weights.{root_heavy, nulls_key}
 use Rattle.spg_core.proofs.Slots.{set_twice, stage_set, stage_is, past_is, table_is, moved_is, logged_is, seen_as}
 use Rattle.spg_core.proofs.Steps.{pages_are, rows_are, with_fields, kept_moved, kept_logged, pages_moved, pages_left, pages_put, put_rows, room_ended, insert_claimed, holds_now, sane}
+
+-- a block that the seat alone may have latched is not another's
+held_alone : (held : Bool) (by seat : ℕ) → cond held (Some seat) None ≡ Some by → (by ≡ seat → ⊥) → ⊥
+held_alone true by seat e other = other (let f : Some seat ≡ Some by = e in cc)
+held_alone false by seat e other = cc e
 
 module _ {O Key Recon Cond : Type 0} (m : Meaning Key Recon Cond) (codes : CodeLaw m) (s : Inside O Key Recon Cond) (kept : IsKept m s) (seat : ℕ) where
   abbrev before : History O Key Recon Cond
@@ -113,6 +118,15 @@ module _ {O Key Recon Cond : Type 0} (m : Meaning Key Recon Cond) (codes : CodeL
   steps_length Free t2 slots out h = absurd h
   steps_length (Insert key d) t2 slots out (d2, items, o, holds) = ap (λ l. length l) items ∙ length-set s.slots.items seat (Insert key d2) ∙ kept.seats
   steps_length (Scan x) t2 slots out h = absurd h
+
+  -- it is not sent back, since it alone has latched anything
+  pub no_restart : (out : InsertOut) (slot : Slot O Key Recon Cond) (t2 : pages.Table) (slots : List (Slot O Key Recon Cond)) → seat ≡ 0 → get_or s.slots.items seat Free ≡ slot → StepsFrom m s.table t2 s.slots.items slots seat out slot → IsNoRestart out
+  no_restart out Free t2 slots first e h = absurd h
+  no_restart out (Scan x) t2 slots first e h = absurd h
+  no_restart outs.Descended (Insert key d) t2 slots first e h = tt
+  no_restart outs.Restructured (Insert key d) t2 slots first e h = tt
+  no_restart (outs.Restarted block by) (Insert key d) t2 slots first e (d2, items, (held, other, start, same, goes), holds) = held_alone (holds_block d block) by seat (sym (insert_holds key d first e block) ∙ held) other
+  no_restart outs.Put (Insert key d) t2 slots first e h = tt
 
   -- ---- what the callers see of it
 

@@ -5,10 +5,12 @@ pub mod Weights
 pub mod Trees
 pub mod Limits
 pub mod Holding
+pub mod Inners
 pub mod Founds
 pub mod Slots
 pub mod Steps
 pub mod Inserts
+pub mod Going
 pub mod Opens
 pub mod Scans
 pub mod Counting

@@ -19,7 +19,7 @@ use Rattle.spg_descend.specs.Follows.{IsAtInner, tuple_place, link_of, stand_bel
 use Rattle.spg_descend.specs.Below.{IsChainBelow, IsAtChain, IsTicked}
 use Rattle.spg_descend.specs.Puts.{IsAtLeaves, IsAtEmpty, Fits}
 use Rattle.spg_descend.specs.Rules.{IsThere, IsAtNoInner, MayMove}
-use Rattle.spg_descend.specs.declared.enter.Entered.TheVariants.{In}
+use Rattle.spg_descend.specs.declared.enter.Entered.TheVariants.{In, Busy}
 use Rattle.spg_descend.proofs.Starts.{spots_are_there}
 use Rattle.spg_split.specs.Splits.{IsAtRoot, IsCalm, split_cost}
 use Rattle.spg_split.specs.Below.{IsLedTo, SplitsWithout, IsChainSplit}
@@ -29,7 +29,7 @@ use Rattle.spg_core.specs.Stepping.{HasInnerRoot, StandsAt, Stands, SamePages, G
 use Rattle.spg_core.proofs.Stands.{root_range, stand_put, stands_same, child_stands, released_same, latched_same, same_trans, root_leaf}
 use Rattle.spg_core.proofs.Trees.{place_tree}
 
-released_touched : (t : Table) (b : Option ℕ) (seat : ℕ) → (released t b seat).touched ≡ t.touched
+pub released_touched : (t : Table) (b : Option ℕ) (seat : ℕ) → (released t b seat).touched ≡ t.touched
 released_touched t None seat = refl
 released_touched t (Some b) seat = elim (is_held (latch_at t b) seat) as (λ h. (cond h (with_latch t b None) t).touched ≡ t.touched) [ true ↦ refl | false ↦ refl ]
 
@@ -79,6 +79,19 @@ freed_same t a b seat = same_trans t (released t a seat) (released (released t a
 
 freed_touched : (t : Table) (a b : Option ℕ) (seat : ℕ) → (released (released t a seat) b seat).touched ≡ t.touched
 freed_touched t a b seat = released_touched (released t a seat) b seat ∙ released_touched t a seat
+
+-- an insert that has gone back to its start
+pub back_out : {Key Recon Cond : Type 0} (m : Meaning Key Recon Cond) (t t1 t2 : Table) (d d2 : Descending Recon) (seat block by node : ℕ) (rest : List ℕ) →
+    FollowsNode m t t1 d d2 seat node rest (Busy block by) → CarriesBelow m t t1 d d2 node rest (Busy block by) → SamePages t1 t2 → IsStepOut m t t2 d d2 seat (outs.Restarted block by)
+back_out {Key} {Recon} m t t1 t2 d d2 seat block by node rest (eb, held, other, et, ed) carries same =
+    let s1 : SamePages t t1 = subst (λ (z : Table). SamePages t z) (sym et) (freed_same t (stand_block d.stand) (parent_block d.parent) seat) in
+    let starts : Stands t2 d2 = subst (λ (z : Descending Recon). Stands t2 z) (sym ed) refl in (
+      held,
+      other,
+      ap (λ (z : Descending Recon). z.stand) ed,
+      same_trans t t1 t2 s1 same,
+      (ap (λ (z : Descending Recon). z.row) ed, ap (λ (z : Descending Recon). in_nulls z) ed, starts, λ key C. subst (λ (S : Sheets). IsCarried m S d2 key) (sym same.0) (carries key C)),
+    )
 
 -- below the root of its tree the root is an inner tuple
 pub below_root : {Recon : Type 0} (t : Table) (d : Descending Recon) → Stands t d → IsAtNoInner t d.stand → (IsAtRoot d.stand → ⊥) → HasInnerRoot t (in_nulls d)
@@ -173,8 +186,8 @@ put_out {Key} {Recon} m t t1 t2 d d2 seat off adds limit grow freed row =
       row,
     )
 
--- the leaves were divided without that of an insert, and then its latches were changed
-left_out : {Key Recon Cond : Type 0} (m : Meaning Key Recon Cond) (t t1 t2 : Table) (d d2 : Descending Recon) (seat : ℕ) (cost : Cost) (f : Place → Place) → IsAtNoInner t d.stand →
+-- the index was changed without the row of an insert, and then its latches were changed
+pub left_out : {Key Recon Cond : Type 0} (m : Meaning Key Recon Cond) (t t1 t2 : Table) (d d2 : Descending Recon) (seat : ℕ) (cost : Cost) (f : Place → Place) → (d.stand ≡ Start → ⊥) →
     Leaves m (sheets_of t) (sheets_of t1) t1.touched cost 0 f → t1.limit ≡ t.limit → RootsGrow t t1 d → GoesOn m t t1 d d2 → SamePages t1 t2 → t2.touched ≡ t1.touched → IsStepOut m t t2 d d2 seat outs.Restructured
 left_out {Key} {Recon} m t t1 t2 d d2 seat cost f off L limit grow (row, nulls, at, carries) (eS, el) et = (
   off,
@@ -217,17 +230,16 @@ stands_led t nulls z None root tree led inner = led
 stands_led t nulls z (Some (p, i)) root tree led inner = (root, tree, led, inl inner)
 
 -- it goes on from there
-chain_goes : {Key Recon Cond : Type 0} (m : Meaning Key Recon Cond) (t t1 : Table) (d d2 : Descending Recon) (z : Place) (spread : ℕ) → ((key : Option Key) × IsCarried m (sheets_of t) d key) → HasInnerRoot t (in_nulls d) → IsTicked t t1 →
-    (d2.row ≡ d.row) → (in_nulls d2 ≡ in_nulls d) → (d2.stand ≡ At z) → (d2.parent ≡ d.parent) → SplitsWithout m t t1 d d2 z spread → GoesOn m t t1 d d2
-chain_goes {Key} {Recon} m t t1 d d2 z spread (key, C) root ticked row nulls stand parent W =
-    let H : Shape m (sheets_of t1) = W.leaves.section.shape in
-    let tree : (sheet_at (sheets_of t1) z.block).nulls ≡ in_nulls d2 = place_tree m (sheets_of t1) H d2 key z (W.carries key C) stand in
+pub led_goes : {Key Recon Cond : Type 0} (m : Meaning Key Recon Cond) (t t1 : Table) (d d2 : Descending Recon) (z : Place) → ((key : Option Key) × IsCarried m (sheets_of t) d key) → HasInnerRoot t (in_nulls d) → IsTicked t t1 →
+    (d2.row ≡ d.row) → (in_nulls d2 ≡ in_nulls d) → (d2.stand ≡ At z) → (d2.parent ≡ d.parent) → Shape m (sheets_of t1) → IsAtInner t1 (At z) → IsLedTo t1 d.parent z → ((key : Option Key) → IsCarried m (sheets_of t) d key → IsCarried m (sheets_of t1) d2 key) → GoesOn m t t1 d d2
+led_goes {Key} {Recon} m t t1 d d2 z (key, C) root ticked row nulls stand parent H inner led carries =
+    let tree : (sheet_at (sheets_of t1) z.block).nulls ≡ in_nulls d2 = place_tree m (sheets_of t1) H d2 key z (carries key C) stand in
     let root1 : HasInnerRoot t1 (in_nulls d) = ticked.roots (root_of (in_nulls d)) (root_range (in_nulls d)).1 ∙ root in
-    let at : StandsAt t1 (in_nulls d2) (At z) d.parent = stands_led t1 (in_nulls d2) z d.parent (subst (λ (b : Bool). HasInnerRoot t1 b) (sym nulls) root1) tree W.link W.inner in (
+    let at : StandsAt t1 (in_nulls d2) (At z) d.parent = stands_led t1 (in_nulls d2) z d.parent (subst (λ (b : Bool). HasInnerRoot t1 b) (sym nulls) root1) tree led inner in (
       row,
       nulls,
       subst (λ (p : Option (Place × ℕ)). StandsAt t1 (in_nulls d2) d2.stand p) (sym parent) (subst (λ (s : Stand). StandsAt t1 (in_nulls d2) s d.parent) (sym stand) at),
-      W.carries,
+      carries,
     )
 
 -- a chain was divided without the leaf of the insert
@@ -239,4 +251,5 @@ chain_out {Key} {Recon} m t t1 t2 d d2 seat of_key off root ticked (z, ways) sam
     ways
   where
     one : (spread : ℕ) → d2.row ≡ d.row → in_nulls d2 ≡ in_nulls d → d2.stand ≡ At z → d2.parent ≡ d.parent → SplitsWithout m t t1 d d2 z spread → IsStepOut m t t2 d d2 seat outs.Restructured
-    one spread row nulls stand parent W = left_out m t t1 t2 d d2 seat (split_cost d.stand spread) (moved (tuple_place d.stand) z) off W.leaves ticked.limit (kinds_grow t t1 d ticked.roots) (chain_goes m t t1 d d2 z spread of_key root ticked row nulls stand parent W) same et
+    one spread row nulls stand parent W = left_out m t t1 t2 d d2 seat (split_cost d.stand spread) (moved (tuple_place d.stand) z) off.0 W.leaves ticked.limit (kinds_grow t t1 d ticked.roots)
+        (led_goes m t t1 d d2 z of_key root ticked row nulls stand parent W.leaves.section.shape W.inner W.link W.carries) same et

@@ -1,7 +1,7 @@
 -- One more event, or one more section: what the fields of a state keep.
 use Rattle.std.proofs.Common.{◌≡◌, ◌≢◌, ◌<◌, ◌≤◌, ◌+◌, ◌⊎◌, ⊎_elim, inl, inr, ℕ, Bool, true, false, not, ◌&&◌, cond, List, [], ◌∷◌, ◌++◌, length, get_or, set, reverse, Option, Some, None, Vec, refl, sym, ap, ◌∙◌, subst, arith, get_or-set_same, get_or-set_other, length-set}
 use Rattle.std.proofs.Common.{Result, Ok, Err}
-use Rattle.std.specs.Result.{OnErr}
+use Rattle.std.specs.Result.{OnOk, OnErr, IsErrAnd}
 use Rattle.std.proofs.lemmas.Bool.{false≢true, cases_eq}
 use Rattle.std.proofs.lemmas.List.{reverse-append}
 use Rattle.std.specs.declared.alloc.Global.{Global}
@@ -119,7 +119,6 @@ module _ {O Key Recon Cond : Type 0} (m : Meaning Key Recon Cond) where
         states = rw now row.states;
         keys = rw now row.keys;
         room = room;
-        plain = kept.plain;
         limit = limit ∙ kept.limit;
       }
 
@@ -147,7 +146,6 @@ module _ {O Key Recon Cond : Type 0} (m : Meaning Key Recon Cond) where
         states = kept.states;
         keys = kept.keys;
         room = rw slots_are (omega (arith, kept.room, open_count-set-le s.slots.items seat slot was));
-        plain = kept.plain;
         limit = limit ∙ kept.limit;
       }
 
@@ -165,7 +163,6 @@ module _ {O Key Recon Cond : Type 0} (m : Meaning Key Recon Cond) where
     states = rw events_are kept.states;
     keys = rw events_are kept.keys;
     room = omega (arith, kept.room, room);
-    plain = kept.plain;
     limit = kept.limit;
   })
 
@@ -182,7 +179,6 @@ module _ {O Key Recon Cond : Type 0} (m : Meaning Key Recon Cond) where
     states = kept.states;
     keys = kept.keys;
     room = rw items kept.room;
-    plain = kept.plain;
     limit = kept.limit;
   })
 
@@ -383,3 +379,8 @@ new_pages {O} {Key} m limit = record {
 pub on_err : {T E P : Type 0} (r : Result T E) → P → OnErr r P
 on_err (Ok x) p = tt
 on_err (Err e) p = p
+
+-- what holds of a value says nothing of an error
+pub no_ok : {T E : Type 0} (P : Type 0) (Q : E → Type 0) (r : Result T E) → IsErrAnd r Q → OnOk r P
+no_ok P Q (Ok x) h = absurd h
+no_ok P Q (Err e) h = tt

@@ -1,5 +1,5 @@
 -- What the fields of a state keep.
-use Rattle.std.specs.Prelude.{◌≡◌, ◌≤◌, ◌<◌, ◌&&◌, not, ℕ, Bool, false, Option, None, Contains, length, map, reverse, slice_index_or, if◌then◌else◌}
+use Rattle.std.specs.Prelude.{◌≡◌, ◌≤◌, ◌<◌, ◌&&◌, not, ℕ, Bool, Option, None, Contains, length, map, reverse, slice_index_or, if◌then◌else◌}
 use Rattle.spg_base.specs.Row.{RowAt}
 use Rattle.spg_opclass.specs.Meaning.{Meaning}
 use Rattle.spg_opclass.specs.declared.query.Query.{Query}
@@ -67,5 +67,4 @@ pub record IsKept {O Key Recon Cond : Type 0} (m : Meaning Key Recon Cond) (s : 
   pub keys : (r : RowAt) → key_in s.rows r ≡ claimed_key r (reverse s.journal.events)
   -- room for the event that ends each open operation
   pub room : open_count s.slots.items ≤ s.journal.spare
-  pub plain : m.labels ≡ false
   pub limit : s.table.limit ≡ s.origin.limit

@@ -7,4 +7,5 @@ pub mod Slot
 pub mod Operations
 pub mod Kept
 pub mod Sections
+pub mod Through
 pub mod Counts

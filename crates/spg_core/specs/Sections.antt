@@ -34,10 +34,10 @@ pub record IsNew {O Key Recon Cond : Type 0} (limit : ℕ) (seen : Seen O Key Re
 abbrev pub OpensInsert : {O Key Recon Cond : Type 0} → Meaning Key Recon Cond → Seen O Key Recon Cond → Seen O Key Recon Cond → ℕ → RowAt → Option Key → Type 0
 OpensInsert m old new seat row key = (new ≡ logged old seat (OpenInsert seat row key) (descending key (opened_for m row key)) old.table) × (stage_at new seat ≡ descending key (opened_for m row key))
 
--- where an insert stands when this comes of a section: at the start or at an inner tuple it goes down; elsewhere its leaf is put, or the leaves are divided without it
+-- where an insert stands when this comes of a section: at the start or at an inner tuple it goes down; off inner tuples its leaf is put; off the start the leaves are divided without it, a node is put in, or an inner tuple is split
 abbrev pub StoodFor : {Recon : Type 0} → Table → Descending Recon → InsertOut → Type 0
 StoodFor t d outs.Descended = (d.stand ≡ Start) ⊎ IsAtInner t d.stand
-StoodFor t d outs.Restructured = IsAtNoInner t d.stand
+StoodFor t d outs.Restructured = d.stand ≡ Start → ⊥
 StoodFor t d (outs.Restarted block by) = Unit {0}
 StoodFor t d outs.Put = IsAtNoInner t d.stand
 
@@ -55,6 +55,13 @@ IsOutOf old new seat out (reading s) = ⊥
 
 abbrev pub IsInsertOut : {O Key Recon Cond : Type 0} → Seen O Key Recon Cond → Seen O Key Recon Cond → ℕ → InsertOut → Type 0
 IsInsertOut old new seat out = IsOutOf old new seat out (stage_at old seat)
+
+-- the insert was not sent back to its start
+abbrev pub IsNoRestart : InsertOut → Type 0
+IsNoRestart outs.Descended = Unit {0}
+IsNoRestart outs.Restructured = Unit {0}
+IsNoRestart (outs.Restarted block by) = ⊥
+IsNoRestart outs.Put = Unit {0}
 
 -- the keys of the insert's tree that were ever inserted take more than 8,160 bytes
 abbrev pub IsHeavyFor : {O Key Recon Cond : Type 0} → Meaning Key Recon Cond → Seen O Key Recon Cond → Stage O Key Recon Cond → Type 0

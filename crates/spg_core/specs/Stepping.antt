@@ -6,7 +6,7 @@ use Rattle.spg_forest.specs.Spot.{Frame}
 use Rattle.spg_forest.specs.Tuples.{Live}
 use Rattle.spg_forest.specs.Sheets.{sheet_at}
 use Rattle.spg_forest.specs.Section.{Adds, Leaves, Cost}
-use Rattle.spg_tree.specs.Table.{Table, sheets_of, latch_at}
+use Rattle.spg_tree.specs.Table.{Table, sheets_of, latch_at, tuple_at}
 use Rattle.spg_tree.specs.Descents.{Descending, in_nulls}
 use Rattle.spg_tree.specs.declared.stand.Stand.{Stand}
 use Rattle.spg_tree.specs.declared.stand.Stand.TheVariants.{Start, Root, At, Empty}
@@ -15,6 +15,15 @@ use Rattle.spg_descend.specs.Below.{IsLink}
 use Rattle.spg_descend.specs.Follows.{IsAtInner}
 use Rattle.spg_descend.specs.Puts.{IsAtLeaves, IsAtEmpty, Fits}
 use Rattle.spg_descend.specs.Rules.{IsAtNoInner}
+use Rattle.spg_forest.specs.Shape.{IsRestOf}
+use Rattle.spg_forest.specs.Sheets.{links}
+use Rattle.spg_forest.specs.Follows.{GoesBelow}
+use Rattle.spg_page.specs.Reads.{frame_in}
+use Rattle.spg_opclass.specs.declared.view.Choice.TheVariants as choice
+use Rattle.spg_descend.specs.Follows.{tuple_place}
+use Rattle.spg_move.specs.Answers.{IsAnswered}
+use Rattle.spg_core.specs.declared.inner.Chosen.{Chosen}
+use Rattle.spg_core.specs.declared.inner.Chosen.TheVariants.{Node, Add, Split}
 use Rattle.spg_core.specs.declared.answer.InsertOut.{InsertOut}
 use Rattle.spg_core.specs.declared.answer.InsertOut.TheVariants.{Descended, Restructured, Restarted, Put}
 
@@ -59,10 +68,10 @@ abbrev pub RootsGrow : {Recon : Type 0} → Table → Table → Descending Recon
 RootsGrow t t2 d = (nulls : Bool) → HasInnerRoot t2 nulls → HasInnerRoot t nulls ⊎ ((nulls ≡ in_nulls d) × IsRootFull t d)
 
 -- What comes of a section of an insert. It comes to the root, or from an inner tuple to the child or the empty downlink of a node; the leaves are divided
--- without its own; another seat holds the block to be visited, and it is at its start again; or its row is put
+-- without its own, a node is put into the inner tuple at which it is, or that tuple is split; another seat holds the block to be visited, and it is at its start again; or its row is put
 abbrev pub IsStepOut : {Key Recon Cond : Type 0} → Meaning Key Recon Cond → Table → Table → Descending Recon → Descending Recon → ℕ → InsertOut → Type 0
 IsStepOut m t t2 d d2 seat Descended = ((d.stand ≡ Start) ⊎ IsAtInner t d.stand) × SamePages t t2 × GoesOn m t t2 d d2
-IsStepOut m t t2 d d2 seat Restructured = IsAtNoInner t d.stand × ((cost : Cost) × (f : Place → Place) × Leaves m (sheets_of t) (sheets_of t2) t2.touched cost 0 f) × (t2.limit ≡ t.limit) × RootsGrow t t2 d × GoesOn m t t2 d d2
+IsStepOut m t t2 d d2 seat Restructured = (d.stand ≡ Start → ⊥) × ((cost : Cost) × (f : Place → Place) × Leaves m (sheets_of t) (sheets_of t2) t2.touched cost 0 f) × (t2.limit ≡ t.limit) × RootsGrow t t2 d × GoesOn m t t2 d d2
 IsStepOut m t t2 d d2 seat (Restarted block by) = (latch_at t block ≡ Some by) × (by ≡ seat → ⊥) × (d2.stand ≡ Start) × SamePages t t2 × GoesOn m t t2 d d2
 IsStepOut {Key} m t t2 d d2 seat Put =
     IsAtNoInner t d.stand × ((key : Option Key) → IsCarried m (sheets_of t) d key → (cost : Cost) × (f : Place → Place) × Adds m (sheets_of t) (sheets_of t2) t2.touched cost d.row key f) × (t2.limit ≡ t.limit) × RootsGrow t t2 d × (d2.row ≡ d.row)
@@ -70,3 +79,11 @@ IsStepOut {Key} m t t2 d d2 seat Put =
 -- the node that an all-the-same tuple is followed at is the one that the counter names
 abbrev pub named : ℕ → Frame → ℕ → ℕ
 named turn w node = if w.all_same then turn else node
+
+-- What an insert does at an inner tuple: it goes down a node that is there, below which it carries what it carried; or what the class answers
+abbrev pub IsChosen : {Key Recon Cond : Type 0} → Meaning Key Recon Cond → Table → Descending Recon → Chosen → Type 0
+IsChosen {Key} m t d (Node node rest by_turn) =
+    let x : Place = tuple_place d.stand in
+    (node < length (links (tuple_at t x))) × IsRestOf m (in_nulls d) rest × ((key : Option Key) → IsCarried m (sheets_of t) d key → GoesBelow m d.recon (frame_in (tuple_at t x)) node rest key)
+IsChosen m t d (Add at label) = (in_nulls d ≡ false) × IsAnswered m t d (choice.Add at label)
+IsChosen m t d (Split up labels child low) = (in_nulls d ≡ false) × IsAnswered m t d (choice.Split up labels child low)

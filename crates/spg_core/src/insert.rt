@@ -1,38 +1,26 @@
-ghost use Rattle.std.specs.Prelude.{◌≡◌, ◌⊎◌, ◌<◌, Option, Some as Just, false, IfOk, OnErr, IsErrOf, length, ◌+◌, ◌^◌};
+ghost use Rattle.std.specs.Prelude.{◌≡◌, Option, IfOk, OnErr, IsErrOf, ◌+◌, ◌^◌};
 ghost use Rattle.spg_forest.specs.Tuples.{Live};
-ghost use Rattle.spg_forest.specs.Shape.{Shape, IsRestOf};
-ghost use Rattle.spg_forest.specs.Sheets.{links};
-ghost use Rattle.spg_forest.specs.Follows.{GoesBelow};
-ghost use Rattle.spg_page.specs.Reads.{frame_in};
-ghost use Rattle.spg_tree.specs.Table.{sheets_of, tuple_at};
-ghost use Rattle.spg_tree.specs.Descents.{in_nulls};
+ghost use Rattle.spg_forest.specs.Shape.{Shape};
+ghost use Rattle.spg_tree.specs.Table.{sheets_of};
 ghost use Rattle.spg_tree.specs.declared.stand.Stand.TheVariants.{Start};
 ghost use Rattle.spg_tree.specs.declared.stand.StepRefused.TheVariants.{IndexFull, ClockFull};
 ghost use Rattle.spg_descend.specs.Carried.{carried, IsCarried};
-ghost use Rattle.spg_descend.specs.Follows.{IsAtInner, tuple_place};
 ghost use Rattle.spg_descend.specs.Puts.{Fits};
 ghost use Rattle.spg_descend.specs.Rules.{IsAtNoInner, MayMove};
 ghost use Rattle.spg_split.specs.Splits.{IsAtRoot};
-ghost use Rattle.spg_core.specs.Stepping.{Stands, IsOutgrown, IsNearLimit, IsStepOut, named};
+ghost use Rattle.spg_core.specs.Stepping.{Stands, IsOutgrown, IsNearLimit, IsStepOut};
 ghost use Rattle.spg_core.specs.Latches.{InsertHolds, HoldsAfter};
 
 use crate::answer::InsertOut;
+use crate::inner::at_inner;
 use crate::latches::{hold_anew, stand_block};
-use spg_base::{Block, Bytes, Memory, Offset, Place, SeatNo};
-use spg_descend::{Entered, PutOut, Rule, enter_root, follow, put_leaf, release_latches, rule_at};
+use spg_base::SeatNo;
+use spg_descend::{Entered, PutOut, Rule, enter_root, put_leaf, release_latches, rule_at};
 use spg_move::move_chain;
-use spg_opclass::{Choice, InnerView, OpClass};
+use spg_opclass::OpClass;
 use spg_split::{SplitOut, split_chain, split_leaf};
 use spg_tree::{Descent, PageTable, Stand, StepRefused};
 use std::alloc::Global;
-
-/// A node, with what is left of the rest below it, and whether the rotating counter named it.
-#[derive(Drop)]
-struct Chosen {
-    node: u16,
-    rest: Bytes,
-    by_turn: bool,
-}
 
 /// Enters the root.
 fn begin<O: OpClass>(table: &mut PageTable, descent: &mut Descent<O>, seat: SeatNo) -> InsertOut
@@ -46,125 +34,6 @@ fn begin<O: OpClass>(table: &mut PageTable, descent: &mut Descent<O>, seat: Seat
     match enter_root(table, descent, seat) {
         Entered::In => InsertOut::Descended,
         Entered::Busy { block, by } => InsertOut::Restarted { block, by },
-    }
-}
-
-/// Where the inner tuple stands at which the insert is.
-fn tuple_place(stand: Stand) -> Place
-    ensures { result ≡ tuple_place stand }
-{
-    match stand {
-        Stand::Root(block) => Place {
-            block,
-            offset: Offset(1),
-        },
-        Stand::At(place) => place,
-        Stand::Start | Stand::Empty => Place {
-            block: Block(0),
-            offset: Offset(0),
-        },
-    }
-}
-
-/// The node that is followed where the class answers this one: at an all-the-same tuple it is the
-/// one that the rotating counter names.
-fn named(turn: u8, view: &InnerView, node: u16) -> u16
-    ensures { result ≡ named turn view.now node }
-{
-    if view.all_same { u16::from(turn) } else { node }
-}
-
-/// The node that an insert of a key follows, as the class answers.
-fn choose_for<O: OpClass>(
-    alloc: Global,
-    class: &O,
-    table: &PageTable,
-    descent: &Descent<O>,
-    recon: &O::Recon,
-) -> Result<Chosen, Memory>
-    requires plain { O.meaning.labels ≡ false }
-    requires shape { Shape O.meaning (sheets_of table.now) }
-    requires inner { IsAtInner table.now descent.now.stand }
-    requires of_key { (key : Option O.Key) × IsCarried O.meaning (sheets_of table.now) descent.now key }
-    requires stands { Stands table.now descent.now }
-    requires recon { descent.now.recon ≡ Just recon.now }
-    requires main { in_nulls descent.now ≡ false }
-    ensures node { IfOk result (λ chosen. chosen.node < length (links (tuple_at table.now (tuple_place descent.now.stand)))) }
-    ensures rest { IfOk result (λ chosen. IsRestOf O.meaning (in_nulls descent.now) chosen.rest) }
-    ensures goes { IfOk result (λ chosen. (key : Option O.Key) → IsCarried O.meaning (sheets_of table.now) descent.now key
-        → GoesBelow O.meaning descent.now.recon (frame_in (tuple_at table.now (tuple_place descent.now.stand))) chosen.node chosen.rest key) }
-{
-    let at = tuple_place(descent.stand());
-    let view = table.page(at.block).view_at(alloc, at.offset)?;
-    match class.choose(alloc, recon, &view, descent.rest().as_slice())? {
-        Choice::Match { node, rest } => {
-            let node = named(table.counter(), &view, node);
-            let by_turn = view.all_same;
-            Ok(Chosen {
-                node,
-                rest,
-                by_turn,
-            })
-        }
-        Choice::Add { .. } | Choice::Split { .. } => unreachable!(),
-    }
-}
-
-/// The node that an insert follows at an inner tuple, with what is left of its rest. At an
-/// all-the-same tuple, and in the nulls tree, it is the one that the rotating counter names.
-fn choose<O: OpClass>(
-    alloc: Global,
-    class: &O,
-    table: &PageTable,
-    descent: &Descent<O>,
-) -> Result<Chosen, Memory>
-    requires plain { O.meaning.labels ≡ false }
-    requires shape { Shape O.meaning (sheets_of table.now) }
-    requires inner { IsAtInner table.now descent.now.stand }
-    requires of_key { (key : Option O.Key) × IsCarried O.meaning (sheets_of table.now) descent.now key }
-    requires stands { Stands table.now descent.now }
-    ensures node { IfOk result (λ chosen. chosen.node < length (links (tuple_at table.now (tuple_place descent.now.stand)))) }
-    ensures rest { IfOk result (λ chosen. IsRestOf O.meaning (in_nulls descent.now) chosen.rest) }
-    ensures goes { IfOk result (λ chosen. (key : Option O.Key) → IsCarried O.meaning (sheets_of table.now) descent.now key
-        → GoesBelow O.meaning descent.now.recon (frame_in (tuple_at table.now (tuple_place descent.now.stand))) chosen.node chosen.rest key) }
-{
-    match descent.recon() {
-        None => Ok(Chosen {
-            node: u16::from(table.counter()),
-            rest: Bytes::new(alloc),
-            by_turn: true,
-        }),
-        Some(recon) => choose_for(alloc, class, table, descent, recon),
-    }
-}
-
-/// Goes down the node that is chosen at an inner tuple.
-fn go_down<O: OpClass>(
-    alloc: Global,
-    class: &O,
-    table: &mut PageTable,
-    descent: &mut Descent<O>,
-    seat: SeatNo,
-) -> Result<InsertOut, Memory>
-    requires plain { O.meaning.labels ≡ false }
-    requires shape { Shape O.meaning (sheets_of table.old) }
-    requires inner { IsAtInner table.old descent.old.stand }
-    requires of_key { (key : Option O.Key) × IsCarried O.meaning (sheets_of table.old) descent.old key }
-    requires stands { Stands table.old descent.old }
-    ensures ok { IfOk result (λ out. IsStepOut O.meaning table.old table.new descent.old descent.new seat out) }
-    ensures latches { IfOk result (λ out. InsertHolds table.old seat descent.old → HoldsAfter table.new seat descent.new out) }
-    ensures err { OnErr result (table.new ≡ table.old) }
-    ensures err_descent { OnErr result (descent.new ≡ descent.old) }
-{
-    let _count = table.page_count();
-    let chosen = choose(alloc, class, table, descent)?;
-    let entered = follow(alloc, class, table, descent, seat, chosen.node, chosen.rest)?;
-    if chosen.by_turn {
-        table.turn_counter();
-    }
-    match entered {
-        Entered::In => Ok(InsertOut::Descended),
-        Entered::Busy { block, by } => Ok(InsertOut::Restarted { block, by }),
     }
 }
 
@@ -294,7 +163,6 @@ pub(crate) fn step<O: OpClass>(
     descent: &mut Descent<O>,
     seat: SeatNo,
 ) -> Result<InsertOut, StepRefused>
-    requires plain { O.meaning.labels ≡ false }
     requires shape { Shape O.meaning (sheets_of table.old) }
     requires of_key { (key : Option O.Key) × IsCarried O.meaning (sheets_of table.old) descent.old key }
     requires stands { Stands table.old descent.old }
@@ -307,7 +175,7 @@ pub(crate) fn step<O: OpClass>(
 {
     match rule_at(table, descent) {
         Rule::Start => Ok(begin(table, descent, seat)),
-        Rule::Choose => Ok(go_down(alloc, class, table, descent, seat)?),
+        Rule::Choose => at_inner(alloc, class, table, descent, seat),
         Rule::Put => put(alloc, table, descent, seat),
         Rule::Move => move_away(alloc, table, descent, seat),
         Rule::Part => match descent.stand() {

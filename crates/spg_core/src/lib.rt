@@ -2,14 +2,16 @@
 #![tactic(auto)]
 
 mod answer;
+mod inner;
 mod insert;
 mod latches;
 mod operations;
 mod slot;
 mod stat;
 mod state;
+mod through;
 
-pub use answer::{InsertOut, OpenKind, OpenRefused};
+pub use answer::{InsertOut, InsertRan, OpenKind, OpenRefused};
 pub use spg_scan::{Closed, ReadOut};
 pub use spg_tree::StepRefused;
 pub use state::State;

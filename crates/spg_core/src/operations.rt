@@ -31,7 +31,6 @@ pub(crate) fn step_slot<O: OpClass>(
     seat: SeatNo,
 ) -> Result<InsertOut, StepRefused>
     requires seats { length slots.old.items ≡ 64 }
-    requires plain { O.meaning.labels ≡ false }
     requires shape { Shape O.meaning (sheets_of table.old) }
     requires insert { CanStep O.meaning table.old (slice_index_or slots.old.items seat kept.Free) }
     ensures ok { IfOk result (λ out. StepsSlot O.meaning table.old table.new slots.old.items slots.new.items seat out) }

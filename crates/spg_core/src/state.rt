@@ -14,7 +14,7 @@ ghost use Rattle.spg_core.specs.Stepping.{IsNearLimit};
 ghost use Rattle.spg_core.specs.Latches.{StageHolds, LatchesAfter, ChangesHeld};
 ghost use Rattle.spg_core.specs.Kept.{RootsAreHeavy};
 ghost use Rattle.spg_core.specs.Counts.{IsStat};
-ghost use Rattle.spg_core.specs.Sections.{IsNew, OpensInsert, IsInsertOut, IsHeavy, OpensScan, ReadsItem, ClosesScan, GivesUp};
+ghost use Rattle.spg_core.specs.Sections.{IsNew, OpensInsert, IsInsertOut, IsNoRestart, IsHeavy, OpensScan, ReadsItem, ClosesScan, GivesUp};
 
 use crate::answer::{InsertOut, OpenKind, OpenRefused};
 use crate::operations::{close_slot, end_insert, read_slot, release_slot, step_slot};
@@ -57,9 +57,8 @@ impl<O: OpClass> Model for State<O> {
 }
 
 impl<O: OpClass> State<O> {
-    /// An empty index of at most `limit` pages, 4 to 131,072. The class has no labels so far.
+    /// An empty index of at most `limit` pages, 4 to 131,072.
     pub fn new(alloc: Global, class: O, limit: u32) -> Result<State<O>, Memory>
-        requires plain { O.meaning.labels ≡ false }
         requires from { 4 ≤ limit }
         requires to { limit ≤ 131072 }
         ensures { IfOk result (λ state. IsNew limit state) }
@@ -175,16 +174,20 @@ impl<O: OpClass> State<O> {
 
     /// The next section of an insert. `Descended` where it comes to the root, or from an inner tuple
     /// to the child or the empty downlink of a node. `Restructured` where the leaves are divided
-    /// without its own. `Put` where the row is put, and the insert has ended. `IndexFull` only where
-    /// a page is wanted and there may be none: fewer than 4 blocks are left below the limit, and the
-    /// keys of its tree that were ever inserted take more than 8,160 bytes. `ClockFull` only where a
-    /// chain below a root moves or is divided and the clock is 2^48 - 1. It changes only blocks that the
-    /// seat had latched or that nobody had; at its start, and once its row is put, it has latched none.
+    /// without its own, where a node is put into the inner tuple at which it stands, and where that
+    /// tuple is split. `Put` where the row is put, and the insert has ended. `IndexFull` only where a
+    /// page is wanted and there may be none: fewer than 4 blocks are left below the limit. `ClockFull`
+    /// only where a chain below a root moves or is divided, or an inner tuple moves that has one more
+    /// node, and the clock is 2^48 - 1. Both only where the keys of its tree that were ever inserted
+    /// take more than 8,160 bytes. It changes only blocks that the seat had latched or that nobody
+    /// had; at its start, and once its row is put, it has latched none. `Restarted` does not come
+    /// about so far, since seat 0 alone may have something open.
     pub fn insert_step(&mut self, seat: SeatNo) -> Result<InsertOut, StepRefused>
         requires first { seat ≡ 0 }
         requires inserting { IsInserting (stage_at self.old seat) }
         ensures ok { IfOk result (λ out. IsInsertOut self.old self.new seat out) }
         ensures latches { IfOk result (λ out. LatchesAfter self.new seat out) }
+        ensures alone { IfOk result (λ out. IsNoRestart out) }
         ensures within { ChangesHeld self.old.table self.new.table seat }
         ensures full { IsErrOf result StepRefused.IndexFull → IsHeavy O.meaning self.old seat × IsNearLimit self.old.table }
         ensures clock { IsErrOf result StepRefused.ClockFull → IsHeavy O.meaning self.old seat × (self.old.table.clock + 1 ≡ 2 ^ 48) }

@@ -1,5 +1,6 @@
 -- A node put into an inner tuple that stays in its place.
-use Rattle.std.proofs.Common.{◌≡◌, ℕ, ◌≤◌, false, List, [], ◌∷◌, Option, Some, None, get_or, length-set, refl, sym, ap, ◌∙◌, subst, inl, arith}
+use Rattle.std.proofs.Common.{◌≡◌, ℕ, ◌≤◌, false, List, [], ◌∷◌, Option, Some, None, get_or, set, length, length-set, ⊎_elim, refl, sym, ap, ◌∙◌, subst, inl, arith}
+use Rattle.std.proofs.lemmas.Bool.{cases_eq}
 use Rattle.std.specs.Prelude.{ℤ}
 use Rattle.spg_opclass.specs.Meaning.{Meaning}
 use Rattle.spg_opclass.specs.Laws.{AddLaw, CodeLaw}
@@ -8,18 +9,18 @@ use Rattle.spg_forest.specs.View.{Place}
 use Rattle.spg_forest.specs.Spot.{Frame, Branch, put_at}
 use Rattle.spg_forest.specs.Tuples.{Tuple, Inner}
 use Rattle.spg_forest.specs.Pages.{with_tuple}
-use Rattle.spg_forest.specs.Sheets.{Sheets, sheet_at, with_tuples, weight}
+use Rattle.spg_forest.specs.Sheets.{Sheet, Sheets, sheet_at, with_tuples, weight}
 use Rattle.spg_forest.specs.Shape.{Shape, spots}
 use Rattle.spg_forest.specs.Section.{Leaves}
 use Rattle.spg_forest.specs.Walk.{spread}
 use Rattle.spg_forest.specs.Edits.{tuple_of, spot_of, put, CanPut}
 use Rattle.spg_forest.specs.Changes.{Becomes}
 use Rattle.spg_forest.proofs.Changes.{adds_node}
-use Rattle.spg_forest.proofs.Edits.{sheet_other, tuple_put}
+use Rattle.spg_forest.proofs.Edits.{sheet_same, sheet_other, tuple_put}
 use Rattle.spg_forest.proofs.Joins.{weight_replaced}
 use Rattle.spg_forest.proofs.Keeping.{leaves_coming}
 use Rattle.spg_forest.proofs.Sections.{shape_shown}
-use Rattle.spg_forest.proofs.Spots.{put_at_same}
+use Rattle.spg_forest.proofs.Spots.{put_at_same, put_at_other}
 use Rattle.spg_forest.proofs.Stock.{tuple_is, pages_kept}
 use Rattle.spg_page.specs.Kinds.{kind_of}
 use Rattle.spg_page.specs.Reads.{frame_in}
@@ -28,7 +29,7 @@ use Rattle.spg_tree.specs.Descents.{Descending, in_nulls, with_node}
 use Rattle.spg_tree.specs.declared.stand.Stand.{Stand}
 use Rattle.spg_tree.specs.declared.stand.Stand.TheVariants.{Start, Root, At, Empty}
 use Rattle.spg_descend.specs.Carried.{carried, IsCarried, WayFits}
-use Rattle.spg_descend.specs.Follows.{IsAtInner}
+use Rattle.spg_descend.specs.Follows.{IsAtInner, tuple_place}
 use Rattle.spg_descend.specs.Puts.{IsQuiet}
 use Rattle.spg_descend.proofs.PutLaws.{kind_kept}
 use Rattle.spg_split.proofs.ChainPages.{Stage, begin_stage}
@@ -125,8 +126,30 @@ module _ {Key Recon Cond : Type 0} (m : Meaning Key Recon Cond) (adds : AddLaw m
     quiet : IsQuiet t (widened_table t x (Inner w2 ns2))
     quiet = record { latches = λ c. refl; clock = refl; counter = refl; limit = refl; roots = λ c h. kind_kept t x.block (with_tuple (tuples_at t x.block) x.offset (Inner w2 ns2)) c }
 
+    -- the node of the tuple above still leads to it
+    tree_kept : (c : ℕ) → (sheet_at S2 c).nulls ≡ (sheet_at S c).nulls
+    tree_kept c =
+        let s : Sheet = with_tuples (sheet_at S x.block) (with_tuple (sheet_at S x.block).tuples x.offset (Inner w2 ns2)) in
+        ⊎_elim (λ e. subst (λ (b : ℕ). (sheet_at S2 b).nulls ≡ (sheet_at S b).nulls) (sym e) (ap (λ (z : Sheet). z.nulls) (sheet_same S x.block s can.block))) (λ n. ap (λ (z : Sheet). z.nulls) (sheet_other S x.block s c n)) (cases_eq c x.block)
+
+    link_now : IsInnerOf (widened_table t x (Inner w2 ns2)) (in_nulls d) d.stand d.parent
+    link_now = go d.stand d.parent refl refl A inner_now
+      where
+        go : (st : Stand) (pa : Option (Place × ℕ)) → d.stand ≡ st → d.parent ≡ pa → IsInnerOf t (in_nulls d) st pa → IsAtInner (widened_table t x (Inner w2 ns2)) st → IsInnerOf (widened_table t x (Inner w2 ns2)) (in_nulls d) st pa
+        go Start pa es ep a J = absurd a
+        go (Root b) pa es ep a J = (a.0, J)
+        go (At z) None es ep a J = absurd a
+        go (At z) (Some (p, i)) es ep (a, tree, (there, (f, ks, e, l))) J =
+            let n : p ≡ x → ⊥ = λ q. (standing.hung_at m t H (in_nulls d) d.stand d.parent z p i es ep A).apart (q ∙ ap tuple_place es) in
+            let k : length (set t.pages x.block (with_tuples (sheet_at S x.block) (with_tuple (tuples_at t x.block) x.offset (Inner w2 ns2)))) ≡ length t.pages = length-set t.pages x.block (with_tuples (sheet_at S x.block) (with_tuple (tuples_at t x.block) x.offset (Inner w2 ns2))) in (
+              J,
+              tree_kept z.block ∙ tree,
+              (omega arith, (f, ks, ap (λ (F : Place → Tuple). F p) (tuple_put S x (Inner w2 ns2) can) ∙ put_at_other (tuple_of S) x (Inner w2 ns2) p n ∙ e, l)),
+            )
+        go Empty pa es ep a J = absurd a
+
     widens : Widens m t (widened_table t x (Inner w2 ns2)) d (with_node d) at label (λ z. z)
     widens = record { leaves = leaves; inner = inner_now; frame = ap frame_in tuple_now; carries = carries }
 
     pub added_here : (t2 : Table) (d2 : Descending Recon) → t2 ≡ widened_table t x (widened (tuple_at t x) at label) → d2 ≡ with_node d → IsNodeAdded m t t2 d d2 at label
-    added_here t2 d2 et ed = subst (λ (u : Table). IsNodeAdded m t u d d2 at label) (sym et) (subst (λ (e : Descending Recon). IsNodeAdded m t (widened_table t x (Inner w2 ns2)) d e at label) (sym ed) (inl (refl, quiet, widens)))
+    added_here t2 d2 et ed = subst (λ (u : Table). IsNodeAdded m t u d d2 at label) (sym et) (subst (λ (e : Descending Recon). IsNodeAdded m t (widened_table t x (Inner w2 ns2)) d e at label) (sym ed) (inl (refl, quiet, link_now, widens)))

@@ -6,13 +6,14 @@ use Rattle.spg_forest.specs.Pages.{moved}
 use Rattle.spg_forest.specs.Section.{Leaves, Cost}
 use Rattle.spg_page.specs.Reads.{frame_in}
 use Rattle.spg_tree.specs.Table.{Table, sheets_of, tuple_at}
-use Rattle.spg_tree.specs.Descents.{Descending, placed, with_node}
+use Rattle.spg_tree.specs.Descents.{Descending, in_nulls, placed, with_node}
 use Rattle.spg_tree.specs.declared.stand.Stand.TheVariants.{At}
 use Rattle.spg_descend.specs.Below.{IsTicked}
 use Rattle.spg_descend.specs.Carried.{IsCarried}
 use Rattle.spg_descend.specs.Follows.{IsAtInner, tuple_place}
 use Rattle.spg_descend.specs.Puts.{IsQuiet}
 use Rattle.spg_split.specs.Below.{IsLedTo}
+use Rattle.spg_move.specs.Answers.{IsInnerOf}
 
 -- at most three pages, one tick, and no more spread
 abbrev pub node_cost : Cost
@@ -25,8 +26,8 @@ pub record Widens {Key Recon Cond : Type 0} (m : Meaning Key Recon Cond) (t t2 :
   pub frame : frame_in (tuple_at t2 (tuple_place d2.stand)) ≡ longer (frame_in (tuple_at t (tuple_place d.stand))) at label
   pub carries : (key : Option Key) → IsCarried m (sheets_of t) d key → IsCarried m (sheets_of t2) d2 key
 
--- the node is added in place, or the tuple has gone to y
+-- the node is added in place, or the tuple has gone to y; the node of the tuple above leads there
 abbrev pub IsNodeAdded : {Key Recon Cond : Type 0} → Meaning Key Recon Cond → Table → Table → Descending Recon → Descending Recon → ℕ → ℤ → Type 0
 IsNodeAdded m t t2 d d2 at label =
-    ((d2 ≡ with_node d) × IsQuiet t t2 × Widens m t t2 d d2 at label (λ x. x))
+    ((d2 ≡ with_node d) × IsQuiet t t2 × IsInnerOf t2 (in_nulls d) d2.stand d2.parent × Widens m t t2 d d2 at label (λ x. x))
     ⊎ ((y : Place) × (d2 ≡ with_node (placed d (At y) d.parent)) × IsTicked t t2 × IsLedTo t2 d.parent y × Widens m t t2 d d2 at label (moved (tuple_place d.stand) y))

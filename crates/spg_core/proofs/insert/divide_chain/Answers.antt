@@ -9,7 +9,7 @@ use Rattle.spg_split.specs.Below.{IsChainSplit}
 use Rattle.spg_split.specs.declared.split.SplitOut.{SplitOut}
 use Rattle.spg_core.proofs.Moves.{put_out, chain_out, kinds_grow, at_chain, not_empty, below_root}
 use Rattle.spg_core.proofs.Limits.{split_near}
-use Rattle.spg_core.proofs.Holding.{put_free, chain_holds}
+use Rattle.spg_core.proofs.Holding.{put_free, anew_holds}
 use Rattle.spg_core.proofs.insert.divide_chain.Goals as goal
 
 pub split_chain-requires-clause-spot : goal.split_chain-requires-clause-spot
@@ -72,5 +72,5 @@ returns-in-LeftOut-clause-latches g c = λ h.
     let was = c.stand_block-was.ensures ∙ ap stand_block c.stand.ensures in
     let (z, ways) = subst (λ (o : SplitOut). IsChainSplit g.O.OpClass.meaning t t1 d d2 o) c.in-LeftOut.is c.in_ok-split_chain.ensures.ok in
     let within : z.block < length t1.pages → z.block < length t1.latches = λ l. subst (λ (n : ℕ). z.block < n) (sym c.page_count-count.ensures.sound.latched) l in
-    ⊎_elim (λ w. chain_holds t t1 t2 c.args.seat d d2 z c.stand_block-was.result (within w.1.inner.1) ticked.latches was (ap (λ (x : Descending _). x.stand) w.0) (ap (λ (x : Descending _). x.parent) w.0) c.hold_anew.ensures.held h)
-    (λ w. chain_holds t t1 t2 c.args.seat d d2 z c.stand_block-was.result (within w.1.inner.1) ticked.latches was (ap (λ (x : Descending _). x.stand) w.0) (ap (λ (x : Descending _). x.parent) w.0) c.hold_anew.ensures.held h) ways
+    ⊎_elim (λ w. anew_holds t t1 t2 c.args.seat d d2 z.block c.stand_block-was.result (within w.1.inner.1) ticked.latches was (ap (λ (x : Descending _). stand_block x.stand) w.0) (ap (λ (x : Descending _). x.parent) w.0) c.hold_anew.ensures.held h)
+    (λ w. anew_holds t t1 t2 c.args.seat d d2 z.block c.stand_block-was.result (within w.1.inner.1) ticked.latches was (ap (λ (x : Descending _). stand_block x.stand) w.0) (ap (λ (x : Descending _). x.parent) w.0) c.hold_anew.ensures.held h) ways

@@ -1,4 +1,4 @@
-use Rattle.std.proofs.Common.{rules, ◌≡◌, ◌+◌, ◌^◌, ◌<◌, sym, refl, ◌∙◌, subst, get_or, arith, length}
+use Rattle.std.proofs.Common.{rules, ◌≡◌, ◌<◌, ◌+◌, ◌^◌, sym, refl, ◌∙◌, subst, get_or, arith, length}
 use Rattle.std.proofs.lemmas.Bool.{false≢true}
 use Rattle.spg_core.specs.declared.answer.InsertOut.{InsertOut}
 use Rattle.spg_core.specs.declared.answer.InsertOut.TheVariants as outs
@@ -13,7 +13,7 @@ use Rattle.spg_core.specs.Latches.{NoLatches, LatchesAfter}
 use Rattle.spg_tree.specs.Table.{Table}
 use Rattle.spg_core.proofs.Slots.{stage_is, table_is, inserting_open}
 use Rattle.spg_core.proofs.Steps.{kept_still, room_left}
-use Rattle.spg_core.proofs.Inserts.{can_step, heavy_for, kept_step, put_row, kept_put, row_claimed, steps_length, seen_step, seen_put, seen_changes, latches_step, latches_put}
+use Rattle.spg_core.proofs.Inserts.{can_step, heavy_for, kept_step, put_row, kept_put, row_claimed, steps_length, seen_step, seen_put, seen_changes, no_restart, latches_step, latches_put}
 use Rattle.spg_core.proofs.state.State.insert_step.Goals as goal
 use Rattle.spg_core.proofs.state.State.insert_step.Goals.{then-has_ended, else-has_ended}
 
@@ -139,3 +139,6 @@ returns-in_err-out-clause-within g c = seen_changes g.O.OpClass.meaning c.self.i
 
 pub returns-clause-within : goal.returns-clause-within
 returns-clause-within g c = seen_changes g.O.OpClass.meaning c.self.inside c.self.invariant c.args.self.now c.self.view_is c.args.seat c.requires.first c.if-has_ended.self.table
+
+pub returns-clause-alone : goal.returns-clause-alone
+returns-clause-alone g c = no_restart g.O.OpClass.meaning g.O.OpClass.codes c.self.inside c.self.invariant c.args.seat c.in_ok-out.out (get_or c.self.inside.slots.items c.args.seat Free) c.step_slot.new.table c.step_slot.new.slots.items c.requires.first refl c.in_ok-out.ensures.ok

@@ -21,7 +21,6 @@ invariant_of-result g c =
       states = rw (events, c.new-2.ensures) (λ r. refl);
       keys = rw (events, c.new-2.ensures) (λ r. refl);
       room = rw slots (omega arith);
-      plain = c.requires.plain;
       limit = rw table refl;
     }
 

@@ -14,7 +14,7 @@ use Rattle.spg_descend.specs.Enters.{opened_for, CarriesNew}
 use Rattle.spg_core.specs.declared.slot.Slot.TheVariants.{Free, Insert}
 use Rattle.spg_core.specs.Slot.{stage_of}
 use Rattle.spg_core.proofs.Slots.{stage_set, stage_is, logged_is, free_slot, room_for_all, seen_as, table_is}
-use Rattle.spg_core.proofs.Steps.{kept_logged, kept_with, opened_rows, pages_opened, pages_are, rows_are, sane, unclaimed_row, unclaimed_seen, claimed_seen, unclaimed_fresh, free_holds, on_err}
+use Rattle.spg_core.proofs.Steps.{kept_logged, kept_with, opened_rows, pages_opened, pages_are, rows_are, sane, unclaimed_row, unclaimed_seen, claimed_seen, unclaimed_fresh, free_holds, on_err, no_ok}
 use Rattle.spg_core.proofs.Opens.{opened_fits, opened_holds}
 use Rattle.spg_core.proofs.state.State.open_insert.Goals as goal
 
@@ -43,6 +43,12 @@ returns-in_err-claimed-clause-row_used g c =
 
 pub invariant_of-self : goal.invariant_of-self
 invariant_of-self g c = kept_with g.O.OpClass.meaning c.self.inside c.self.invariant c.self.inside.rows c.reserve.new.self refl c.reserve.ensures.events c.reserve.ensures.room
+
+pub returns-in_err-reserve-clause-ok : goal.returns-in_err-reserve-clause-ok
+returns-in_err-reserve-clause-ok g c = no_ok _ _ c.from_residual-in_err-reserve.result c.from_residual-in_err-reserve.ensures.1
+
+pub returns-in_err-claim-clause-ok : goal.returns-in_err-claim-clause-ok
+returns-in_err-claim-clause-ok g c = no_ok _ _ c.from_residual-in_err-claim.result c.from_residual-in_err-claim.ensures.1
 
 pub returns-in_err-reserve-clause-row_used : goal.returns-in_err-reserve-clause-row_used
 returns-in_err-reserve-clause-row_used g c =

@@ -1,0 +1,11 @@
+use Rattle.std.proofs.Common.{refl, ap}
+use Rattle.spg_tree.specs.Descents.{Descending, in_nulls}
+use Rattle.spg_move.specs.Splits.{split_cost}
+use Rattle.spg_core.proofs.Inners.{stays_out}
+use Rattle.spg_core.proofs.inner.at_inner.Goals as goal
+
+pub returns-in_ok-split_tuple-in-Split-clause-ok : goal.returns-in_ok-split_tuple-in-Split-clause-ok
+returns-in_ok-split_tuple-in-Split-clause-ok g c =
+    let parts = c.in_ok-split_tuple-in-Split.ensures.ok in
+    stays_out g.O.OpClass.meaning c.args.table.now c.split_tuple.new.table c.split_tuple.new.table c.args.descent.now c.split_tuple.new.descent c.args.seat split_cost c.requires.shape c.requires.stands c.requires.inner parts.quiet
+    (ap (λ (z : Descending _). z.row) parts.after) (ap (λ (z : Descending _). in_nulls z) parts.after) (ap (λ (z : Descending _). z.stand) parts.after) (ap (λ (z : Descending _). z.parent) parts.after) parts.link parts.leaves parts.carries (refl, refl) refl

@@ -1,0 +1,42 @@
+ghost use Rattle.std.specs.Prelude.{◌≡◌, ◌+◌, ◌^◌, IfOk, OnErr, IsErrOf};
+ghost use Rattle.spg_tree.specs.declared.stand.StepRefused.TheVariants.{IndexFull, ClockFull};
+ghost use Rattle.spg_core.specs.Stage.{IsInserting};
+ghost use Rattle.spg_core.specs.Seen.{stage_at};
+ghost use Rattle.spg_core.specs.Stepping.{IsNearLimit};
+ghost use Rattle.spg_core.specs.Sections.{IsHeavy};
+ghost use Rattle.spg_core.specs.Through.{StillInserts, RunsThrough};
+
+use crate::answer::{InsertOut, InsertRan};
+use crate::state::State;
+use spg_base::SeatNo;
+use spg_opclass::OpClass;
+use spg_tree::StepRefused;
+
+impl<O: OpClass> State<O> {
+    /// The sections of an insert one after another, until its row is put, another seat holds the block
+    /// to be visited, or a section is refused. After a refusal the sections before it stand, and the
+    /// insert is open as they left it. `IndexFull` only where fewer than 4 blocks are left below the
+    /// limit, `ClockFull` only where the clock is 2^48 - 1, and both only where the keys of its tree
+    /// that were ever inserted take more than 8,160 bytes. `Restarted` does not come about so far,
+    /// since seat 0 alone may have something open.
+    pub fn insert_through(&mut self, seat: SeatNo) -> Result<InsertRan, StepRefused>
+        requires first { seat ≡ 0 }
+        requires inserting { IsInserting (stage_at self.old seat) }
+        ensures ok { IfOk result (λ ran. RunsThrough self.old self.new seat ran) }
+        ensures alone { IfOk result (λ ran. ran ≡ InsertRan.Put) }
+        ensures full { IsErrOf result IndexFull → IsHeavy O.meaning self.new seat × IsNearLimit self.new.table }
+        ensures clock { IsErrOf result ClockFull → IsHeavy O.meaning self.new seat × (self.new.table.clock + 1 ≡ 2 ^ 48) }
+        ensures err { OnErr result (StillInserts self.old self.new seat) }
+    {
+        // No clause of a section says that an insert comes to its end, so the loop has a bound, which
+        // no run reaches.
+        for _ in 0..u64::MAX {
+            match self.insert_step(seat)? {
+                InsertOut::Descended | InsertOut::Restructured => {}
+                InsertOut::Restarted { block, by } => return Ok(InsertRan::Restarted { block, by }),
+                InsertOut::Put => return Ok(InsertRan::Put),
+            }
+        }
+        Err(StepRefused::Memory)
+    }
+}
