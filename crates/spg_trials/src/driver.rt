@@ -2,7 +2,7 @@ ghost use Rattle.std.specs.Prelude.{◌≡◌, true, false, IfOk, OnOk};
 ghost use Rattle.spg_core.specs.Stage.{free, IsInserting};
 ghost use Rattle.spg_core.specs.Seen.{stage_at};
 
-use spg_app::Spoken;
+use spg_app::{AnyCond, AnyKey, Spoken};
 use spg_base::{List, Memory, Point, PointCond, Row, SeatNo};
 use spg_core::{Closed, InsertOut, OpenKind, OpenRefused, State, StepRefused};
 use spg_opclass::Query;
@@ -44,10 +44,10 @@ fn ends<O: Spoken>(state: &mut State<O>, log: &mut Vec<u8>) -> Result<bool, Memo
     }
 }
 
-/// The class's key for a point, or a null.
+/// The key for a point of a class that has points, or a null.
 fn key_in<O: Spoken>(class: &O, key: Option<Point>) -> Result<Option<O::Key>, Memory> {
     match key {
-        Some(point) => Ok(Some(class.key_in(&point)?)),
+        Some(point) => class.key_in(&AnyKey::Point(point)),
         None => Ok(None),
     }
 }
@@ -95,7 +95,9 @@ fn query_in<O: Spoken>(alloc: Global, class: &O, ask: Ask) -> Result<Query<O>, M
         Ask::Null => Ok(Query::Null),
         Ask::Where(cond) => {
             let mut conds = List::new(alloc);
-            conds.push(class.cond_in(&cond)?)?;
+            if let Some(cond) = class.cond_in(&AnyCond::Point(cond))? {
+                conds.push(cond)?;
+            }
             Ok(Query::Where(conds))
         }
     }
