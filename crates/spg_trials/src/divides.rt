@@ -8,6 +8,7 @@ use spg_base::{Memory, Point, PointCond, Row, Stat};
 use spg_core::State;
 use spg_kd::Kd;
 use spg_quad::Quad;
+use spg_radix::Radix;
 use std::process::Abort;
 use std::test::Fail;
 
@@ -88,7 +89,7 @@ const COUNTS: Stat = Stat {
     clock: 1,
 };
 
-const CASES: [Case; 6] = [
+const CASES: [Case; 7] = [
     // The 292nd point of a line divides the root, and then the chain that it meets.
     Case {
         class: ClassName::Quad,
@@ -194,6 +195,25 @@ const CASES: [Case; 6] = [
             ..COUNTS
         },
     },
+    // Nulls stand alike in each class.
+    Case {
+        class: ClassName::Radix,
+        keys: Keys::Nulls,
+        count: 409,
+        letters: b"DSDP",
+        finds: [
+            (Ask::Null, 409, 410),
+            (Ask::All, 409, 410),
+            (Ask::Null, 409, 410),
+        ],
+        stat: Stat {
+            pages: 5,
+            inner: 1,
+            leaf: 409,
+            placeholder: 50,
+            ..COUNTS
+        },
+    },
 ];
 
 /// Runs the queries, and compares their numbers and the counts of the index with those of the case.
@@ -228,6 +248,7 @@ fn divides_and_finds_again(rt: HostRuntime) -> Result<(), Fail> {
         match case.class {
             ClassName::Quad => try_case(&rt, Quad, &case)?,
             ClassName::Kd => try_case(&rt, Kd, &case)?,
+            ClassName::Radix => try_case(&rt, Radix, &case)?,
         }
     }
     Ok(())
