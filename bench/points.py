@@ -2,9 +2,9 @@
 """Times the program on scripts of points, outside the gate.
 
 For each shape and number of points it runs the built program on a script of inserts alone, and on the same script with
-finds of one kind behind it; the time of a find is the difference of the two runs. So an insert's time has the reading
-of its line and the printing of its record and events in it, and a find's time the printing of its rows. `growth` is the
-time of an operation over that at the count before.
+finds of one kind behind it, so many that they take about as long; the time of a find is the difference of the two runs.
+Times are of the processor. An insert's time has the reading of its line and the printing of its record and events in it,
+and a find's time the printing of its rows. `growth` is the time of an operation over that at the count before.
 """
 
 import timing
@@ -36,9 +36,10 @@ def boxes(values, part, count, rng):
 
 def measure(options, shape, count, rng):
     values = points(shape, count, rng)
-    finds = {"equality": [b"find where eq %d,%d" % value for value in rng.choices(values, k=options.finds)]}
+    many = 20 if shape == "equal" else count // 4
+    finds = {"equality": [b"find where eq %d,%d" % value for value in rng.choices(values, k=many)]}
     for name, part in [("box 0.01%", 0.0001), ("box 0.1%", 0.001), ("box 1%", 0.01)]:
-        finds[name] = boxes(values, part, options.finds, rng)
+        finds[name] = boxes(values, part, min(many, int(1 / part)), rng)
     finds["all"] = [b"find all"] * 3
     return timing.measure(options, options.index_class, [b"%d,%d" % value for value in values], finds)
 

@@ -28,11 +28,12 @@ def quoted(part):
 
 def measure(options, shape, count, rng):
     values = [text(shape, rng) for _ in range(count)]
-    chosen = rng.choices(values, k=options.finds)
+    chosen = rng.choices(values, k=count // 4)
     ordered = sorted(values)
     finds = {"equality": [b"find where eq " + quoted(value) for value in chosen]}
-    for name, part in [("starts, all", 1.0), ("starts, most", 0.8), ("starts, half", 0.5)]:
-        finds[name] = [b"find where starts " + quoted(value[: max(1, int(len(value) * part))]) for value in chosen]
+    for name, part, many in [("starts, all", 1.0, count), ("starts, most", 0.8, 1000), ("starts, half", 0.5, 500)]:
+        fronts = [value[: max(1, int(len(value) * part))] for value in chosen[:many]]
+        finds[name] = [b"find where starts " + quoted(front) for front in fronts]
     finds["lt"] = [b"find where lt " + quoted(ordered[len(ordered) // 100])] * 20
     finds["ge"] = [b"find where ge " + quoted(ordered[-len(ordered) // 100])] * 20
     return timing.measure(options, "radix", [quoted(value) for value in values], finds)

@@ -53,7 +53,6 @@ def arguments(about, shapes):
     parser.add_argument("--class", dest="index_class", default="quad", choices=["quad", "kd"], help="of points")
     parser.add_argument("--counts", default="10000,50000,200000")
     parser.add_argument("--shapes", default=",".join(shapes))
-    parser.add_argument("--finds", type=int, default=200)
     parser.add_argument("--repeats", type=int, default=2)
     parser.add_argument("--seed", type=int, default=1)
     return parser.parse_args()

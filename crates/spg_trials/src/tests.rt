@@ -116,3 +116,61 @@ fn keeps_nulls_and_points_apart(rt: HostRuntime) -> Result<(), Fail> {
     assert_eq!(rt; ends.next(), Some(b"601 0 close scan 6".as_slice()));
     Ok(())
 }
+
+/// 292 equal texts, five that begin alike, and queries.
+fn texts_alike<R: AllocGlobal>(rt: &R) -> Result<String, AllocError> {
+    let mut commands = String::new(rt.alloc());
+    for number in 1..293u16 {
+        let line = format!(in rt.alloc(); "insert 1.{number} \"abc\"\n")?;
+        commands.push_str(line.as_str())?;
+    }
+    commands.push_str("insert 2.1 \"\"\ninsert 2.2 \"a\"\ninsert 2.3 \"ab\"\n")?;
+    commands.push_str("insert 2.4 \"abx\"\ninsert 2.5 \"abcd\"\n")?;
+    commands.push_str("find where starts \"abc\"\nfind where lt \"ab\"\n")?;
+    Ok(commands)
+}
+
+/// Equal texts fill an all-the-same tuple. Three shorter ones split the tuple above, one adds a node,
+/// and a longer one puts the all-the-same tuple below a node of its own.
+#[test]
+fn splits_tuples_and_adds_nodes(rt: HostRuntime) -> Result<(), Fail> {
+    let commands = texts_alike(&rt)?;
+    let (status, taken) = ran(&rt, "class radix\n", commands.as_str())?;
+    assert_eq!(rt; status, Status::Done);
+    let mut lines = taken.as_slice().split(|b| *b == b'\n').skip(296);
+    assert_eq!(rt; lines.next(), Some(b"297 592 594 added".as_slice()));
+    let alike = lines.next().unwrap_or(b"");
+    assert_eq!(rt;
+        alike.starts_with(b"298 594 596 found 293 walk 298 1.1 1.2 "),
+        true
+    );
+    assert_eq!(rt; alike.ends_with(b" 1.291 1.292 2.5"), true);
+    assert_eq!(rt;
+        lines.next(),
+        Some(b"299 596 598 found 2 walk 4 2.1 2.2".as_slice())
+    );
+    Ok(())
+}
+
+/// Three texts of 3,900 bytes do not stand on one page.
+#[test]
+fn divides_long_texts(rt: HostRuntime) -> Result<(), Fail> {
+    let mut commands = String::new(rt.alloc());
+    for number in 1..4u16 {
+        let start = format!(in rt.alloc(); "insert 1.{number} \"")?;
+        commands.push_str(start.as_str())?;
+        for _ in 0..390 {
+            commands.push_str("aaaaaaaaaa")?;
+        }
+        commands.push_str("\"\n")?;
+    }
+    commands.push_str("find all\n")?;
+    let (status, taken) = ran(&rt, "class radix\n", commands.as_str())?;
+    assert_eq!(rt; status, Status::Done);
+    let mut lines = taken.as_slice().split(|b| *b == b'\n').skip(3);
+    assert_eq!(rt;
+        lines.next(),
+        Some(b"4 6 8 found 3 walk 4 1.1 1.2 1.3".as_slice())
+    );
+    Ok(())
+}
