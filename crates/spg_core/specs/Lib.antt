@@ -9,3 +9,4 @@ pub mod Kept
 pub mod Sections
 pub mod Through
 pub mod Counts
+pub mod Ends

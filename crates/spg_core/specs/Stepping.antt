@@ -21,7 +21,7 @@ use Rattle.spg_forest.specs.Follows.{GoesBelow}
 use Rattle.spg_page.specs.Reads.{frame_in}
 use Rattle.spg_opclass.specs.declared.view.Choice.TheVariants as choice
 use Rattle.spg_descend.specs.Follows.{tuple_place}
-use Rattle.spg_move.specs.Answers.{IsAnswered}
+use Rattle.spg_descend.specs.Answers.{IsAnswered}
 use Rattle.spg_core.specs.declared.inner.Chosen.{Chosen}
 use Rattle.spg_core.specs.declared.inner.Chosen.TheVariants.{Node, Add, Split}
 use Rattle.spg_core.specs.declared.answer.InsertOut.{InsertOut}

@@ -6,3 +6,5 @@ pub mod Follows
 pub mod Starts
 pub mod Rules
 pub mod Below
+pub mod Makes
+pub mod Answers

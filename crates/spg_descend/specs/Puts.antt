@@ -19,6 +19,7 @@ use Rattle.spg_tree.specs.declared.stand.Stand.TheVariants.{Start, Root, At, Emp
 use Rattle.spg_descend.specs.declared.put.PutOut.{PutOut}
 use Rattle.spg_descend.specs.declared.put.PutOut.TheVariants.{Put, NoRoom}
 use Rattle.spg_descend.specs.Carried.{carried, IsCarried}
+use Rattle.spg_descend.specs.Makes.{MakesNone}
 
 -- the insert stands at a root leaf page of its tree, or at a chain or a dead tuple of its tree
 abbrev pub IsAtLeaves : Sheets → Bool → Stand → Type 0
@@ -63,7 +64,7 @@ PutsCarried {Key} m t t2 d = (key : Option Key) → IsCarried m (sheets_of t) d 
 
 -- what comes of a put: it is done exactly where the leaf fits, and else nothing changes
 abbrev pub IsPutOut : {Key Recon Cond : Type 0} → Meaning Key Recon Cond → Table → Table → Descending Recon → PutOut → Type 0
-IsPutOut m t t2 d Put = Fits t d.stand (Live (carried d) 0) × PutsCarried m t t2 d × IsQuiet t t2
+IsPutOut m t t2 d Put = Fits t d.stand (Live (carried d) 0) × PutsCarried m t t2 d × IsQuiet t t2 × MakesNone t t2
 IsPutOut m t t2 d NoRoom = (Fits t d.stand (Live (carried d) 0) → ⊥) × (t2 ≡ t)
 
 -- the insert stands at the empty downlink i of an inner tuple of its tree

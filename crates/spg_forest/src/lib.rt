@@ -10,6 +10,7 @@ ghost use Rattle.spg_forest.specs.Divisions.{PickGoes, OneNodeGoes, NullsGo};
 ghost use Rattle.spg_forest.specs.Keeping.{KeepsComing, LeavesComing, HasChild};
 ghost use Rattle.spg_forest.specs.Follows.{MatchGoes, NullGoes, AddWidens, SplitParts};
 ghost use Rattle.spg_forest.specs.Puts.{PutsBehind, PutsAtDead, PutsAtRoot, PutsAtEmpty};
+ghost use Rattle.spg_forest.specs.Ranks.{EachIsRanked};
 ghost use Rattle.spg_forest.specs.Links.{LinksAreTree, TreeIsLinked};
 
 use spg_opclass::OpClass;
@@ -72,6 +73,11 @@ pub fn pick<O: OpClass>()
     ensures pick_goes { PickGoes O.meaning }
     ensures one_node_goes { OneNodeGoes O.meaning }
     ensures nulls_go { NullsGo O.meaning }
+{}
+
+/// An insert comes to its end from wherever it stands.
+pub fn rank<O: OpClass>()
+    ensures { EachIsRanked O.meaning }
 {}
 
 /// What a section of a vacuum keeps.

@@ -33,7 +33,8 @@ use Rattle.spg_descend.specs.Follows.{IsAtInner, tuple_place}
 use Rattle.spg_descend.specs.Puts.{IsQuiet}
 use Rattle.spg_descend.proofs.PutLaws.{kind_kept}
 use Rattle.spg_split.proofs.ChainPages.{Stage, begin_stage}
-use Rattle.spg_move.specs.Answers.{IsInnerOf, IsAnswered}
+use Rattle.spg_descend.specs.Answers.{IsAnswered}
+use Rattle.spg_move.specs.Answers.{IsInnerOf}
 use Rattle.spg_move.specs.Nodes.{node_cost, Widens, IsNodeAdded}
 use Rattle.spg_move.specs.Widening.{widened, widened_table, FitsInPlace}
 use Rattle.spg_move.proofs.NodePages.{inner_stage}

@@ -35,7 +35,8 @@ use Rattle.spg_descend.specs.Carried.{carried, IsCarried}
 use Rattle.spg_descend.specs.Follows.{IsAtInner, tuple_place}
 use Rattle.spg_split.specs.Below.{IsLedTo}
 use Rattle.spg_split.specs.Writing.{new_place}
-use Rattle.spg_move.specs.Answers.{IsInnerOf, IsAnswered}
+use Rattle.spg_descend.specs.Answers.{IsAnswered}
+use Rattle.spg_move.specs.Answers.{IsInnerOf}
 use Rattle.spg_move.specs.Nodes.{node_cost, Widens, IsNodeAdded}
 use Rattle.spg_move.specs.Widening.{widened, shifted_table, blocks_shifted, node_want, IsHung, IsShifted, IsShiftedAt, IsShiftedFrom}
 use Rattle.spg_move.proofs.NodePicks.{PicksPage, picks_page, shifted_few, IsAway, away}

@@ -32,7 +32,8 @@ use Rattle.spg_descend.specs.Carried.{IsCarried, WayFits}
 use Rattle.spg_descend.specs.Follows.{IsAtInner, tuple_place}
 use Rattle.spg_descend.specs.Puts.{IsQuiet}
 use Rattle.spg_split.specs.Parts.{bare}
-use Rattle.spg_move.specs.Answers.{IsInnerOf, IsAnswered}
+use Rattle.spg_descend.specs.Answers.{IsAnswered}
+use Rattle.spg_move.specs.Answers.{IsInnerOf}
 use Rattle.spg_move.specs.Splits.{PartsTuple, split_cost}
 use Rattle.spg_move.specs.Splitting.{split_touched, MayPart, IsParted}
 use Rattle.spg_move.proofs.SplitHomes.{IsHoused, housed, IsAway, away, touched_few}

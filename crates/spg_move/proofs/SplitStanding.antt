@@ -22,7 +22,8 @@ use Rattle.spg_descend.specs.Carried.{IsCarried, root_of}
 use Rattle.spg_descend.specs.Follows.{IsAtInner, tuple_place}
 use Rattle.spg_descend.proofs.FollowLaw.{is_within, fit_here}
 use Rattle.spg_split.specs.Parts.{bare}
-use Rattle.spg_move.specs.Answers.{IsInnerOf, IsAnswered}
+use Rattle.spg_descend.specs.Answers.{IsAnswered}
+use Rattle.spg_move.specs.Answers.{IsInnerOf}
 use Rattle.spg_move.specs.Splitting.{MayPart}
 
 pub inner_is : (u : Tuple) → IsInner u → u ≡ Inner (frame_in u) (links u)

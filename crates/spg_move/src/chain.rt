@@ -10,7 +10,8 @@ ghost use Rattle.spg_descend.specs.Carried.{carried, IsCarried};
 ghost use Rattle.spg_descend.specs.Puts.{Fits};
 ghost use Rattle.spg_descend.specs.Rules.{MayMove};
 ghost use Rattle.spg_descend.specs.Below.{IsAtChain, IsTicked};
-ghost use Rattle.spg_move.specs.Moves.{MovesCarried};
+ghost use Rattle.spg_descend.specs.Makes.{MakesNone};
+ghost use Rattle.spg_move.specs.Moves.{MovesCarried, carried_want};
 
 use crate::leaves::{bytes_of, leaf_tuple};
 use crate::moving::{chain_tuples, write_chain};
@@ -80,7 +81,8 @@ pub fn move_chain<O: OpClass>(
     requires short { MayMove table.old descent.now.stand (Live (carried descent.now) 0) }
     ensures ok { OnOk result (MovesCarried O.meaning table.old table.new descent.now) }
     ensures ticked { OnOk result (IsTicked table.old table.new) }
-    ensures full { IsErrOf result IndexFull → (w : Want) × IsFull table.old w }
+    ensures makes { OnOk result (MakesNone table.old table.new) }
+    ensures full { IsErrOf result IndexFull → IsFull table.old (carried_want table.old descent.now seat) }
     ensures clock { IsErrOf result ClockFull → table.old.clock + 1 ≡ 2 ^ 48 }
     ensures clock_first { table.old.clock + 1 ≡ 2 ^ 48 → IsErrOf result ClockFull }
     ensures err { OnErr result (table.new ≡ table.old) }

@@ -10,8 +10,9 @@ ghost use Rattle.spg_tree.specs.declared.stand.Stand.TheVariants.{At};
 ghost use Rattle.spg_tree.specs.declared.stand.StepRefused.TheVariants.{IndexFull, ClockFull};
 ghost use Rattle.spg_descend.specs.Carried.{IsCarried};
 ghost use Rattle.spg_descend.specs.Follows.{IsAtPlace, tuple_place};
-ghost use Rattle.spg_move.specs.Answers.{IsInnerOf, IsAnswered};
-ghost use Rattle.spg_move.specs.Nodes.{IsNodeAdded};
+ghost use Rattle.spg_descend.specs.Answers.{IsAnswered};
+ghost use Rattle.spg_move.specs.Answers.{IsInnerOf};
+ghost use Rattle.spg_move.specs.Nodes.{IsNodeAdded, FitsWider, wider_want};
 ghost use Rattle.spg_move.specs.Widening.{FitsInPlace, IsShiftedFrom};
 
 use crate::node_tuple::longer_tuple;
@@ -106,8 +107,8 @@ pub fn add_node<O: OpClass>(
     requires of_key { (key : Option O.Key) × IsCarried O.meaning (sheets_of table.old) descent.old key }
     requires answer { IsAnswered O.meaning table.old descent.old (Add at label) }
     ensures ok { OnOk result (IsNodeAdded O.meaning table.old table.new descent.old descent.new at label) }
-    ensures full { IsErrOf result IndexFull → (w : Want) × IsFull table.old w }
-    ensures clock { IsErrOf result ClockFull → table.old.clock + 1 ≡ 2 ^ 48 }
+    ensures full { IsErrOf result IndexFull → (FitsWider table.old descent.old at label → ⊥) × IsFull table.old (wider_want table.old descent.old at label seat) }
+    ensures clock { IsErrOf result ClockFull → (FitsWider table.old descent.old at label → ⊥) × (table.old.clock + 1 ≡ 2 ^ 48) }
     ensures err { OnErr result (table.new ≡ table.old) }
     ensures err_descent { OnErr result (descent.new ≡ descent.old) }
 {

@@ -4,12 +4,12 @@ ghost use Rattle.spg_forest.specs.Shape.{Shape};
 ghost use Rattle.spg_tree.specs.Table.{sheets_of};
 ghost use Rattle.spg_tree.specs.Pick.{IsFull};
 ghost use Rattle.spg_tree.specs.Descents.{in_nulls};
-ghost use Rattle.spg_tree.specs.declared.want.Want.{Want};
 ghost use Rattle.spg_tree.specs.declared.stand.StepRefused.TheVariants.{IndexFull, ClockFull};
 ghost use Rattle.spg_descend.specs.Carried.{IsCarried};
 ghost use Rattle.spg_descend.specs.Follows.{IsAtPlace, tuple_place};
-ghost use Rattle.spg_move.specs.Answers.{IsInnerOf, IsAnswered};
-ghost use Rattle.spg_move.specs.Splits.{PartsTuple};
+ghost use Rattle.spg_descend.specs.Answers.{IsAnswered};
+ghost use Rattle.spg_move.specs.Answers.{IsInnerOf};
+ghost use Rattle.spg_move.specs.Splits.{PartsTuple, lower_want_at};
 
 use crate::split_pages::part_tuple;
 use crate::split_tuples::{lower_tuple, upper_tuple};
@@ -58,8 +58,8 @@ pub fn split_tuple<O: OpClass>(
     requires main { in_nulls descent.old ≡ false }
     requires of_key { (key : Option O.Key) × IsCarried O.meaning (sheets_of table.old) descent.old key }
     requires answer { IsAnswered O.meaning table.old descent.old (Split upper_prefix.now upper_labels.now child lower_prefix.now) }
-    ensures ok { OnOk result (PartsTuple O.meaning table.old table.new descent.old descent.new upper_prefix.now upper_labels.now) }
-    ensures full { IsErrOf result IndexFull → (w : Want) × IsFull table.old w }
+    ensures ok { OnOk result (PartsTuple O.meaning table.old table.new descent.old descent.new upper_prefix.now upper_labels.now child) }
+    ensures full { IsErrOf result IndexFull → IsFull table.old (lower_want_at table.old descent.old lower_prefix.now seat) }
     ensures clock { IsErrOf result ClockFull → ⊥ }
     ensures err { OnErr result (table.new ≡ table.old) }
     ensures err_descent { OnErr result (descent.new ≡ descent.old) }

@@ -10,3 +10,4 @@ pub mod Planning
 pub mod Writing
 pub mod Homes
 pub mod Parting
+pub mod Shrinks
