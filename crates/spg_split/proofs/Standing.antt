@@ -35,9 +35,12 @@ use Rattle.spg_split.proofs.Room.{least_weight}
 use Rattle.spg_split.proofs.Taken.{with_length, without_last, lighter}
 
 -- sizes of what the class gives
+pub rest_small : {Key Recon Cond : Type 0} (m : Meaning Key Recon Cond) → CodeLaw m → (nulls : Bool) (q : List ℕ) → IsRestOf m nulls q → leaf_size q ≤ 4076
+rest_small m law true q e = rw e (omega arith)
+rest_small m law false q e = law.leaf_fits q e
+
 pub rest_fits : {Key Recon Cond : Type 0} (m : Meaning Key Recon Cond) → CodeLaw m → (nulls : Bool) (q : List ℕ) → IsRestOf m nulls q → leaf_size q ≤ 8156
-rest_fits m law true q e = rw e (omega arith)
-rest_fits m law false q e = law.leaf_fits q e
+rest_fits m law nulls q e = let s = rest_small m law nulls q e in omega arith
 
 pub tuple_fits : {Key Recon Cond : Type 0} (m : Meaning Key Recon Cond) → CodeLaw m → (nulls : Bool) (w : Frame) → IsTupleOf m nulls w → inner_size w ≤ 8156
 tuple_fits m law true w e = rw e (omega arith)
