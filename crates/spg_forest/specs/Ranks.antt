@@ -1,7 +1,7 @@
 -- How many sections of an insert may come yet on its way down.
-use Rattle.std.specs.Prelude.{◌≡◌, ℕ, zero, suc, ◌+◌, ◌*◌, ◌≤◌, List, length, Option, Some, None, get_or}
+use Rattle.std.specs.Prelude.{◌≡◌, ℕ, zero, suc, ◌+◌, ◌*◌, ◌≤◌, length, Some, None, get_or}
 use Rattle.spg_opclass.specs.Meaning.{Meaning}
-use Rattle.spg_forest.specs.View.{Place, Leaf}
+use Rattle.spg_forest.specs.View.{Place}
 use Rattle.spg_forest.specs.Spot.{Spot, Branch, Bucket, Forward, Nothing}
 use Rattle.spg_forest.specs.Sheets.{Sheets}
 use Rattle.spg_forest.specs.Shape.{Shape, spots}
@@ -26,5 +26,6 @@ IsRanked V (suc n) x = IsRankedAt n (IsRanked V n) (V x)
 abbrev pub most_sections : Sheets → ℕ
 most_sections S = 512 * length S.sheets + 1024
 
+-- in a well formed index an insert that stands at any place has at most so many sections before it
 abbrev pub EachIsRanked : {Key Recon Cond : Type 0} → Meaning Key Recon Cond → Type 0
 EachIsRanked m = (S : Sheets) → Shape m S → (x : Place) → IsRanked (spots S) (most_sections S) x
