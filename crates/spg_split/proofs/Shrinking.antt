@@ -1,9 +1,8 @@
 -- Below a new inner tuple each list has fewer leaves than were divided, or the node of the leaf that was left out leads nowhere.
-use Rattle.std.proofs.Common.{◌≡◌, ℕ, zero, suc, ◌+◌, ◌≤◌, ◌<◌, ◌⊎◌, List, [], ◌∷◌, ⊎_elim, Option, Some, None, length, take, get_or, slice_get, slice_index, nat_eq, refl, sym, ap, ◌∙◌, subst, inl, inr, arith}
+use Rattle.std.proofs.Common.{◌≡◌, ℕ, zero, suc, ◌+◌, ◌≤◌, ◌<◌, List, [], ◌∷◌, ⊎_elim, Option, Some, None, length, take, slice_get, slice_index, nat_eq, refl, sym, ap, ◌∙◌, inl, inr, arith}
 use Rattle.std.proofs.lemmas.Bool.{cases_eq, cases_lt, cond-true, cond-false, eq-eqb, ne_eqb}
 use Rattle.std.proofs.lemmas.List.{get_or-take, length-take-le}
 use Rattle.spg_opclass.specs.Meaning.{Meaning}
-use Rattle.spg_opclass.specs.declared.view.Choice.TheVariants.{Match}
 use Rattle.spg_forest.specs.View.{Place, Leaf}
 use Rattle.spg_forest.specs.Spot.{Frame, Bucket}
 use Rattle.spg_forest.specs.Tuples.{Tuple}
