@@ -3,7 +3,7 @@ use Rattle.std.proofs.Common.{◌≡◌, ℕ, zero, suc, ◌+◌, ◌≤◌, ◌
 use Rattle.std.proofs.lemmas.Bool.{cases_eq, cases_lt, cond-true, cond-false, eq-eqb, ne_eqb}
 use Rattle.std.proofs.lemmas.List.{get_or-take, length-take-le}
 use Rattle.spg_opclass.specs.Meaning.{Meaning}
-use Rattle.spg_forest.specs.View.{Place, Leaf}
+use Rattle.spg_forest.specs.View.{Place}
 use Rattle.spg_forest.specs.Spot.{Frame, Bucket}
 use Rattle.spg_forest.specs.Tuples.{Tuple}
 use Rattle.spg_forest.specs.Shape.{spots}
@@ -14,7 +14,7 @@ use Rattle.spg_descend.specs.Follows.{tuple_place, link_of}
 use Rattle.spg_descend.specs.Answers.{LeadsNowhere}
 use Rattle.spg_split.specs.declared.division.Division.{Division}
 use Rattle.spg_split.specs.Nodes.{IsOnlyNode}
-use Rattle.spg_split.specs.Dividing.{IsDivided, IsMatched}
+use Rattle.spg_split.specs.Dividing.{IsDivided}
 use Rattle.spg_split.specs.Placing.{taken_by}
 use Rattle.spg_split.specs.Shrinks.{leaf_number, LeadsToFewer, Shrinks}
 
