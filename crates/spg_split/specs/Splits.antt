@@ -11,7 +11,8 @@ use Rattle.spg_tree.specs.declared.want.Want.{Want}
 use Rattle.spg_tree.specs.declared.stand.Stand.{Stand}
 use Rattle.spg_tree.specs.declared.stand.Stand.TheVariants.{Start, Root, At, Empty}
 use Rattle.spg_descend.specs.Carried.{IsCarried}
-use Rattle.spg_descend.specs.Follows.{IsAtInner}
+use Rattle.spg_descend.specs.Follows.{IsAtInner, tuple_place}
+use Rattle.spg_descend.specs.Makes.{MakesOne}
 use Rattle.spg_split.specs.Shrinks.{Shrinks}
 use Rattle.spg_split.specs.declared.split.SplitOut.{SplitOut}
 use Rattle.spg_split.specs.declared.split.SplitOut.TheVariants.{Put, LeftOut}
@@ -48,10 +49,10 @@ pub record PartsWithout {Key Recon Cond : Type 0} (m : Meaning Key Recon Cond) (
   pub shrinks : Shrinks m t t2 d d2
   pub carries : (key : Option Key) → IsCarried m (sheets_of t) d key → IsCarried m (sheets_of t2) d2 key
 
--- What comes of a division. Where the leaf is left out, the spread rises by 1 at most, and only where that is noted
+-- What comes of a division. The one inner tuple that it makes stands where the insert stood. Where the leaf is left out, the spread rises by 1 at most, and only where that is noted
 abbrev pub IsSplitOut : {Key Recon Cond : Type 0} → Meaning Key Recon Cond → Table → Table → Descending Recon → Descending Recon → SplitOut → Type 0
-IsSplitOut m t t2 d d2 Put = PartsWith m t t2 d × IsCalm t t2 d.stand × (d2 ≡ d)
-IsSplitOut m t t2 d d2 LeftOut = IsCalm t t2 d.stand × (((d2 ≡ d) × PartsWithout m t t2 d d2 0) ⊎ ((d2 ≡ risen d) × PartsWithout m t t2 d d2 1))
+IsSplitOut m t t2 d d2 Put = PartsWith m t t2 d × IsCalm t t2 d.stand × MakesOne t t2 (tuple_place d.stand) × (d2 ≡ d)
+IsSplitOut m t t2 d d2 LeftOut = IsCalm t t2 d.stand × MakesOne t t2 (tuple_place d.stand) × (((d2 ≡ d) × PartsWithout m t t2 d d2 0) ⊎ ((d2 ≡ risen d) × PartsWithout m t t2 d d2 1))
 
 -- a pick of the section needs a new block that is not below the limit; where two are picked, the second may have any parity
 abbrev pub IsSplitFull : Table → Type 0
