@@ -25,3 +25,4 @@ pub mod ChainStanding
 pub mod ChainJoining
 pub mod BlocksTouched
 pub mod Outcome
+pub mod Makes

@@ -8,7 +8,7 @@ ghost use Rattle.spg_descend.specs.Puts.{Fits};
 ghost use Rattle.spg_descend.specs.Rules.{MayMove};
 ghost use Rattle.spg_descend.specs.Below.{IsAtChain, IsTicked};
 ghost use Rattle.spg_tree.specs.declared.stand.Stand.TheVariants.{At};
-ghost use Rattle.spg_split.specs.Below.{IsChainSplit};
+ghost use Rattle.spg_split.specs.Below.{IsChainSplit, MakesBelow};
 ghost use Rattle.spg_split.specs.Ways.{IsChainWay, NotesChain, IsBelowParent};
 ghost use Rattle.spg_split.specs.Splits.{IsSplitFull};
 
@@ -41,7 +41,7 @@ fn divide_chain<O: OpClass>(
     requires of_key { (key : Option O.Key) × IsCarried O.meaning (sheets_of table.old) descent.now key }
     requires long { MayMove table.old descent.now.stand (Live (carried descent.now) 0) → ⊥ }
     requires tick { table.old.clock + 1 < 2 ^ 48 }
-    ensures ok { IfOk result (λ done. IsChainWay O.meaning table.old table.new descent.now done.at done.way × IsTicked table.old table.new) }
+    ensures ok { IfOk result (λ done. IsChainWay O.meaning table.old table.new descent.now done.at done.way × IsTicked table.old table.new × MakesBelow table.old table.new descent.now.parent done.at) }
     ensures full { IsErrOf result IndexFull → IsSplitFull table.old }
     ensures clock { IsErrOf result ClockFull → ⊥ }
     ensures err { OnErr result (table.new ≡ table.old) }

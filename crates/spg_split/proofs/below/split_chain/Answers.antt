@@ -3,4 +3,4 @@ use Rattle.spg_split.proofs.below.split_chain.Goals as goal
 
 pub returns-clause-ok : goal.returns-clause-ok
 returns-clause-ok g c = chain_split g.O.OpClass.meaning c.args.table.now c.divide_chain.new.table c.args.descent.now c.note_chain.new.descent c.in_ok-done-in-At-Some.done.at c.in_ok-done-in-At-Some.done.way c.note_chain.result
-    c.in_ok-done-in-At-Some.ensures.ok.0 c.note_chain.ensures
+    c.in_ok-done-in-At-Some.ensures.ok.0 c.in_ok-done-in-At-Some.ensures.ok.2 c.note_chain.ensures
