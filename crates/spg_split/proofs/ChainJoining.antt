@@ -11,13 +11,13 @@ use Rattle.spg_opclass.specs.Laws.{CodeLaw}
 use Rattle.spg_forest.specs.View.{Place, Leaf}
 use Rattle.spg_forest.specs.Spot.{Frame, Spot, Bucket, IsIn}
 use Rattle.spg_forest.specs.Tuples.{Tuple, Inner, Live, IsAmong}
-use Rattle.spg_forest.specs.Pages.{all_live, IsFresh, moved, tuple_on}
+use Rattle.spg_forest.specs.Pages.{place, all_live, IsFresh, moved, tuple_on}
 use Rattle.spg_forest.specs.Classes.{class_of, HasEntry}
 use Rattle.spg_forest.proofs.Keeping.{entry_of, no_entry}
 use Rattle.spg_forest.proofs.Relocate.{moved_here}
 use Rattle.spg_page.specs.Kinds.{IsInner}
 use Rattle.spg_forest.specs.Fit.{FitAt}
-use Rattle.spg_forest.specs.Sheets.{Sheet, Sheets, sheet_at, size_of}
+use Rattle.spg_forest.specs.Sheets.{Sheet, Sheets, sheet_at, weight, size_of}
 use Rattle.spg_forest.specs.Shape.{Shape, spots, IsTupleOf, IsRestOf}
 use Rattle.spg_forest.specs.Section.{Adds, Leaves, Cost}
 use Rattle.spg_forest.specs.Divisions.{EachGoes, list_of, rests_of}
@@ -38,17 +38,19 @@ use Rattle.spg_descend.specs.Below.{IsAtChain, IsTicked}
 use Rattle.spg_descend.specs.Makes.{MakesOne, IsNextTo}
 use Rattle.spg_split.specs.declared.division.Division.{Division}
 use Rattle.spg_split.specs.declared.parts.Parts.{Parts}
+use Rattle.spg_split.specs.declared.plan.Left.{Left}
 use Rattle.spg_split.specs.declared.plan.Plan.{Plan}
 use Rattle.spg_split.specs.declared.homes.Homes.{Homes}
 use Rattle.spg_split.specs.declared.part.Parting.{Parting}
 use Rattle.spg_split.specs.Splits.{split_cost}
 use Rattle.spg_split.specs.Below.{SplitsWith, SplitsWithout, IsLedTo, MakesBelow}
 use Rattle.spg_split.specs.Ways.{IsChainWay}
-use Rattle.spg_split.specs.Planning.{IsWayOf}
+use Rattle.spg_split.specs.Planning.{IsPlanOf, IsWayOf, from_node, bytes_away, left_at}
 use Rattle.spg_split.specs.Nodes.{IsOnlyNode}
 use Rattle.spg_split.specs.declared.put.Parted.{Parted}
 use Rattle.spg_split.specs.declared.put.Parted.TheVariants.{With, Without}
-use Rattle.spg_split.specs.Dividing.{IsDivided, rows_of}
+use Rattle.spg_split.specs.Dividing.{IsDivided, division_of, rows_of}
+use Rattle.spg_split.specs.Causes.{IsCauseOf, tuples_divided, leaves_below, chain_bytes}
 use Rattle.spg_split.specs.Homes.{blocks_touched}
 use Rattle.spg_split.specs.Placing.{taken_by, leaves_with, leaves_in, downlinks}
 use Rattle.spg_split.specs.Parts.{ArePartsOf, AreReady, bare}
@@ -431,6 +433,9 @@ module _ {Key Recon Cond : Type 0} (m : Meaning Key Recon Cond) (codes : CodeLaw
   makes : MakesBelow t t2 d.parent done.at
   makes = subst (λ (o : Option (Place × ℕ)). MakesBelow t t2 o done.at) (sym pr) (subst (λ (y : Place). MakesOne t t2 y × IsNextTo p.block y) (sym W.at) (one, next))
     where
+      may : MayPart u x p i h.inner h.rest p2.inner L plan.cut n
+      may = may_part t u x p i p2 W.left plan h MD R some W.is_left W.is_plan HH
+
       one : MakesOne t t2 (new_place u h.inner)
       one y none a =
           let b : IsInner (tuple_at (parted_table u x p i h.inner h.rest p2.inner L plan.cut n) y) = subst (λ (v : Table). IsInner (tuple_at v y)) W.after a in
@@ -440,8 +445,31 @@ module _ {Key Recon Cond : Type 0} (m : Meaning Key Recon Cond) (codes : CodeLaw
       next : IsNextTo p.block (new_place u h.inner)
       next = homes_next t u x.block p.block (size_of p2.inner + 4) seat plan.rest h W.picks
 
-      may : MayPart u x p i h.inner h.rest p2.inner L plan.cut n
-      may = may_part t u x p i p2 W.left plan h MD R some W.is_left W.is_plan HH
-
   pub chain_done : IsChainWay m t t2 d done.at done.way × IsTicked t t2 × MakesBelow t t2 d.parent done.at
   chain_done = let (way, ticks) = chain_law done.at done.way refl W.way in (way, ticks, makes)
+
+  -- the bytes that must go away
+  away_is : (us : List Tuple) (q : Plan) → IsPlanOf us p2.node_of n W.left q → q.rest.bytes ≡ bytes_away us p2.node_of n W.left
+  away_is us q Q = Q.bytes ∙ ap (λ k. weight (from_node k us p2.node_of)) Q.cut
+
+  left_is : W.left ≡ left_at (tuples_at t x.block) x.offset
+  left_is = let (e, f, g) = W.is_left (place 0 0) 0 in λ k. record { free = e k; gaps = f k }
+
+  bytes_are : bytes_away p2.leaves p2.node_of n W.left ≡ chain_bytes m t d
+  bytes_are =
+      ap (λ us. bytes_away us p2.node_of n W.left) P.leaves ∙ ap (λ ns. bytes_away (all_live (leaves_with (rows_of vs) dv.rests)) ns n W.left) P.node_of
+      ∙ ap (λ k. bytes_away (all_live (leaves_with (rows_of vs) dv.rests)) dv.node_of k W.left) links_are
+      ∙ ap (λ (l : Left). bytes_away (all_live (leaves_with (rows_of vs) dv.rests)) dv.node_of (length dv.frame.labels) l) left_is
+      ∙ ap (λ (v : Division). bytes_away (all_live (leaves_with (rows_of vs) v.rests)) v.node_of (length v.frame.labels) (left_at (tuples_at t x.block) x.offset)) D.exact
+      ∙ ap (λ (s : Stand). let y : Place = tuple_place s in let v : Division = division_of m d.recon (rests_of (leaves_below t d y)) in bytes_away (tuples_divided m d.recon (leaves_below t d y)) v.node_of (length v.frame.labels) (left_at (tuples_at t y.block) y.offset)) (sym st)
+
+  pub chain_cause : IsCauseOf (chain_bytes m t d) done.way
+  chain_cause = go done.way W.way
+    where
+      go : (way : Parted) → IsWayOf p2 plan way → IsCauseOf (chain_bytes m t d) way
+      go With all = ⊎_elim
+          (λ (Q, f). subst (λ k. k ≤ 8160) (away_is p2.leaves plan Q ∙ bytes_are) f)
+          (λ (Q, o). let a = Q.count in let b = length-take-le (length p2.leaves - 1) p2.leaves (omega arith) in let c = some in absurd (omega arith)) W.is_plan
+      go (Without in_one) (none, o) = ⊎_elim
+          (λ (Q, f). absurd (none Q.count))
+          (λ (Q, (q, A, f)). subst (λ k. 8160 < k) (away_is p2.leaves q A ∙ bytes_are) f) W.is_plan

@@ -3,6 +3,7 @@ pub mod Growing
 pub mod Reading
 pub mod Lists
 pub mod Clearing
+pub mod Onlys
 pub mod Divided
 pub mod Totals
 pub mod Chaining
@@ -26,3 +27,4 @@ pub mod ChainJoining
 pub mod BlocksTouched
 pub mod Outcome
 pub mod Makes
+pub mod Causes
