@@ -1,8 +1,7 @@
 -- Why a division leaves the leaf of the insert out.
-use Rattle.std.proofs.Common.{◌≡◌, ℕ, zero, suc, ◌≤◌, ◌<◌, true, false, List, [], ◌∷◌, ◌++◌, ⊎_elim, Option, Some, None, cond, get_or, slice_index, length, nat_eq, refl, sym, ap, ◌∙◌, subst, arith}
-use Rattle.std.proofs.lemmas.Bool.{cases_eq, cond-true, cond-false, eq-eqb, ne_eqb}
+use Rattle.std.proofs.Common.{◌≡◌, ℕ, ◌≤◌, ◌<◌, true, false, [], ◌∷◌, ◌++◌, sym, ap, ◌∙◌, subst}
 use Rattle.spg_opclass.specs.Meaning.{Meaning}
-use Rattle.spg_forest.specs.View.{Place, Leaf}
+use Rattle.spg_forest.specs.View.{Place}
 use Rattle.spg_forest.specs.Pages.{all_live}
 use Rattle.spg_forest.specs.Links.{leaves_on}
 use Rattle.spg_forest.specs.Divisions.{rests_of}

@@ -14,15 +14,14 @@ use Rattle.spg_page.specs.Reads.{frame_in}
 use Rattle.spg_chain.specs.Chains.{chain_members, offsets_of}
 use Rattle.spg_chain.specs.Taken.{emptied}
 use Rattle.spg_tree.specs.Table.{Table, sheet_at, tuples_at, tuple_at, with_sheet, with_tuples_at, with_link}
-use Rattle.spg_tree.specs.declared.want.Want.{Want}
 use Rattle.spg_descend.specs.Makes.{MakesNone, MakesOne}
 use Rattle.spg_split.specs.declared.plan.ListSize.{ListSize}
 use Rattle.spg_split.specs.declared.parts.Parts.{Parts}
 use Rattle.spg_split.specs.declared.homes.Homes.{Homes}
 use Rattle.spg_split.specs.Homes.{AreHomes, PicksHomes, fits_above, inner_want, rest_want}
-use Rattle.spg_split.specs.Parts.{PutsLists, bare}
+use Rattle.spg_split.specs.Parts.{PutsLists}
 use Rattle.spg_split.specs.Placing.{placed, downlinks, taken_by, inner_root}
-use Rattle.spg_split.specs.Writing.{new_place, added_table, taken_table, taken_from, lists_table, linked_table, both_tables, both_links, cleared_table, parted_table, MayPart}
+use Rattle.spg_split.specs.Writing.{new_place, added_table, taken_from, lists_table, linked_table, both_tables, both_links, cleared_table, parted_table, MayPart}
 use Rattle.spg_split.proofs.Chaining.{placed_tuple}
 use Rattle.spg_split.proofs.Written as written
 

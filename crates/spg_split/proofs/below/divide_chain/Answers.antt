@@ -1,4 +1,4 @@
-use Rattle.std.proofs.Common.{[], ◌∷◌, ◌++◌, is_none, option_copied, length, refl, ap, ◌∙◌, subst, arith}
+use Rattle.std.proofs.Common.{[], ◌∷◌, ◌++◌, is_none, option_copied, length, ap, ◌∙◌, subst, arith}
 use Rattle.spg_forest.specs.Sheets.{Sheet}
 use Rattle.spg_chain.specs.Chains.{chain_members, leaves_of}
 use Rattle.spg_tree.specs.Table.{tuples_at}
