@@ -11,6 +11,7 @@ use Rattle.spg_descend.specs.Carried.{IsCarried}
 use Rattle.spg_descend.specs.Follows.{IsAtInner, tuple_place}
 use Rattle.spg_descend.specs.Below.{IsLink}
 use Rattle.spg_descend.specs.Makes.{MakesOne, IsNextTo}
+use Rattle.spg_split.specs.Shrinks.{Shrinks}
 use Rattle.spg_split.specs.declared.split.SplitOut.{SplitOut}
 use Rattle.spg_split.specs.declared.split.SplitOut.TheVariants.{Put, LeftOut}
 use Rattle.spg_split.specs.Splits.{split_cost}
@@ -34,6 +35,7 @@ pub record SplitsWithout {Key Recon Cond : Type 0} (m : Meaning Key Recon Cond) 
   pub leaves : Leaves m (sheets_of t) (sheets_of t2) t2.touched (split_cost d.stand spread) 0 (moved (tuple_place d.stand) z)
   pub inner : IsAtInner t2 (At z)
   pub link : IsLedTo t2 d.parent z
+  pub shrinks : Shrinks m t t2 d d2
   pub carries : (key : Option Key) → IsCarried m (sheets_of t) d key → IsCarried m (sheets_of t2) d2 key
 
 -- What comes of a division below a root. Where the leaf is left out, the spread rises by 1 at most, and only where that is noted

@@ -13,6 +13,7 @@ use Rattle.spg_tree.specs.declared.stand.Stand.TheVariants.{Start, Root, At, Emp
 use Rattle.spg_descend.specs.Carried.{IsCarried}
 use Rattle.spg_descend.specs.Follows.{IsAtInner, tuple_place}
 use Rattle.spg_descend.specs.Makes.{MakesOne}
+use Rattle.spg_split.specs.Shrinks.{Shrinks}
 use Rattle.spg_split.specs.declared.split.SplitOut.{SplitOut}
 use Rattle.spg_split.specs.declared.split.SplitOut.TheVariants.{Put, LeftOut}
 
@@ -45,6 +46,7 @@ PartsWith {Key} m t t2 d = (key : Option Key) → IsCarried m (sheets_of t) d ke
 pub record PartsWithout {Key Recon Cond : Type 0} (m : Meaning Key Recon Cond) (t t2 : Table) (d d2 : Descending Recon) (spread : ℕ) : Type 0 where
   pub leaves : Leaves m (sheets_of t) (sheets_of t2) t2.touched (split_cost d.stand spread) 0 (λ x. x)
   pub inner : IsAtInner t2 d2.stand
+  pub shrinks : Shrinks m t t2 d d2
   pub carries : (key : Option Key) → IsCarried m (sheets_of t) d key → IsCarried m (sheets_of t2) d2 key
 
 -- What comes of a division. The one inner tuple that it makes stands where the insert stood. Where the leaf is left out, the spread rises by 1 at most, and only where that is noted
