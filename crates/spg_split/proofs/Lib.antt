@@ -4,6 +4,7 @@ pub mod Reading
 pub mod Lists
 pub mod Clearing
 pub mod Onlys
+pub mod Shrinking
 pub mod Divided
 pub mod Totals
 pub mod Chaining
