@@ -35,14 +35,15 @@ fn inner_place(stand: Stand) -> Place
 
 /// Splits the inner tuple at which an insert stands in two. The upper tuple, with the prefix and the
 /// labels given, replaces it in place and is never longer. It is not all-the-same, and its downlinks
-/// are empty but that of the node `child`, which leads to the lower tuple. The lower tuple has the
-/// prefix given for it and the labels, the downlinks and the all-the-same mark of the old tuple. It
-/// goes on the page of the upper tuple where it fits there beside it and that page is no root, else
-/// on an inner page of the next parity, one more than that of the upper tuple's block modulo 3, which
-/// is picked. The insert stays where it stands, and the rise is noted. Touched are the blocks that are
-/// changed or added. The clock stays, so `ClockFull` never comes; `IndexFull` comes only where the
-/// pick needs a new page and there may be none. After a refusal table and insert are as they were.
-/// The latches stay as they are.
+/// are empty but that of the node `child`, which leads to the lower tuple, the one inner tuple that is
+/// made. The lower tuple has the prefix given for it and the labels, the downlinks and the all-the-same
+/// mark of the old tuple. It goes on the page of the upper tuple where it fits there beside it and that
+/// page is no root, else on an inner page of the next parity, one more than that of the upper tuple's
+/// block modulo 3, which is picked. The insert stays where it stands, and the rise is noted. Touched
+/// are the blocks that are changed or added. The clock stays, so `ClockFull` never comes; `IndexFull`
+/// comes only where the pick of a page of that parity for the lower tuple, by this seat, needs a new
+/// page and there may be none. After a refusal table and insert are as they were. The latches stay as
+/// they are.
 pub fn split_tuple<O: OpClass>(
     alloc: Global,
     table: &mut PageTable,

@@ -2,13 +2,12 @@ ghost use Rattle.std.specs.Prelude.{◌≡◌, ◌<◌, ◌≤◌, ◌+◌, ◌-
 ghost use Rattle.spg_forest.specs.Sheets.{size_of, links};
 ghost use Rattle.spg_page.specs.Changes.{room_of, free_of};
 ghost use Rattle.spg_page.specs.Kinds.{IsOffset};
-ghost use Rattle.spg_tree.specs.Table.{tuples_at, tuple_at};
+ghost use Rattle.spg_tree.specs.Table.{sheet_at, tuples_at, tuple_at};
 ghost use Rattle.spg_tree.specs.Pick.{IsFull};
-ghost use Rattle.spg_tree.specs.declared.want.Want.{Want};
 ghost use Rattle.spg_tree.specs.declared.stand.StepRefused.TheVariants.{IndexFull, ClockFull};
 ghost use Rattle.spg_split.specs.Writing.{new_place, added_table};
 ghost use Rattle.spg_move.specs.Splitting as splits;
-ghost use Rattle.spg_move.specs.Splitting.{upper_table, parted_table, split_touched, GoesTo, MayPart, IsParted};
+ghost use Rattle.spg_move.specs.Splitting.{upper_table, parted_table, lower_want, split_touched, GoesTo, MayPart, IsParted};
 
 use spg_base::{Block, Offset, Place, SeatNo, parity};
 use spg_page::{PageKind, TupleBytes};
@@ -37,7 +36,7 @@ fn pick_home(
 ) -> Result<Block, StepRefused>
     requires { MayPart table.old at.now upper.now }
     ensures ok { IfOk result (λ home. GoesTo table.old table.new at.now upper.now lower.now home seat) }
-    ensures full { IsErrOf result IndexFull → (w : Want) × IsFull table.old w }
+    ensures full { IsErrOf result IndexFull → IsFull table.old (lower_want (sheet_at table.old at.now.block).nulls at.now.block lower.now seat) }
     ensures clock { IsErrOf result ClockFull → ⊥ }
     ensures err { OnErr result (table.new ≡ table.old) }
 {
@@ -133,7 +132,7 @@ pub(crate) fn part_tuple(
     requires may { MayPart table.old at upper.now }
     requires node { child < length (links upper.now) }
     ensures ok { OnOk result (IsParted table.old table.new at child seat upper.now lower.now) }
-    ensures full { IsErrOf result IndexFull → (w : Want) × IsFull table.old w }
+    ensures full { IsErrOf result IndexFull → IsFull table.old (lower_want (sheet_at table.old at.block).nulls at.block lower.now seat) }
     ensures clock { IsErrOf result ClockFull → ⊥ }
     ensures err { OnErr result (table.new ≡ table.old) }
 {
