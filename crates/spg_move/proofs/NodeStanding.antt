@@ -37,7 +37,7 @@ use Rattle.spg_descend.proofs.EmptyLaw.{inner_within}
 use Rattle.spg_descend.proofs.FollowLaw.{is_within, fit_here}
 use Rattle.spg_descend.specs.Answers.{IsAnswered}
 use Rattle.spg_move.specs.Answers.{IsInnerOf}
-use Rattle.spg_move.specs.Nodes.{FitsWider, wider}
+use Rattle.spg_move.specs.Nodes.{FitsWider}
 use Rattle.spg_move.specs.Widening.{widened, FitsInPlace, IsHung}
 use Rattle.spg_move.proofs.SplitStanding.{inner_is}
 
@@ -49,7 +49,7 @@ at_inner t nulls (At x) (Some (p, i)) a = a.0
 at_inner t nulls Empty pa a = absurd a
 
 -- what the code compares
-pub not_wider : {Recon : Type 0} (t : Table) (d : Descending Recon) (at : ℕ) (label : ℤ) (page : Sheet) (here : Place) (u : Tuple) → page ≡ table.sheet_at t here.block → here ≡ tuple_place d.stand → u ≡ wider t d at label →
+pub not_wider : {Recon : Type 0} (t : Table) (d : Descending Recon) (at : ℕ) (label : ℤ) (page : Sheet) (here : Place) (u : Tuple) → page ≡ table.sheet_at t here.block → here ≡ tuple_place d.stand → u ≡ widened (tuple_at t (tuple_place d.stand)) at label →
     (FitsInPlace page.tuples here.offset u → ⊥) → FitsWider t d at label → ⊥
 not_wider t d at label page here u ep eh eu n f = n (subst (λ (s : Sheet). FitsInPlace s.tuples here.offset u) (sym ep)
     (subst (λ (z : Place). FitsInPlace (tuples_at t z.block) z.offset u) (sym eh) (subst (λ (v : Tuple). FitsInPlace (tuples_at t (tuple_place d.stand).block) (tuple_place d.stand).offset v) (sym eu) f)))

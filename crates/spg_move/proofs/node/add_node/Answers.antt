@@ -1,4 +1,4 @@
-use Rattle.std.proofs.Common.{rules, ◌≡◌, ℤ, ◌+◌, ◌≤◌, length, ap, ap₂, sym, ◌∙◌, subst}
+use Rattle.std.proofs.Common.{rules, ◌≡◌, ℤ, true, false, ◌+◌, ◌≤◌, length, ap, ap₂, sym, ◌∙◌, subst}
 use Rattle.std.specs.Prelude.{◌^◌, IsErrOf}
 use Rattle.std.specs.Int.{w16}
 use Rattle.std.proofs.lemmas.Int.{to_z-of_z}
@@ -50,7 +50,7 @@ returns-clause-ok g c =
     let eh : c.place_of-here.result ≡ tuple_place c.args.descent.now.stand = c.place_of-here.ensures ∙ ap tuple_place c.stand.ensures in
     let el : c.in_ok-longer.longer ≡ widened (tuple_at c.args.table.now (tuple_place c.args.descent.now.stand)) c.args.at c.args.label =
     c.in_ok-longer.ensures ∙ ap (λ (z : ℤ). widened (tuple_on c.page.result.now.tuples c.place_of-here.result.offset) c.args.at z) (to_z-of_z w16 c.args.label c.ranges.label) ∙ ap (λ (s : Sheet). widened (tuple_on s.tuples c.place_of-here.result.offset) c.args.at c.args.label) c.page.ensures ∙ ap (λ (z : Place). widened (tuple_at c.args.table.now z) c.args.at c.args.label) eh in
-    let wide : FitsWider c.args.table.now c.args.descent.now c.args.at c.args.label → ⊥ = not_wider c.args.table.now c.args.descent.now c.args.at c.args.label c.page-2.result.now c.place_of-here.result c.in_ok-longer.longer c.page-2.ensures eh el (λ f. c.if-fits_in_place.false (c.fits_in_place.ensures.1 f)) in
+    let wide : FitsWider c.args.table.now c.args.descent.now c.args.at c.args.label → ⊥ = not_wider c.args.table.now c.args.descent.now c.args.at c.args.label c.page-2.result.now c.place_of-here.result c.in_ok-longer.longer c.page-2.ensures eh el (λ f. let k : true ≡ false = sym (c.fits_in_place.ensures.1 f) ∙ c.if-fits_in_place.false in cc) in
     shifted_out g.O.OpClass.meaning g.O.OpClass.adds g.O.OpClass.codes c.args.table.now c.args.descent.now c.args.at c.args.label c.requires.shape c.requires.spot c.requires.main c.requires.of_key c.requires.answer wide c.shift_tuple.new.table c.note_shift.new.descent c.in_ok-longer.longer c.args.seat c.in_ok-to.to c.in_ok-to.ensures.ok el c.note_shift.ensures
 
 pub returns-in_err-to-clause-full : goal.returns-in_err-to-clause-full
@@ -58,7 +58,7 @@ returns-in_err-to-clause-full g c =
     let eh : c.place_of-here.result ≡ tuple_place c.args.descent.now.stand = c.place_of-here.ensures ∙ ap tuple_place c.stand.ensures in
     let el : c.in_ok-longer.longer ≡ widened (tuple_at c.args.table.now (tuple_place c.args.descent.now.stand)) c.args.at c.args.label =
     c.in_ok-longer.ensures ∙ ap (λ (z : ℤ). widened (tuple_on c.page.result.now.tuples c.place_of-here.result.offset) c.args.at z) (to_z-of_z w16 c.args.label c.ranges.label) ∙ ap (λ (s : Sheet). widened (tuple_on s.tuples c.place_of-here.result.offset) c.args.at c.args.label) c.page.ensures ∙ ap (λ (z : Place). widened (tuple_at c.args.table.now z) c.args.at c.args.label) eh in
-    let wide : FitsWider c.args.table.now c.args.descent.now c.args.at c.args.label → ⊥ = not_wider c.args.table.now c.args.descent.now c.args.at c.args.label c.page-2.result.now c.place_of-here.result c.in_ok-longer.longer c.page-2.ensures eh el (λ f. c.if-fits_in_place.false (c.fits_in_place.ensures.1 f)) in
+    let wide : FitsWider c.args.table.now c.args.descent.now c.args.at c.args.label → ⊥ = not_wider c.args.table.now c.args.descent.now c.args.at c.args.label c.page-2.result.now c.place_of-here.result c.in_ok-longer.longer c.page-2.ensures eh el (λ f. let k : true ≡ false = sym (c.fits_in_place.ensures.1 f) ∙ c.if-fits_in_place.false in cc) in
     let f : IsErrOf c.from_residual-in_err-to.result IndexFull → IsFull c.args.table.now (node_want (in_nulls c.args.descent.now) (tuple_place c.args.descent.now.stand).block (size_of c.in_ok-longer.longer) c.args.seat) = search rules in
     λ e. (wide, subst (λ (u : Tuple). IsFull c.args.table.now (node_want (in_nulls c.args.descent.now) (tuple_place c.args.descent.now.stand).block (size_of u) c.args.seat)) el (f e))
 
@@ -67,6 +67,6 @@ returns-in_err-to-clause-clock g c =
     let eh : c.place_of-here.result ≡ tuple_place c.args.descent.now.stand = c.place_of-here.ensures ∙ ap tuple_place c.stand.ensures in
     let el : c.in_ok-longer.longer ≡ widened (tuple_at c.args.table.now (tuple_place c.args.descent.now.stand)) c.args.at c.args.label =
     c.in_ok-longer.ensures ∙ ap (λ (z : ℤ). widened (tuple_on c.page.result.now.tuples c.place_of-here.result.offset) c.args.at z) (to_z-of_z w16 c.args.label c.ranges.label) ∙ ap (λ (s : Sheet). widened (tuple_on s.tuples c.place_of-here.result.offset) c.args.at c.args.label) c.page.ensures ∙ ap (λ (z : Place). widened (tuple_at c.args.table.now z) c.args.at c.args.label) eh in
-    let wide : FitsWider c.args.table.now c.args.descent.now c.args.at c.args.label → ⊥ = not_wider c.args.table.now c.args.descent.now c.args.at c.args.label c.page-2.result.now c.place_of-here.result c.in_ok-longer.longer c.page-2.ensures eh el (λ f. c.if-fits_in_place.false (c.fits_in_place.ensures.1 f)) in
+    let wide : FitsWider c.args.table.now c.args.descent.now c.args.at c.args.label → ⊥ = not_wider c.args.table.now c.args.descent.now c.args.at c.args.label c.page-2.result.now c.place_of-here.result c.in_ok-longer.longer c.page-2.ensures eh el (λ f. let k : true ≡ false = sym (c.fits_in_place.ensures.1 f) ∙ c.if-fits_in_place.false in cc) in
     let f : IsErrOf c.from_residual-in_err-to.result ClockFull → c.args.table.now.clock + 1 ≡ 2 ^ 48 = search rules in
     λ e. (wide, f e)
