@@ -296,6 +296,6 @@ module _ {Key Recon Cond : Type 0} (m : Meaning Key Recon Cond) (t : Table) (d :
         let can : CanPut (sheets_of tx) p = record { block = omega arith; positive = p_within.0; within = let w = p_within.1 in let q = ap (λ (zs : List Tuple). length zs) p_now in omega arith } in
         let made_b : MakesNone t1 tb = none_page t1 b (chained (tuples_at t1 b) 0 vs) P.there chain_tuple in
         let made_x : MakesNone tb tx = none_page tb x.block (left (tuples_at tb x.block) x.offset y t1.clock) (omega arith)
-            (subst (λ (ts : List Tuple). (o : ℕ) → IsInner (tuple_on (left ts x.offset y t1.clock) o) → IsInner (tuple_on ts o)) (sym x_now) left_inner) in
+        (subst (λ (ts : List Tuple). (o : ℕ) → IsInner (tuple_on (left ts x.offset y t1.clock) o) → IsInner (tuple_on ts o)) (sym x_now) left_inner) in
         let made_p : MakesNone tx (with_link tx p i (Some y)) = none_link tx p i (Some y) can in
         subst (λ (z : Table). MakesNone t z) (sym et) (λ z e. none_same t t1 P.tuples z (made_b z (made_x z (made_p z e))))
