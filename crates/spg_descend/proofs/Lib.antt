@@ -1,4 +1,5 @@
 pub mod Rooms
+pub mod Makes
 pub mod PutLaws
 pub mod Picked
 pub mod EmptyLaw

@@ -134,8 +134,8 @@ fn leaf_of<O: OpClass>(alloc: Global, descent: &Descent<O>) -> Result<TupleBytes
 /// Puts the leaf of an insert where it stands: on a root leaf page, behind the head of a chain, in
 /// the place of a dead tuple, or below an empty downlink on a leaf page that is picked. `NoRoom`
 /// comes exactly where it does not fit there, and never below an empty downlink. `IndexFull` comes
-/// only at an empty downlink, where the pick needs a new page and there may be none. The latches stay
-/// as they are.
+/// only at an empty downlink, where the pick needs a new page and there may be none. No inner tuple
+/// is made, and the latches stay as they are.
 pub fn put_leaf<O: OpClass>(
     alloc: Global,
     table: &mut PageTable,

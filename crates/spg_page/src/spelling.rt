@@ -125,13 +125,15 @@ fn of_leaf(alloc: Global, leaf: &LeafTuple) -> Result<Spelling, Memory>
 {
     let rest = leaf.rest.as_slice();
     let len = rest.len();
-    let [z0, z1] = (16 + padded(len) as u16).to_le_bytes();
+    let size = 16 + padded(len);
+    let [z0, z1] = (size as u16).to_le_bytes();
     let [n0, n1] = next_number(leaf.next).to_le_bytes();
     let [o0, o1] = leaf.row.offset().to_le_bytes();
     let [b0, b1, b2, b3] = leaf.row.block().to_le_bytes();
     let [l0, l1] = (len as u16).to_le_bytes();
     let head = [2, 0, z0, z1, n0, n1, o0, o1, b0, b1, b2, b3, l0, l1, 0, 0];
-    let mut bytes = Vec::from_slice(alloc, head.as_slice())?;
+    let mut bytes = Vec::with_capacity(alloc, size)?;
+    bytes.extend_from_slice(head.as_slice())?;
     bytes.extend_from_slice(rest)?;
     push_zeros(&mut bytes, padded(len) - len)?;
     Ok(Spelling {
@@ -182,11 +184,13 @@ fn of_inner(alloc: Global, inner: &InnerTuple) -> Result<Spelling, Memory>
     let nodes = inner.nodes.as_slice();
     let len = prefix.len();
     let count = nodes.len();
-    let [z0, z1] = ((8 + padded(len) + 8 * count) as u16).to_le_bytes();
+    let size = 8 + padded(len) + 8 * count;
+    let [z0, z1] = (size as u16).to_le_bytes();
     let [l0, l1] = (len as u16).to_le_bytes();
     let [c0, c1] = (count as u16).to_le_bytes();
     let head = [1, flag(inner.all_same), z0, z1, l0, l1, c0, c1];
-    let mut bytes = Vec::from_slice(alloc, head.as_slice())?;
+    let mut bytes = Vec::with_capacity(alloc, size)?;
+    bytes.extend_from_slice(head.as_slice())?;
     bytes.extend_from_slice(prefix)?;
     push_zeros(&mut bytes, padded(len) - len)?;
     push_nodes(&mut bytes, nodes)?;

@@ -9,15 +9,19 @@ use Rattle.spg_base.specs.Row.{RowAt}
 use Rattle.spg_opclass.specs.Meaning.{Meaning}
 use Rattle.spg_opclass.specs.Laws.{CodeLaw}
 use Rattle.spg_forest.specs.View.{Place, Leaf}
-use Rattle.spg_forest.specs.Spot.{Frame, Spot, Bucket, IsIn}
+use Rattle.spg_forest.specs.Spot.{Frame, Spot, Bucket, IsIn, leaves_of}
 use Rattle.spg_forest.specs.Tuples.{Tuple, Inner, Live, IsAmong}
-use Rattle.spg_forest.specs.Pages.{all_live, IsFresh, moved, tuple_on}
+use Rattle.spg_forest.specs.Pages.{all_live, IsFresh, IsShown, moved, tuple_on}
 use Rattle.spg_forest.specs.Classes.{class_of, HasEntry}
 use Rattle.spg_forest.proofs.Keeping.{entry_of, no_entry}
+use Rattle.spg_forest.proofs.Lists.{shown_once}
+use Rattle.spg_forest.proofs.Sections.{shape_shown}
+use Rattle.spg_forest.proofs.Writes.{high_spot}
+use Rattle.spg_page.specs.Reads.{frame_in}
 use Rattle.spg_forest.proofs.Relocate.{moved_here}
 use Rattle.spg_page.specs.Kinds.{IsInner}
 use Rattle.spg_forest.specs.Fit.{FitAt}
-use Rattle.spg_forest.specs.Sheets.{Sheet, Sheets, sheet_at, size_of}
+use Rattle.spg_forest.specs.Sheets.{Sheet, Sheets, sheet_at, size_of, weight, pages_of, links}
 use Rattle.spg_forest.specs.Shape.{Shape, spots, IsTupleOf, IsRestOf}
 use Rattle.spg_forest.specs.Section.{Adds, Leaves, Cost}
 use Rattle.spg_forest.specs.Divisions.{EachGoes, list_of, rests_of}
@@ -32,7 +36,7 @@ use Rattle.spg_tree.specs.Descents.{Descending, in_nulls, placed, risen}
 use Rattle.spg_tree.specs.declared.stand.Stand.{Stand}
 use Rattle.spg_tree.specs.declared.stand.Stand.TheVariants.{At}
 use Rattle.spg_descend.specs.Carried.{carried, IsCarried}
-use Rattle.spg_descend.specs.Follows.{tuple_place, IsAtInner}
+use Rattle.spg_descend.specs.Follows.{tuple_place, IsAtInner, link_of}
 use Rattle.spg_descend.specs.Rules.{MayMove}
 use Rattle.spg_descend.specs.Below.{IsAtChain, IsTicked}
 use Rattle.spg_split.specs.declared.division.Division.{Division}
@@ -56,7 +60,11 @@ use Rattle.spg_split.specs.Writing.{parted_table, MayPart}
 use Rattle.spg_split.proofs.Housing.{IsHoused}
 use Rattle.spg_split.proofs.Deciding.{homes_housed, may_part, x_same, p_same, put_each}
 use Rattle.spg_split.proofs.BlocksTouched.{touched_few, away}
-use Rattle.spg_split.proofs.Chaining.{downlink_there, downlinks_length}
+use Rattle.spg_split.specs.Shrinks.{leaf_number, Shrinks}
+use Rattle.spg_split.proofs.Chaining.{downlink_there, downlink_none, downlinks_length}
+use Rattle.spg_split.proofs.Plans.{from_lighter, length-leaves_in}
+use Rattle.spg_split.proofs.Shrinking.{LeadsToLists, shrinks}
+use Rattle.spg_split.proofs.Standing.{slice_last}
 use Rattle.spg_split.proofs.Taken.{taken_list, taken_node, taken_rest, goes_without}
 use Rattle.spg_split.proofs.Totals.{total, total_split, total_all, count, count_sum, but_first, but_first_one, but_first_two, taken_some}
 use Rattle.spg_split.proofs.Reading.{leaves_in_live}
@@ -140,6 +148,10 @@ module _ {Key Recon Cond : Type 0} (m : Meaning Key Recon Cond) (codes : CodeLaw
 
   bucket : spots S1 x ≡ Bucket ls
   bucket = ap (λ (U : Place → Spot). U x) es ∙ standing.bucket m codes t d x p i H st pr A K long
+
+  number : leaf_number t d.stand ≡ length ls
+  number = subst (λ (s : Stand). leaf_number t s ≡ length ls) (sym st)
+      (ap (λ (y : Place). length (leaves_of (spots S y))) (high_spot x MD.x_from) ∙ ap (λ (s : Spot). length (leaves_of s)) (standing.bucket m codes t d x p i H st pr A K long))
 
   -- of these leaves the tuples are put
   module _ (xs : List Leaf) (are : ws ≡ all_live (leaves_with (rows_of xs) dv.rests)) (xs_rests : length xs ≤ length dv.rests) (wp : Frame) (nsp : List (Option Place)) (ep : tuple_at t p ≡ Inner wp nsp) (ex : get_or nsp i None ≡ Some x) where
@@ -283,14 +295,53 @@ module _ {Key Recon Cond : Type 0} (m : Meaning Key Recon Cond) (codes : CodeLaw
         (subst (λ (Z : Sheets). Leaves m S Z t2.touched (split_cost (At x) more) 0 (moved x z)) (sym after_is)
         (subst (λ (Z : List ℕ). Leaves m S S2 Z (split_cost (At x) more) 0 (moved x z)) (sym touched_is) X3))
 
+    -- how many there are
+    xs_count : length (leaves_in ws) ≡ length xs
+    xs_count = ap (λ us. length (leaves_in us)) are ∙ ap length (leaves_in_live (leaves_with (rows_of xs) dv.rests)) ∙ exact xs dv.rests xs_rests
+      where
+        exact : (zs : List Leaf) (rests : List (List ℕ)) → length zs ≤ length rests → length (leaves_with (rows_of zs) rests) ≡ length zs
+        exact [] rests e = refl
+        exact (y ∷ zs) [] e = absurd (omega arith)
+        exact (y ∷ zs) (q ∷ rests) e = ap suc (exact zs rests (omega arith))
+
     -- the insert at the new inner tuple
     pages_after : length t2.pages ≡ length u.pages
     pages_after = ap (λ (Z : Sheets). length Z.sheets) after_is ∙ law.count_after m u x p i h.inner h.rest w L plan.cut n ls wp nsp CD
 
+    tuple_now : tuple_at t2 z ≡ Inner w ds
+    tuple_now = ap (λ (Z : Sheets). tuple_of Z z) after_is ∙ law.z_now m u x p i h.inner h.rest w L plan.cut n ls wp nsp CD
+
     inner_now : IsAtInner t2 (At z)
-    inner_now =
-        let e : tuple_at t2 z ≡ Inner w ds = ap (λ (Z : Sheets). tuple_of Z z) after_is ∙ law.z_now m u x p i h.inner h.rest w L plan.cut n ls wp nsp CD in
-        let a = HH.inner_there in let b = pages_after in (HH.inner_from, omega arith, subst IsInner (sym e) refl)
+    inner_now = let a = HH.inner_there in let b = pages_after in (HH.inner_from, omega arith, subst IsInner (sym tuple_now) refl)
+
+    -- where its nodes lead
+    unlinked : (j : ℕ) → L j ≡ [] → get_or ds j None ≡ None
+    unlinked j q =
+        let fl = front_length in ⊎_elim
+        (λ g. let e : 0 + j ≡ j = omega arith in
+        get_or_append_left front back None j (omega arith) ∙ downlink_none x.block (tuples_at (written.t1 u x p i h.inner h.rest (Inner w (bare n)) L plan.cut n MP) x.block) L 0 plan.cut j (ap L e ∙ q))
+        (λ g. let e : plan.cut + (j - plan.cut) ≡ j = omega arith in let f : j - length front ≡ j - plan.cut = omega arith in
+        get_or-append_right front back j None (omega arith) ∙ ap (λ k. get_or back k None) f
+        ∙ downlink_none h.rest (tuples_at (written.tb u x p i h.inner h.rest (Inner w (bare n)) L plan.cut n MP) h.rest) L plan.cut (n - plan.cut) (j - plan.cut) (ap L e ∙ q)) (cases_lt j plan.cut)
+
+    leads : (more : ℕ) → Leaves m S (sheets_of t2) t2.touched (split_cost d.stand more) 0 (moved (tuple_place d.stand) z) → Bounded more → LeadsToLists t2 z w ws dv.node_of
+    leads more X le =
+        let shown : spots (sheets_of t2) ≡ V6 = shown_once (pages_of (sheets_of t2)) (spots (sheets_of t2)) V6 (shape_shown m (sheets_of t2) X.section.shape) (subst (λ (Z : Sheets). IsShown (pages_of Z) V6) (sym after_is) (B more le).shown) in
+        let link : (j : ℕ) → link_of t2 z j ≡ get_or ds j None = λ j. ap (λ (f : Tuple). get_or (links f) j None) tuple_now in
+        subst (λ ns. LeadsToLists t2 z w ws ns) P.node_of (record {
+          frame = ap frame_in tuple_now;
+          none = λ j q. link j ∙ unlinked j q;
+          lists = λ j y q. ap (λ (U : Place → Spot). U y) shown ∙ ((law.lists m u x p i h.inner h.rest w L plan.cut n ls wp nsp CD).lists j y (sym (link j) ∙ q)).0;
+        })
+
+    shrinking : xs ≡ ls → (more : ℕ) → Leaves m S (sheets_of t2) t2.touched (split_cost d.stand more) 0 (moved (tuple_place d.stand) z) → Bounded more → (node : Option ℕ) → IsOnlyNode (take (length p2.leaves - 1) p2.node_of) node → 8160 < weight p2.leaves →
+        Shrinks m t t2 d (placed d (At z) d.parent)
+    shrinking eq more X le node only big =
+        let lc = standing.leaf_count m codes t d x p i H st pr A K long dv D p2 P in let c = standing.count_vs m codes t d x p i H st pr A K long in
+        let k : length p2.leaves - 1 ≡ length ls = omega arith in
+        let only2 : IsOnlyNode (take (length ls) dv.node_of) node = subst (λ ns. IsOnlyNode (take (length ls) ns) node) P.node_of (subst (λ j. IsOnlyNode (take j p2.node_of) node) k only) in
+        shrinks m t t2 d (placed d (At z) d.parent) (rests_of vs) dv (length ls) D (standing.rests_count m codes t d x p i H st pr A K long) (slice_last ls (carried d)) number ws (sym (length-leaves_in ws) ∙ xs_count ∙ ap length eq) (leads more X le)
+        node (standing.many m codes t d x p i H st pr A K long dv D p2 P big) only2
 
     link_now : IsLedTo t2 d.parent z
     link_now =
@@ -309,14 +360,15 @@ module _ {Key Recon Cond : Type 0} (m : Meaning Key Recon Cond) (codes : CodeLaw
           way = subst (λ (y : Place). FitAt (class_of m) (spots (sheets_of t2)) (Some key) y d.recon) (moved_here x z x refl) (X.section.fits x d.recon (Some key) (standing.way m codes t d x p i H st pr A K long key C));
         }
 
-    without : xs ≡ ls → (more : ℕ) → Bounded more → SplitsWithout m t t2 d (placed d (At z) d.parent) z more
-    without eq more le = let X = leaves eq more le in record { leaves = X; inner = inner_now; link = link_now; carries = carries more X }
+    without : xs ≡ ls → (more : ℕ) → Bounded more → (node : Option ℕ) → IsOnlyNode (take (length p2.leaves - 1) p2.node_of) node → 8160 < weight p2.leaves → SplitsWithout m t t2 d (placed d (At z) d.parent) z more
+    without eq more le node only big = let X = leaves eq more le in record { leaves = X; inner = inner_now; link = link_now; shrinks = shrinking eq more X le node only big; carries = carries more X }
 
-    without_risen : xs ≡ ls → (more : ℕ) → Bounded more → SplitsWithout m t t2 d (risen (placed d (At z) d.parent)) z more
-    without_risen eq more le = let X = leaves eq more le in record {
+    without_risen : xs ≡ ls → (more : ℕ) → Bounded more → (node : Option ℕ) → IsOnlyNode (take (length p2.leaves - 1) p2.node_of) node → 8160 < weight p2.leaves → SplitsWithout m t t2 d (risen (placed d (At z) d.parent)) z more
+    without_risen eq more le node only big = let X = leaves eq more le in record {
       leaves = X;
       inner = inner_now;
       link = link_now;
+      shrinks = shrinking eq more X le node only big;
       carries = λ key C. let C2 = carries more X key C in record {
         of = record { start = C2.of.start; whole = C2.of.whole; gives = C2.of.gives };
         begins = λ e. cc;
@@ -341,14 +393,6 @@ module _ {Key Recon Cond : Type 0} (m : Meaning Key Recon Cond) (codes : CodeLaw
     -- how much more the pages spread
     ws_count : length ws ≤ length p2.node_of
     ws_count = put_each t u x p i p2 W.left plan h MD R some W.is_left W.is_plan HH
-
-    xs_count : length (leaves_in ws) ≡ length xs
-    xs_count = ap (λ us. length (leaves_in us)) are ∙ ap length (leaves_in_live (leaves_with (rows_of xs) dv.rests)) ∙ exact xs dv.rests xs_rests
-      where
-        exact : (zs : List Leaf) (rests : List (List ℕ)) → length zs ≤ length rests → length (leaves_with (rows_of zs) rests) ≡ length zs
-        exact [] rests e = refl
-        exact (y ∷ zs) [] e = absurd (omega arith)
-        exact (y ∷ zs) (q ∷ rests) e = ap suc (exact zs rests (omega arith))
 
     all_count : total count L 0 n ≡ length xs
     all_count = total_all (λ l. 1) count count_sum ws p2.node_of n ws_count R.there ∙ xs_count
@@ -393,6 +437,9 @@ module _ {Key Recon Cond : Type 0} (m : Meaning Key Recon Cond) (codes : CodeLaw
   put_old : (plan.count ≡ length p2.leaves → ⊥) → ws ≡ take (length p2.leaves - 1) p2.leaves
   put_old none = ⊎_elim (λ (Q, f). absurd (none Q.count)) (λ (Q, o). ap (λ k. take k p2.leaves) (Q.count ∙ length-take-le (length p2.leaves - 1) p2.leaves (omega arith))) W.is_plan
 
+  big : (plan.count ≡ length p2.leaves → ⊥) → 8160 < weight p2.leaves
+  big none = ⊎_elim (λ (Q, f). absurd (none Q.count)) (λ (Q, (all, F, f)). let b = F.bytes in let l = from_lighter all.cut p2.leaves p2.node_of in omega arith) W.is_plan
+
   -- whichever way it was done
   pub chain_law : (z : Place) (way : Parted) → z ≡ done.at → IsWayOf p2 plan way → IsChainWay m t t2 d z way × IsTicked t t2
   chain_law z With ez all =
@@ -413,7 +460,7 @@ module _ {Key Recon Cond : Type 0} (m : Meaning Key Recon Cond) (codes : CodeLaw
           let ro = rests_old in let cv = count_old in let lc = leaf_old in let o = standing.one_there m codes t d x p i H st pr A K long in
           let wl = ap length (put_old none) in let tl = length-take-le (length p2.leaves - 1) p2.leaves (omega arith) in
           let one = bound_one ls are (omega arith) wp nsp ep ex (omega arith) in
-          (subst (λ (y : Place). SplitsWithout m t t2 d (risen (placed d (At y) d.parent)) y 1) (sym W.at ∙ sym ez) (without_risen ls are (omega arith) wp nsp ep ex refl 1 (bounded ls are (omega arith) wp nsp ep ex 1 1 one (omega arith))), ticked ls are (omega arith) wp nsp ep ex)
+          (subst (λ (y : Place). SplitsWithout m t t2 d (risen (placed d (At y) d.parent)) y 1) (sym W.at ∙ sym ez) (without_risen ls are (omega arith) wp nsp ep ex refl 1 (bounded ls are (omega arith) wp nsp ep ex 1 1 one (omega arith)) found only (big none)), ticked ls are (omega arith) wp nsp ep ex)
       go false (Some k) only e = cc
       go false None only e =
           let (wp, nsp, ep, ex) = standing.above m codes t d x p i H st pr A K long in
@@ -425,4 +472,4 @@ module _ {Key Recon Cond : Type 0} (m : Meaning Key Recon Cond) (codes : CodeLaw
           let fj : slice_index (take (length p2.leaves - 1) p2.node_of) j ≡ slice_index p2.node_of j = get_or-take (length p2.leaves - 1) p2.node_of j 0 (omega arith) in
           let f0 : slice_index (take (length p2.leaves - 1) p2.node_of) 0 ≡ slice_index p2.node_of 0 = get_or-take (length p2.leaves - 1) p2.node_of 0 0 (omega arith) in
           let two = bound_two ls are (omega arith) wp nsp ep ex j 0 (omega arith) (omega arith) (λ q. differ (fj ∙ q ∙ sym f0)) in
-          (subst (λ (y : Place). SplitsWithout m t t2 d (placed d (At y) d.parent) y 0) (sym W.at ∙ sym ez) (without ls are (omega arith) wp nsp ep ex refl 0 (bounded ls are (omega arith) wp nsp ep ex 2 0 two (omega arith))), ticked ls are (omega arith) wp nsp ep ex)
+          (subst (λ (y : Place). SplitsWithout m t t2 d (placed d (At y) d.parent) y 0) (sym W.at ∙ sym ez) (without ls are (omega arith) wp nsp ep ex refl 0 (bounded ls are (omega arith) wp nsp ep ex 2 0 two (omega arith)) None only (big none)), ticked ls are (omega arith) wp nsp ep ex)

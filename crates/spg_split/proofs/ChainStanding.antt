@@ -41,7 +41,7 @@ use Rattle.spg_split.specs.Parting.{MayDivide}
 use Rattle.spg_split.proofs.Emptying.{chain_emptied, gaps_least}
 use Rattle.spg_split.proofs.Reading.{leaves_in_live, length-all_live}
 use Rattle.spg_split.proofs.Room.{least_weight}
-use Rattle.spg_split.proofs.Standing.{rest_fits, tuple_fits, give_from, in_cases, no_repeat, slice_first}
+use Rattle.spg_split.proofs.Standing.{rest_fits, tuple_fits, two_fit, give_from, in_cases, no_repeat, slice_first}
 use Rattle.spg_split.proofs.Taken.{with_length, without_last, lighter}
 
 -- the leaves of a chain weigh no more than their page
@@ -129,6 +129,9 @@ module _ {Key Recon Cond : Type 0} (m : Meaning Key Recon Cond) (codes : CodeLaw
   pub several : 2 ≤ length (rests_of vs)
   several = let a = one_there in let b = count_vs in let c = length-map vs (λ (l : Leaf). l.rest) in omega arith
 
+  pub rests_count : length (rests_of vs) ≡ length ls + 1
+  rests_count = length-map vs (λ (l : Leaf). l.rest) ∙ count_vs
+
   pub once : NoRepeat ls
   once = subst (λ (s : Spot). NoRepeat (leaves_in_spot s)) bucket ((shape_tree m (sheets_of t) H).once x)
 
@@ -203,6 +206,12 @@ module _ {Key Recon Cond : Type 0} (m : Meaning Key Recon Cond) (codes : CodeLaw
 
     pub others_fit : weight (take (length p2.leaves - 1) p2.leaves) ≤ 8160
     others_fit = rw old_leaves (let a = lighter ls dv.rests (λ i l q e f. D.not_longer i l.rest q (slice_first ls (carried d) l i e) f) in let f = old_fits in omega arith)
+
+    pub many : 8160 < weight p2.leaves → 2 ≤ length ls
+    many big = ⊎_elim
+        (λ h. absurd (let n = with_length (rows_of vs) dv.rests (rest_count ∙ sym row_count) in let r = row_count in let c = count_vs in
+        let f = two_fit m codes (is_none d.recon) (rows_of vs) dv.rests (omega arith) D.well_formed in let e = ap weight P.leaves in omega arith))
+        (λ h. h) (cases_lt (length ls) 2)
 
     pub inner_fits : size_of p2.inner ≤ 8156
     inner_fits = let e = ap size_of P.inner in let n : length (bare (length dv.frame.labels)) ≡ length dv.frame.labels = length-replicate (length dv.frame.labels) None in let b = tuple_fits m codes (is_none d.recon) dv.frame D.tuple in omega arith

@@ -229,3 +229,9 @@ downlink_there b ts L k (suc n) zero l h a = let e : k + 0 ≡ k = omega arith i
     go [] a = absurd a
     go (m ∷ ms) a = (place b (suc (free_place ts)), refl)
 downlink_there b ts L k (suc n) (suc i) l h a = let e : k + suc i ≡ suc k + i = omega arith in downlink_there b (chained ts 0 (L k)) L (suc k) n i l (omega arith) (subst (λ j. IsIn l (L j)) e a)
+
+-- and to a list without one there is none
+pub downlink_none : (b : ℕ) (ts : List Tuple) (L : ℕ → List Leaf) (k n i : ℕ) → L (k + i) ≡ [] → get_or (downlinks b ts L k n) i None ≡ None
+downlink_none b ts L k zero i e = refl
+downlink_none b ts L k (suc n) zero e = let z : k + 0 ≡ k = omega arith in ap (λ ls. downlink b (head_of ts ls)) (ap L (sym z) ∙ e)
+downlink_none b ts L k (suc n) (suc i) e = let z : k + suc i ≡ suc k + i = omega arith in downlink_none b (chained ts 0 (L k)) L (suc k) n i (ap L (sym z) ∙ e)

@@ -1,12 +1,12 @@
 -- What the class divides goes below the nodes of the new tuple.
-use Rattle.std.proofs.Common.{◌≡◌, ℕ, zero, suc, ◌≤◌, ◌<◌, ◌%◌, ℤ, pos, true, List, [], ◌∷◌, Option, Some, None, IsSome, All, length, get_or, option_map, slice_get, slice_index, replicate, refl, sym, ap, ◌∙◌, subst, inl, inr, arith}
-use Rattle.std.proofs.lemmas.List.{length-replicate}
+use Rattle.std.proofs.Common.{◌≡◌, ℕ, zero, suc, ◌+◌, ◌-◌, ◌≤◌, ◌<◌, ◌%◌, ℤ, pos, true, List, [], ◌∷◌, Option, Some, None, IsSome, All, length, take, get_or, option_map, slice_get, slice_index, replicate, refl, sym, ap, ◌∙◌, subst, inl, inr, arith}
+use Rattle.std.proofs.lemmas.List.{length-replicate, get_or-take, length-take-le}
 use Rattle.std.proofs.lemmas.List.Elements.{All-cons, All-get_or, All-from_get_or}
 use Rattle.std.proofs.lemmas.List.FromFn.{length-map-range_with_len, get_or-map-range_with_len}
 use Rattle.std.proofs.lemmas.Option.{slice_get_within, slice_get-get_or}
 use Rattle.std.specs.Prelude.{Result, Ok, Err, IfOk}
 use Rattle.spg_opclass.specs.Meaning.{Meaning, divided, eightfold}
-use Rattle.spg_opclass.specs.Laws.{PickLaw, IsDivision, InOneNode}
+use Rattle.spg_opclass.specs.Laws.{PickLaw, IsDivision, IsPart, InOneNode}
 use Rattle.spg_opclass.specs.declared.view.Picked.{Picked}
 use Rattle.spg_forest.specs.View.{Leaf}
 use Rattle.spg_forest.specs.Spot.{Frame}
@@ -15,6 +15,7 @@ use Rattle.spg_forest.specs.Divisions.{EachGoes, rests_of, HaveKeys}
 use Rattle.spg_forest.proofs.Divisions.{pick_goes, one_node_goes, nulls_go}
 use Rattle.spg_split.specs.Nodes.{turns, IsOnlyNode}
 use Rattle.spg_split.specs.Dividing.{GiveKeys, IsDivided, nulls_divided}
+use Rattle.spg_split.proofs.Shrinking.{last_apart}
 
 -- a rest that gives a key
 gives : {Key : Type 0} (o : Option Key) → IsSome (option_map Some o) → (key : Key) × (o ≡ Some key)
@@ -52,6 +53,14 @@ turns_apart n h =
     let e = turns_length n in let a = turn_at n 0 (omega arith) in let b = turn_at n 1 (omega arith) in
     (0, 1, omega arith, omega arith, λ q. absurd (omega arith))
 
+-- two values are in two of them
+turns_apart_first : (n k c : ℕ) → n ≡ c + 1 → 2 ≤ c → IsOnlyNode (take c (turns n)) (Some k) → ⊥
+turns_apart_first n k c e two (some, only) =
+    let l = turns_length n in let t = length-take-le c (turns n) (omega arith) in
+    let a = only 0 (omega arith) in let b = only 1 (omega arith) in
+    let p = get_or-take c (turns n) 0 0 (omega arith) in let q = get_or-take c (turns n) 1 0 (omega arith) in
+    let x = turn_at n 0 (omega arith) in let y = turn_at n 1 (omega arith) in absurd (omega arith)
+
 section_rests : (rests qs : List (List ℕ)) → length qs ≡ length rests → (i : ℕ) (q : List ℕ) → slice_get qs i ≡ Some q → slice_get rests i ≡ Some (get_or rests i [])
 section_rests rests qs e i q a = slice_get-get_or rests i [] (let w = slice_get_within qs i q a in omega arith)
 
@@ -79,6 +88,16 @@ module _ {Key Recon Cond : Type 0} (m : Meaning Key Recon Cond) (law : PickLaw m
     well_formed = λ i q a. (rest_ok i (get_or rests i []) q (section_rests rests P.rests the_division.rest_each i q a) a).1;
     not_longer = λ i p q a b. (rest_ok i p q a b).0;
     apart = let e = the_division.node_each in let (j, h, n) = apart (omega arith) in (j, 0, h, omega arith, n);
+    alone = λ k c last n two only e.
+        let at : length rests - 1 ≡ c = omega arith in
+        let ne = the_division.node_each in let re = the_division.rest_each in
+        let (j, h, differ) = apart (omega arith) in
+        let node : slice_get P.node_of c ≡ Some (slice_index P.node_of c) = slice_get-get_or P.node_of c 0 (omega arith) in
+        let left : slice_get P.rests c ≡ Some (get_or P.rests c []) = slice_get-get_or P.rests c [] (omega arith) in
+        let part : IsPart rests P (length rests - 1) last (slice_index P.node_of c) (get_or P.rests c []) = subst (λ i. IsPart rests P i last (slice_index P.node_of c) (get_or P.rests c [])) (sym at) (record { whole_at = e; node_at = node; rest_at = left }) in
+        let others : All (λ i. i ≡ k) (take (length rests - 1) P.node_of) = subst (λ i. All (λ z. z ≡ k) (take i P.node_of)) (sym at) (All-from_get_or (λ z. z ≡ k) (take c P.node_of) 0 only.1) in
+        let differs = last_apart P.node_of k c (omega arith) only j 0 h (omega arith) differ in
+        (recon, get_or P.rests c [], refl, the_division.alone k (slice_index P.node_of c) last (get_or P.rests c []) part others (λ q. differs (sym q)), refl);
   }
     where
       length-rests : (ls : List Leaf) → length (rests_of ls) ≡ length ls
@@ -102,6 +121,7 @@ module _ {Key Recon Cond : Type 0} (m : Meaning Key Recon Cond) (law : PickLaw m
     well_formed = λ i q a. (rest_ok i (get_or rests i []) q (section_rests rests P.rests the_division.rest_each i q a) a).1;
     not_longer = λ i p q a b. (rest_ok i p q a b).0;
     apart = turns_apart (length rests) two;
+    alone = λ k c last n more only e. absurd (turns_apart_first (length rests) k c n more only);
   }
     where
       all : InOneNode P node
@@ -158,6 +178,7 @@ nulls_are_divided {Key} {Recon} {Cond} m rests two = record {
   well_formed = λ i q a. empty_at (length rests) i q a;
   not_longer = λ i p q a b. let e = ap length (empty_at (length rests) i q b) in omega arith;
   apart = turns_apart (length rests) two;
+  alone = λ k c last n more only e. absurd (turns_apart_first (length rests) k c n more only);
 }
   where
     length-rests : (ls : List Leaf) → length (rests_of ls) ≡ length ls

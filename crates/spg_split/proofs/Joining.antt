@@ -8,13 +8,13 @@ use Rattle.spg_base.specs.Row.{RowAt}
 use Rattle.spg_opclass.specs.Meaning.{Meaning}
 use Rattle.spg_opclass.specs.Laws.{CodeLaw}
 use Rattle.spg_forest.specs.View.{Place, Leaf}
-use Rattle.spg_forest.specs.Spot.{Frame, Spot, Bucket, IsIn, IsStanding}
+use Rattle.spg_forest.specs.Spot.{Frame, Spot, Bucket, IsIn, IsStanding, leaves_of}
 use Rattle.spg_forest.specs.Tuples.{Tuple, Inner, Live, IsAmong}
-use Rattle.spg_forest.specs.Pages.{place, tuple_on, all_live, IsFresh}
+use Rattle.spg_forest.specs.Pages.{place, tuple_on, all_live, IsFresh, IsShown}
 use Rattle.spg_forest.specs.Links.{leaves_on}
 use Rattle.spg_forest.specs.Classes.{class_of, HasEntry}
 use Rattle.spg_forest.specs.Fit.{FitAt}
-use Rattle.spg_forest.specs.Sheets.{Sheet, Sheets, sheet_at, weight, size_of}
+use Rattle.spg_forest.specs.Sheets.{Sheet, Sheets, sheet_at, weight, size_of, pages_of, links}
 use Rattle.spg_forest.specs.Shape.{Shape, spots, IsTupleOf, IsRestOf}
 use Rattle.spg_forest.specs.Section.{Adds, Leaves}
 use Rattle.spg_forest.specs.Walk.{page_spread, lives_on}
@@ -27,6 +27,9 @@ use Rattle.spg_forest.proofs.Divisions.{divided_with, divided_from, in_list}
 use Rattle.spg_forest.proofs.Picks.{picked_shape, picked_spots, adds_after_pick, leaves_after_pick}
 use Rattle.spg_forest.proofs.Edits.{sheet_same, sheet_other}
 use Rattle.spg_forest.proofs.Keeping.{entry_of, no_entry}
+use Rattle.spg_forest.proofs.Lists.{shown_once}
+use Rattle.spg_forest.proofs.Sections.{shape_shown}
+use Rattle.spg_forest.proofs.Writes.{low_spot}
 use Rattle.spg_page.specs.Kinds.{IsInner}
 use Rattle.spg_forest.proofs.FitWay.{recon_of_fit}
 use Rattle.spg_page.specs.Reads.{frame_in}
@@ -36,7 +39,7 @@ use Rattle.spg_tree.specs.Descents.{Descending, in_nulls, risen}
 use Rattle.spg_tree.specs.declared.stand.Stand.{Stand}
 use Rattle.spg_tree.specs.declared.stand.Stand.TheVariants.{Root}
 use Rattle.spg_descend.specs.Carried.{carried, IsCarried, WayFits}
-use Rattle.spg_descend.specs.Follows.{IsAtInner}
+use Rattle.spg_descend.specs.Follows.{IsAtInner, tuple_place, link_of}
 use Rattle.spg_descend.specs.Puts.{IsAtLeaves, Fits}
 use Rattle.spg_descend.proofs.Picked.{PicksLeaf, picks_leaf}
 use Rattle.spg_split.specs.declared.division.Division.{Division}
@@ -52,9 +55,12 @@ use Rattle.spg_split.specs.Parts.{ArePartsOf, AreReady, PutsLists, lists_want, I
 use Rattle.spg_split.proofs.Reading.{leaves_in_live, length-all_live}
 use Rattle.spg_split.proofs.Taken.{taken_list, taken_node, taken_rest, goes_without}
 use Rattle.spg_split.proofs.Totals.{total, but_first, count, count_sum, total_all, lists_room, placed_spread, root_spread, but_first_one, but_first_two, taken_some}
-use Rattle.spg_split.proofs.Chaining.{downlink_there, downlinks_length}
+use Rattle.spg_split.specs.Shrinks.{leaf_number, Shrinks}
+use Rattle.spg_split.proofs.Chaining.{downlink_there, downlink_none, downlinks_length}
+use Rattle.spg_split.proofs.Plans.{length-leaves_in}
 use Rattle.spg_split.proofs.RootLaw.{V2, becomes, lists}
-use Rattle.spg_split.proofs.Standing.{at_root, live_there, recon_is, one_there, count_vs, once, all_once, rest_count, leaf_count, node_count, link_count, ready, old_leaves, others_fit, tuple_fits}
+use Rattle.spg_split.proofs.Shrinking.{LeadsToLists, shrinks}
+use Rattle.spg_split.proofs.Standing.{at_root, live_there, recon_is, one_there, count_vs, rests_count, once, all_once, rest_count, leaf_count, node_count, link_count, ready, old_leaves, others_fit, many, tuple_fits, slice_last}
 
 -- two facts of an outcome give a third
 pub if_ok_both : {A E : Type 0} (r : Result A E) (P Q R : A → Type 0) → ((a : A) → P a → Q a → R a) → IfOk r P → IfOk r Q → IfOk r R
@@ -305,16 +311,44 @@ module _ {Key Recon Cond : Type 0} (m : Meaning Key Recon Cond) (codes : CodeLaw
         omega arith
 
     -- the insert at the new inner tuple
-    at_inner : IsAtInner t2 d.stand
-    at_inner =
+    root_after : (root < length t2.pages) × (table.tuple_at t2 (place root 1) ≡ Inner w ds)
+    root_after =
         let c = H1.pages.count in
         let l1 = length-set S1.sheets b (with_tuples (sheet_at S1 b) (placed (sheet_at S1 b).tuples L 0 n)) in
         let l2 = length-set (set S1.sheets b (with_tuples (sheet_at S1 b) (placed (sheet_at S1 b).tuples L 0 n))) root (record { inner = true; nulls = (sheet_at S1 root).nulls; tuples = Inner w ds ∷ [] }) in
         let l3 = ap (λ (z : Sheets). length z.sheets) after_is in
-        let r = low in
-        let e : tuple_on (sheet_at (sheets_of t2) root).tuples 1 ≡ Inner w ds = ap (λ (z : Sheets). tuple_on (sheet_at z root).tuples 1) after_is
-        ∙ ap (λ (s : Sheet). tuple_on s.tuples 1) (sheet_same (with_sheet S1 b (with_tuples (sheet_at S1 b) (placed (sheet_at S1 b).tuples L 0 n))) root (record { inner = true; nulls = (sheet_at S1 root).nulls; tuples = Inner w ds ∷ [] }) (omega arith)) in
-        subst (λ (s : Stand). IsAtInner t2 s) (sym st) (r, omega arith, subst IsInner (sym e) refl)
+        let r = low in (
+          omega arith,
+          ap (λ (z : Sheets). tuple_on (sheet_at z root).tuples 1) after_is
+              ∙ ap (λ (s : Sheet). tuple_on s.tuples 1) (sheet_same (with_sheet S1 b (with_tuples (sheet_at S1 b) (placed (sheet_at S1 b).tuples L 0 n))) root (record { inner = true; nulls = (sheet_at S1 root).nulls; tuples = Inner w ds ∷ [] }) (omega arith)),
+        )
+
+    at_inner : IsAtInner t2 d.stand
+    at_inner = let r = root_after in subst (λ (s : Stand). IsAtInner t2 s) (sym st) (low, r.0, subst IsInner (sym r.1) refl)
+
+    -- where its nodes lead
+    leads : (more : ℕ) → Leaves m S (sheets_of t2) t2.touched (split_cost d.stand more) 0 (λ x. x) → Bounded more → LeadsToLists t2 (tuple_place d.stand) w ws dv.node_of
+    leads more X le =
+        let e = root_after.1 in
+        let shown : spots (sheets_of t2) ≡ V = shown_once (pages_of (sheets_of t2)) (spots (sheets_of t2)) V (shape_shown m (sheets_of t2) X.section.shape) (subst (λ (z : Sheets). IsShown (pages_of z) V) (sym after_is) (B more le).shown) in
+        let link : (j : ℕ) → link_of t2 (place root 1) j ≡ get_or ds j None = λ j. ap (λ (u : Tuple). get_or (links u) j None) e in
+        subst (λ (s : Stand). LeadsToLists t2 (tuple_place s) w ws dv.node_of) (sym st)
+        (subst (λ ns. LeadsToLists t2 (place root 1) w ws ns) P.node_of (record {
+          frame = ap frame_in e;
+          none = λ j q. link j ∙ downlink_none b (sheet_at S1 b).tuples L 0 n j (let z : 0 + j ≡ j = omega arith in ap L z ∙ q);
+          lists = λ j y q. ap (λ (U : Place → Spot). U y) shown ∙ (E.lists j y (sym (link j) ∙ q)).0;
+        }))
+
+    number : leaf_number t d.stand ≡ length ls
+    number = subst (λ (s : Stand). leaf_number t s ≡ length ls) (sym st) (ap (λ (y : Place). length (leaves_of (spots S y))) (low_spot (place root 1) low) ∙ ap (λ (s : Spot). length (leaves_of s)) (live_there m codes t d root H st A K no_room).1)
+
+    shrinking : xs ≡ ls → (more : ℕ) → Leaves m S (sheets_of t2) t2.touched (split_cost d.stand more) 0 (λ x. x) → Bounded more → (node : Option ℕ) → IsOnlyNode (take (length p.leaves - 1) p.node_of) node → 8160 < weight p.leaves → Shrinks m t t2 d d
+    shrinking ex more X le node only big =
+        let lc = leaf_count m codes t d root H st A K no_room dv D same p P in let c = count_vs m codes t d root H st A K no_room in
+        let k : length p.leaves - 1 ≡ length ls = omega arith in
+        let only2 : IsOnlyNode (take (length ls) dv.node_of) node = subst (λ ns. IsOnlyNode (take (length ls) ns) node) P.node_of (subst (λ i. IsOnlyNode (take i p.node_of) node) k only) in
+        shrinks m t t2 d d (rests_of vs) dv (length ls) D (rests_count m codes t d root H st A K no_room) (slice_last ls (carried d)) number ws (sym (length-leaves_in ws) ∙ xs_count ∙ ap length ex)
+        (leads more X le) node (many m codes t d root H st A K no_room dv D same p P big) only2
 
     carries : (more : ℕ) → Leaves m S (sheets_of t2) t2.touched (split_cost d.stand more) 0 (λ x. x) → (key : Option Key) → IsCarried m S d key → IsCarried m (sheets_of t2) d key
     carries more X key C = record {
@@ -326,13 +360,14 @@ module _ {Key Recon Cond : Type 0} (m : Meaning Key Recon Cond) (codes : CodeLaw
       way = subst (λ (s : Stand). WayFits m (sheets_of t2) s d.parent d.recon key) (sym st) (recon_is m codes t d root H st A K no_room key C);
     }
 
-    parts_without : xs ≡ ls → (more : ℕ) → Bounded more → PartsWithout m t t2 d d more
-    parts_without ex more le = let X = leaves ex more le in record { leaves = X; inner = at_inner; carries = carries more X }
+    parts_without : xs ≡ ls → (more : ℕ) → Bounded more → (node : Option ℕ) → IsOnlyNode (take (length p.leaves - 1) p.node_of) node → 8160 < weight p.leaves → PartsWithout m t t2 d d more
+    parts_without ex more le node only big = let X = leaves ex more le in record { leaves = X; inner = at_inner; shrinks = shrinking ex more X le node only big; carries = carries more X }
 
-    parts_risen : xs ≡ ls → (more : ℕ) → Bounded more → PartsWithout m t t2 d (risen d) more
-    parts_risen ex more le = let X = leaves ex more le in record {
+    parts_risen : xs ≡ ls → (more : ℕ) → Bounded more → (node : Option ℕ) → IsOnlyNode (take (length p.leaves - 1) p.node_of) node → 8160 < weight p.leaves → PartsWithout m t t2 d (risen d) more
+    parts_risen ex more le node only big = let X = leaves ex more le in record {
       leaves = X;
       inner = at_inner;
+      shrinks = shrinking ex more X le node only big;
       carries = λ key C. let C2 = carries more X key C in record {
         of = record { start = C2.of.start; whole = C2.of.whole; gives = C2.of.gives };
         begins = C2.begins;
@@ -361,13 +396,13 @@ module _ {Key Recon Cond : Type 0} (m : Meaning Key Recon Cond) (codes : CodeLaw
   length_old : length all_but_last ≡ length ls
   length_old = let a = leaf_count m codes t d root H st A K no_room dv D same p P in let c = count_old in let l = length-take-le (length p.leaves - 1) p.leaves (omega arith) in omega arith
 
-  without_law : (seat : ℕ) (t2 : Table) → PutsLists t t2 root seat p all_but_last → (in_one : Bool) (node : Option ℕ) → IsOnlyNode (take (length p.leaves - 1) p.node_of) node → in_one ≡ is_some node → IsSplitWay m t t2 d (Without in_one)
-  without_law seat t2 W true k only e =
+  without_law : (seat : ℕ) (t2 : Table) → PutsLists t t2 root seat p all_but_last → 8160 < weight p.leaves → (in_one : Bool) (node : Option ℕ) → IsOnlyNode (take (length p.leaves - 1) p.node_of) node → in_one ≡ is_some node → IsSplitWay m t t2 d (Without in_one)
+  without_law seat t2 W big true k only e =
       let c = count_old in let o = one_there m codes t d root H st A K no_room in let l = length_old in
       let one = bound_one seat t2 all_but_last ls few_old are_old (omega arith) W (omega arith) in
-      (calm seat t2 all_but_last ls few_old are_old (omega arith) W, parts_risen seat t2 all_but_last ls few_old are_old (omega arith) W refl 1 (bounded seat t2 all_but_last ls few_old are_old (omega arith) W 1 1 one (omega arith)))
-  without_law seat t2 W false (Some k) only e = cc
-  without_law seat t2 W false None only e =
+      (calm seat t2 all_but_last ls few_old are_old (omega arith) W, parts_risen seat t2 all_but_last ls few_old are_old (omega arith) W refl 1 (bounded seat t2 all_but_last ls few_old are_old (omega arith) W 1 1 one (omega arith)) k only big)
+  without_law seat t2 W big false (Some k) only e = cc
+  without_law seat t2 W big false None only e =
       let c = count_old in let o = one_there m codes t d root H st A K no_room in let l = length_old in
       let nc = node_count m codes t d root H st A K no_room dv D same p P in
       let lc = leaf_count m codes t d root H st A K no_room dv D same p P in
@@ -376,7 +411,7 @@ module _ {Key Recon Cond : Type 0} (m : Meaning Key Recon Cond) (codes : CodeLaw
       let fj = first_nodes (length p.leaves - 1) p.node_of j (omega arith) in
       let f0 = first_nodes (length p.leaves - 1) p.node_of 0 (omega arith) in
       let two = bound_two seat t2 all_but_last ls few_old are_old (omega arith) W j 0 (omega arith) (omega arith) (λ q. differ (fj ∙ q ∙ sym f0)) in
-      (calm seat t2 all_but_last ls few_old are_old (omega arith) W, parts_without seat t2 all_but_last ls few_old are_old (omega arith) W refl 0 (bounded seat t2 all_but_last ls few_old are_old (omega arith) W 2 0 two (omega arith)))
+      (calm seat t2 all_but_last ls few_old are_old (omega arith) W, parts_without seat t2 all_but_last ls few_old are_old (omega arith) W refl 0 (bounded seat t2 all_but_last ls few_old are_old (omega arith) W 2 0 two (omega arith)) None only big)
 
   -- whichever way it was done
   pub split_law : (seat : ℕ) (t2 : Table) (way : Parted) → IsWay p way → PutsLists t t2 root seat p (going p way) → IsSplitWay m t t2 d way
@@ -389,4 +424,4 @@ module _ {Key Recon Cond : Type 0} (m : Meaning Key Recon Cond) (codes : CodeLaw
       let differ2 : slice_index p.node_of i ≡ slice_index p.node_of j → ⊥ = λ e. differ (sym (ap (λ ns. slice_index ns i) P.node_of) ∙ e ∙ ap (λ ns. slice_index ns j) P.node_of) in
       let two = bound_two seat t2 p.leaves vs few P.leaves (omega arith) W i j (omega arith) (omega arith) differ2 in
       (puts seat t2 p.leaves vs few P.leaves (omega arith) W refl (bounded seat t2 p.leaves vs few P.leaves (omega arith) W 2 1 two (omega arith)), calm seat t2 p.leaves vs few P.leaves (omega arith) W)
-  split_law seat t2 (Without in_one) (big, (node, only, e)) W = without_law seat t2 W in_one node only e
+  split_law seat t2 (Without in_one) (big, (node, only, e)) W = without_law seat t2 W big in_one node only e

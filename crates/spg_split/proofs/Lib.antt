@@ -3,6 +3,7 @@ pub mod Growing
 pub mod Reading
 pub mod Lists
 pub mod Clearing
+pub mod Shrinking
 pub mod Divided
 pub mod Totals
 pub mod Chaining

@@ -79,7 +79,15 @@ from_live k (t ∷ ts) (n ∷ nodes) e =
     (λ a. let c = cond-false (nat_le k n) (t ∷ from_node k ts nodes) (from_node k ts nodes) (lt-leb k n a) in let x = ap weight c in let y = ap (λ us. weight (all_live (leaves_in us))) c in omega arith)
     (λ a. let c = cond-true (nat_le k n) (t ∷ from_node k ts nodes) (from_node k ts nodes) (le-leb k n a) in let x = ap weight c in let y = ap (λ us. weight (all_live (leaves_in us))) c in omega arith) (cases_lt n k)
 
-length-leaves_in : (ts : List Tuple) → length (leaves_in ts) ≡ length ts
+-- and weigh no more than all
+pub from_lighter : (k : ℕ) (ts : List Tuple) (nodes : List ℕ) → weight (from_node k ts nodes) ≤ weight ts
+from_lighter k [] nodes = omega arith
+from_lighter k (t ∷ ts) [] = omega arith
+from_lighter k (t ∷ ts) (n ∷ nodes) = let h = from_lighter k ts nodes in ⊎_elim
+    (λ a. let x = ap weight (cond-false (nat_le k n) (t ∷ from_node k ts nodes) (from_node k ts nodes) (lt-leb k n a)) in omega arith)
+    (λ a. let x = ap weight (cond-true (nat_le k n) (t ∷ from_node k ts nodes) (from_node k ts nodes) (le-leb k n a)) in omega arith) (cases_lt n k)
+
+pub length-leaves_in : (ts : List Tuple) → length (leaves_in ts) ≡ length ts
 length-leaves_in [] = refl
 length-leaves_in (t ∷ ts) = ap suc (length-leaves_in ts)
 

@@ -1,5 +1,6 @@
 -- What is known where an insert stands at a root leaf page that has no room.
 use Rattle.std.proofs.Common.{◌≡◌, ℕ, zero, suc, ◌+◌, ◌-◌, ◌≤◌, ◌<◌, Bool, true, false, List, [], ◌∷◌, ◌++◌, ◌⊎◌, ⊎_elim, Option, Some, None, is_none, IsSome, length, length-append, take, slice_get, slice_index, refl, sym, ap, ◌∙◌, subst, inl, inr, arith}
+use Rattle.std.proofs.lemmas.Bool.{cases_lt}
 use Rattle.std.proofs.lemmas.List.{length-map, length-replicate}
 use Rattle.spg_base.specs.Row.{RowAt}
 use Rattle.spg_opclass.specs.Meaning.{Meaning}
@@ -32,7 +33,7 @@ use Rattle.spg_split.specs.Placing.{leaves_with, leaves_in}
 use Rattle.spg_split.specs.Parts.{ArePartsOf, AreReady, bare}
 use Rattle.spg_split.proofs.Reading.{leaves_of_live, leaves_in_live, length-all_live}
 use Rattle.spg_split.proofs.Room.{least_weight}
-use Rattle.spg_split.proofs.Taken.{with_length, without_last, lighter}
+use Rattle.spg_split.proofs.Taken.{with_length, with_rest, without_last, lighter}
 
 -- sizes of what the class gives
 pub rest_small : {Key Recon Cond : Type 0} (m : Meaning Key Recon Cond) → CodeLaw m → (nulls : Bool) (q : List ℕ) → IsRestOf m nulls q → leaf_size q ≤ 4076
@@ -45,6 +46,16 @@ rest_fits m law nulls q e = let s = rest_small m law nulls q e in omega arith
 pub tuple_fits : {Key Recon Cond : Type 0} (m : Meaning Key Recon Cond) → CodeLaw m → (nulls : Bool) (w : Frame) → IsTupleOf m nulls w → inner_size w ≤ 8156
 tuple_fits m law true w e = rw e (omega arith)
 tuple_fits m law false w e = law.inner_fits w e
+
+two_small : (ls : List Leaf) → length ls ≤ 2 → ((l : Leaf) → IsIn l ls → leaf_size l.rest ≤ 4076) → weight (all_live ls) ≤ 8160
+two_small [] n h = omega arith
+two_small (a ∷ []) n h = let x = h a (inl refl) in omega arith
+two_small (a ∷ b ∷ []) n h = let x = h a (inl refl) in let y = h b (inr (inl refl)) in omega arith
+two_small (a ∷ b ∷ c ∷ ls) n h = absurd (omega arith)
+
+-- two leaves fit on one page
+pub two_fit : {Key Recon Cond : Type 0} (m : Meaning Key Recon Cond) → CodeLaw m → (nulls : Bool) (rows : List RowAt) (rests : List (List ℕ)) → length (leaves_with rows rests) ≤ 2 → ((i : ℕ) (q : List ℕ) → slice_get rests i ≡ Some q → IsRestOf m nulls q) → weight (all_live (leaves_with rows rests)) ≤ 8160
+two_fit m law nulls rows rests n h = two_small (leaves_with rows rests) n (λ l a. let (i, e) = with_rest rows rests l a in rest_small m law nulls l.rest (h i l.rest e))
 
 pub give_from : {Key Recon Cond : Type 0} (m : Meaning Key Recon Cond) (r : Option Recon) (vs : List Leaf) → ((l : Leaf) → IsIn l vs → IsSome (key_of m r l.rest)) → GiveKeys m r (rests_of vs)
 give_from m r [] h = tt
@@ -62,6 +73,10 @@ pub slice_first : (ls : List Leaf) (new l : Leaf) (i : ℕ) → slice_get ls i �
 slice_first [] new l i e = cc
 slice_first (k ∷ ls) new l zero e = let c : k ≡ l = cc in ap (λ (u : Leaf). Some u.rest) c
 slice_first (k ∷ ls) new l (suc i) e = slice_first ls new l i e
+
+pub slice_last : (ls : List Leaf) (new : Leaf) → slice_get (rests_of (ls ++ new ∷ [])) (length ls) ≡ Some new.rest
+slice_last [] new = refl
+slice_last (l ∷ ls) new = slice_last ls new
 
 -- the rebuilt value is missing in the nulls tree alone
 pub nulls_recon : {Recon : Type 0} (start recon : Option Recon) → IsReconFor start recon → is_none recon ≡ is_none start
@@ -119,6 +134,9 @@ module _ {Key Recon Cond : Type 0} (m : Meaning Key Recon Cond) (codes : CodeLaw
   pub several : 2 ≤ length (rests_of vs)
   several = let a = one_there in let b = count_vs in let c = length-map vs (λ (l : Leaf). l.rest) in omega arith
 
+  pub rests_count : length (rests_of vs) ≡ length ls + 1
+  rests_count = length-map vs (λ (l : Leaf). l.rest) ∙ count_vs
+
   pub once : NoRepeat ls
   once = subst (λ (s : Spot). NoRepeat (leaves_of s)) live_there.1 ((shape_tree m (sheets_of t) H).once (place root 0))
 
@@ -163,6 +181,12 @@ module _ {Key Recon Cond : Type 0} (m : Meaning Key Recon Cond) (codes : CodeLaw
 
     pub others_fit : weight (take (length p.leaves - 1) p.leaves) ≤ 8160
     others_fit = rw old_leaves old_lighter
+
+    pub many : 8160 < weight p.leaves → 2 ≤ length ls
+    many big = ⊎_elim
+        (λ h. absurd (let n = with_length (rows_of vs) dv.rests (rest_count ∙ sym row_count) in let r = row_count in let c = count_vs in
+        let f = two_fit m codes (is_none d.recon) (rows_of vs) dv.rests (omega arith) D.well_formed in let e = ap weight P.leaves in omega arith))
+        (λ h. h) (cases_lt (length ls) 2)
 
 -- what was read and divided, as the code has it
 pub values_are : {Recon : Type 0} (t : Table) (root : ℕ) (d : Descending Recon) (s : Sheet) (v : Values) → s ≡ sheet_at (sheets_of t) root → AreValues v (leaves_on s.tuples ++ carried d ∷ []) → AreValues v (leaves_on (tuples_at t root) ++ carried d ∷ [])

@@ -46,6 +46,11 @@ taken_rest j (r ∷ rows) (q ∷ rests) (n ∷ nodes) l a = ⊎_elim
     more : ((i : ℕ) × (slice_get rests i ≡ Some l.rest)) → (i : ℕ) × (slice_get (q ∷ rests) i ≡ Some l.rest)
     more (i, e) = (suc i, e)
 
+pub with_rest : (rows : List RowAt) (rests : List (List ℕ)) (l : Leaf) → IsIn l (leaves_with rows rests) → (i : ℕ) × (slice_get rests i ≡ Some l.rest)
+with_rest [] rests l a = absurd a
+with_rest (r ∷ rows) [] l a = absurd a
+with_rest (r ∷ rows) (q ∷ rests) l a = ⊎_elim (λ e. (0, ap (λ (u : Leaf). Some u.rest) e)) (λ b. let (i, e) = with_rest rows rests l b in (suc i, e)) a
+
 -- all but the last
 pub without_last : (ls : List Leaf) (new : Leaf) (rests : List (List ℕ)) → length rests ≡ length (ls ++ new ∷ []) → take (length ls) (all_live (leaves_with (rows_of (ls ++ new ∷ [])) rests)) ≡ all_live (leaves_with (rows_of ls) rests)
 without_last [] new rests e = refl

@@ -1,9 +1,11 @@
 -- How the values of a division are read, and what is asked of how they are divided.
-use Rattle.std.specs.Prelude.{◌≡◌, ℕ, ◌<◌, ◌≤◌, true, ℤ, pos, List, [], ◌∷◌, Option, Some, is_none, IsSome, length, map, slice_get, slice_index, replicate}
+use Rattle.std.specs.Prelude.{◌≡◌, ℕ, ◌+◌, ◌<◌, ◌≤◌, true, false, ℤ, pos, List, [], ◌∷◌, Option, Some, is_none, IsSome, length, map, take, slice_get, slice_index, replicate}
 use Rattle.spg_base.specs.Row.{RowAt}
 use Rattle.spg_opclass.specs.Meaning.{Meaning, eightfold}
-use Rattle.spg_split.specs.Nodes.{turns}
+use Rattle.spg_opclass.specs.declared.view.Choice.TheVariants.{Match}
+use Rattle.spg_split.specs.Nodes.{turns, IsOnlyNode}
 use Rattle.spg_forest.specs.View.{Leaf}
+use Rattle.spg_forest.specs.Spot.{Frame}
 use Rattle.spg_forest.specs.Tuples.{Tuple}
 use Rattle.spg_forest.specs.Pages.{all_live}
 use Rattle.spg_forest.specs.Links.{leaves_on}
@@ -30,6 +32,10 @@ abbrev pub GiveKeys : {Key Recon Cond : Type 0} → Meaning Key Recon Cond → O
 GiveKeys m r [] = Unit {0}
 GiveKeys m r (q ∷ qs) = IsSome (key_of m r q) × GiveKeys m r qs
 
+-- the class answers a rest a match with the node, of a tuple that is not all-the-same
+abbrev pub IsMatched : {Key Recon Cond : Type 0} → Meaning Key Recon Cond → Option Recon → Frame → List ℕ → ℕ → Type 0
+IsMatched {Key} {Recon} m r w rest node = (recon : Recon) × (left : List ℕ) × (r ≡ Some recon) × (m.answer recon w rest ≡ Match node left) × (w.all_same ≡ false)
+
 -- each value goes below its node, of a tuple that may stand in its tree; no rest has grown, and not all go to one node
 pub record IsDivided {Key Recon Cond : Type 0} (m : Meaning Key Recon Cond) (r : Option Recon) (rests : List (List ℕ)) (d : Division) : Type 0 where
   pub node_each : length d.node_of ≡ length rests
@@ -42,6 +48,8 @@ pub record IsDivided {Key Recon Cond : Type 0} (m : Meaning Key Recon Cond) (r :
   pub well_formed : (i : ℕ) (q : List ℕ) → slice_get d.rests i ≡ Some q → IsRestOf m (is_none r) q
   pub not_longer : (i : ℕ) (p q : List ℕ) → slice_get rests i ≡ Some p → slice_get d.rests i ≡ Some q → length q ≤ length p
   pub apart : (i j : ℕ) × (i < length d.node_of) × (j < length d.node_of) × (slice_index d.node_of i ≡ slice_index d.node_of j → ⊥)
+  -- where the others, at least two, are all in one node, the last value is matched with its own
+  pub alone : (k c : ℕ) (last : List ℕ) → length rests ≡ c + 1 → 2 ≤ c → IsOnlyNode (take c d.node_of) (Some k) → slice_get rests c ≡ Some last → IsMatched m r d.frame last (slice_index d.node_of c)
 
 -- nulls, so many
 abbrev pub nulls_divided : ℕ → Division
