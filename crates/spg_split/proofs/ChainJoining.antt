@@ -11,7 +11,7 @@ use Rattle.spg_opclass.specs.Laws.{CodeLaw}
 use Rattle.spg_forest.specs.View.{Place, Leaf}
 use Rattle.spg_forest.specs.Spot.{Frame, Spot, Bucket, IsIn, leaves_of}
 use Rattle.spg_forest.specs.Tuples.{Tuple, Inner, Live, IsAmong}
-use Rattle.spg_forest.specs.Pages.{all_live, IsFresh, IsShown, moved, tuple_on}
+use Rattle.spg_forest.specs.Pages.{place, all_live, IsFresh, IsShown, moved, tuple_on}
 use Rattle.spg_forest.specs.Classes.{class_of, HasEntry}
 use Rattle.spg_forest.proofs.Keeping.{entry_of, no_entry}
 use Rattle.spg_forest.proofs.Lists.{shown_once}
@@ -39,24 +39,28 @@ use Rattle.spg_descend.specs.Carried.{carried, IsCarried}
 use Rattle.spg_descend.specs.Follows.{tuple_place, IsAtInner, link_of}
 use Rattle.spg_descend.specs.Rules.{MayMove}
 use Rattle.spg_descend.specs.Below.{IsAtChain, IsTicked}
+use Rattle.spg_descend.specs.Makes.{MakesOne, IsNextTo}
 use Rattle.spg_split.specs.declared.division.Division.{Division}
 use Rattle.spg_split.specs.declared.parts.Parts.{Parts}
+use Rattle.spg_split.specs.declared.plan.Left.{Left}
 use Rattle.spg_split.specs.declared.plan.Plan.{Plan}
 use Rattle.spg_split.specs.declared.homes.Homes.{Homes}
 use Rattle.spg_split.specs.declared.part.Parting.{Parting}
 use Rattle.spg_split.specs.Splits.{split_cost}
-use Rattle.spg_split.specs.Below.{SplitsWith, SplitsWithout, IsLedTo}
+use Rattle.spg_split.specs.Below.{SplitsWith, SplitsWithout, IsLedTo, MakesBelow}
 use Rattle.spg_split.specs.Ways.{IsChainWay}
-use Rattle.spg_split.specs.Planning.{IsWayOf}
+use Rattle.spg_split.specs.Planning.{IsPlanOf, IsWayOf, from_node, bytes_away, left_at}
 use Rattle.spg_split.specs.Nodes.{IsOnlyNode}
 use Rattle.spg_split.specs.declared.put.Parted.{Parted}
 use Rattle.spg_split.specs.declared.put.Parted.TheVariants.{With, Without}
-use Rattle.spg_split.specs.Dividing.{IsDivided, rows_of}
+use Rattle.spg_split.specs.Dividing.{IsDivided, division_of, rows_of}
+use Rattle.spg_split.specs.Causes.{IsCauseOf, tuples_divided, leaves_below, chain_bytes}
 use Rattle.spg_split.specs.Homes.{blocks_touched}
 use Rattle.spg_split.specs.Placing.{taken_by, leaves_with, leaves_in, downlinks}
 use Rattle.spg_split.specs.Parts.{ArePartsOf, AreReady, bare}
 use Rattle.spg_split.specs.Parting.{MayDivide, IsParted, put_by}
-use Rattle.spg_split.specs.Writing.{parted_table, MayPart}
+use Rattle.spg_split.specs.Writing.{new_place, parted_table, MayPart}
+use Rattle.spg_split.proofs.Makes.{chain_makes, homes_next}
 use Rattle.spg_split.proofs.Housing.{IsHoused}
 use Rattle.spg_split.proofs.Deciding.{homes_housed, may_part, x_same, p_same, put_each}
 use Rattle.spg_split.proofs.BlocksTouched.{touched_few, away}
@@ -255,7 +259,7 @@ module _ {Key Recon Cond : Type 0} (m : Meaning Key Recon Cond) (codes : CodeLaw
     others c k = let Z = away x.block p.block h (length t.pages) (length u.pages) c HH.pages.count HH.inner_there HH.rest_there k in HH.others c Z.inner Z.rest Z.range
 
     -- with the leaf of the insert
-    puts : xs ≡ vs → Bounded 1 → SplitsWith m t t2 d
+    puts : xs ≡ vs → Bounded 1 → SplitsWith m t t2 d z
     puts eq le key C =
         let G : AreDivided (class_of m) d.recon ls (λ row. row ≡ d.row) w ds (M2 vs) =
         divided_with (class_of m) d.recon w ds ls (carried d) dv.node_of dv.rests goes (standing.all_once m codes t d x p i H st pr A K long key C)
@@ -269,12 +273,10 @@ module _ {Key Recon Cond : Type 0} (m : Meaning Key Recon Cond) (codes : CodeLaw
         let X = divides m S1 S2 V6 T (cost 1) x z (spot_of p) wp nsp i ls w ds L d.recon l key j y H1 (law.movable m u x p i h.inner h.rest w L plan.cut n ls wp nsp CD) bucket fresh (fit key C)
         (subst (λ (r : RowAt). AreDivided (class_of m) d.recon ls (λ row. row ≡ r) w ds L) (sym er) G2) (ey, a2, g.given_back ∙ C.rebuilt) (law.lists m u x p i h.inner h.rest w L plan.cut n ls wp nsp CD) (B 1 le) in
         let X2 : Adds m S1 S2 T (cost 1) d.row key (moved x z) = subst (λ (r : RowAt). Adds m S1 S2 T (cost 1) r key (moved x z)) er X in
-        let X3 = adds_after_pick m S S1 S2 T (cost 1) 4 d.row key (moved x z) H HH.pages others HH.more X2 in (
-          z,
-          subst (λ (s : Stand). Adds m S (sheets_of t2) t2.touched (split_cost s 1) d.row key (moved (tuple_place s) z)) (sym st)
-              (subst (λ (Z : Sheets). Adds m S Z t2.touched (split_cost (At x) 1) d.row key (moved x z)) (sym after_is)
-              (subst (λ (Z : List ℕ). Adds m S S2 Z (split_cost (At x) 1) d.row key (moved x z)) (sym touched_is) X3)),
-        )
+        let X3 = adds_after_pick m S S1 S2 T (cost 1) 4 d.row key (moved x z) H HH.pages others HH.more X2 in
+        subst (λ (s : Stand). Adds m S (sheets_of t2) t2.touched (split_cost s 1) d.row key (moved (tuple_place s) z)) (sym st)
+        (subst (λ (Z : Sheets). Adds m S Z t2.touched (split_cost (At x) 1) d.row key (moved x z)) (sym after_is)
+        (subst (λ (Z : List ℕ). Adds m S S2 Z (split_cost (At x) 1) d.row key (moved x z)) (sym touched_is) X3))
       where
         last_in : (zs : List Leaf) → IsIn (carried d) (zs ++ carried d ∷ [])
         last_in [] = inl refl
@@ -441,7 +443,7 @@ module _ {Key Recon Cond : Type 0} (m : Meaning Key Recon Cond) (codes : CodeLaw
   big none = ⊎_elim (λ (Q, f). absurd (none Q.count)) (λ (Q, (all, F, f)). let b = F.bytes in let l = from_lighter all.cut p2.leaves p2.node_of in omega arith) W.is_plan
 
   -- whichever way it was done
-  pub chain_law : (z : Place) (way : Parted) → z ≡ done.at → IsWayOf p2 plan way → IsChainWay m t t2 d z way × IsTicked t t2
+  chain_law : (z : Place) (way : Parted) → z ≡ done.at → IsWayOf p2 plan way → IsChainWay m t t2 d z way × IsTicked t t2
   chain_law z With ez all =
       let (wp, nsp, ep, ex) = standing.above m codes t d x p i H st pr A K long in
       let are : ws ≡ all_live (leaves_with (rows_of vs) dv.rests) = ap (λ k. take k p2.leaves) all ∙ take-length p2.leaves ∙ P.leaves in
@@ -450,7 +452,7 @@ module _ {Key Recon Cond : Type 0} (m : Meaning Key Recon Cond) (codes : CodeLaw
       let ne = ap length P.node_of in let nc = node_old in let lc = leaf_old in let cv = count_old in
       let differ2 : slice_index p2.node_of k ≡ slice_index p2.node_of j → ⊥ = λ e. differ (sym (ap (λ ns. slice_index ns k) P.node_of) ∙ e ∙ ap (λ ns. slice_index ns j) P.node_of) in
       let two = bound_two vs are (omega arith) wp nsp ep ex k j (omega arith) (omega arith) differ2 in
-      (puts vs are (omega arith) wp nsp ep ex refl (bounded vs are (omega arith) wp nsp ep ex 2 1 two (omega arith)), ticked vs are (omega arith) wp nsp ep ex)
+      (subst (λ (y : Place). SplitsWith m t t2 d y) (sym W.at ∙ sym ez) (puts vs are (omega arith) wp nsp ep ex refl (bounded vs are (omega arith) wp nsp ep ex 2 1 two (omega arith))), ticked vs are (omega arith) wp nsp ep ex)
   chain_law z (Without in_one) ez (none, (node, only, e)) = go in_one node only e
     where
       go : (in_one : Bool) (found : Option ℕ) → IsOnlyNode (take (length p2.leaves - 1) p2.node_of) found → in_one ≡ is_some found → IsChainWay m t t2 d z (Without in_one) × IsTicked t t2
@@ -473,3 +475,48 @@ module _ {Key Recon Cond : Type 0} (m : Meaning Key Recon Cond) (codes : CodeLaw
           let f0 : slice_index (take (length p2.leaves - 1) p2.node_of) 0 ≡ slice_index p2.node_of 0 = get_or-take (length p2.leaves - 1) p2.node_of 0 0 (omega arith) in
           let two = bound_two ls are (omega arith) wp nsp ep ex j 0 (omega arith) (omega arith) (λ q. differ (fj ∙ q ∙ sym f0)) in
           (subst (λ (y : Place). SplitsWithout m t t2 d (placed d (At y) d.parent) y 0) (sym W.at ∙ sym ez) (without ls are (omega arith) wp nsp ep ex refl 0 (bounded ls are (omega arith) wp nsp ep ex 2 0 two (omega arith)) None only (big none)), ticked ls are (omega arith) wp nsp ep ex)
+
+  -- the inner tuple that is made
+  makes : MakesBelow t t2 d.parent done.at
+  makes = subst (λ (o : Option (Place × ℕ)). MakesBelow t t2 o done.at) (sym pr) (subst (λ (y : Place). MakesOne t t2 y × IsNextTo p.block y) (sym W.at) (one, next))
+    where
+      may : MayPart u x p i h.inner h.rest p2.inner L plan.cut n
+      may = may_part t u x p i p2 W.left plan h MD R some W.is_left W.is_plan HH
+
+      one : MakesOne t t2 (new_place u h.inner)
+      one y none a =
+          let b : IsInner (tuple_at (parted_table u x p i h.inner h.rest p2.inner L plan.cut n) y) = subst (λ (v : Table). IsInner (tuple_at v y)) W.after a in
+          let c : IsInner (tuple_at u y) = chain_makes u x p i h.inner h.rest p2.inner L plan.cut n may y none b in
+          subst (λ ts. IsInner (tuple_on ts y.offset)) (HH.tuples y.block) c
+
+      next : IsNextTo p.block (new_place u h.inner)
+      next = homes_next t u x.block p.block (size_of p2.inner + 4) seat plan.rest h W.picks
+
+  pub chain_done : IsChainWay m t t2 d done.at done.way × IsTicked t t2 × MakesBelow t t2 d.parent done.at
+  chain_done = let (way, ticks) = chain_law done.at done.way refl W.way in (way, ticks, makes)
+
+  -- the bytes that must go away
+  away_is : (us : List Tuple) (q : Plan) → IsPlanOf us p2.node_of n W.left q → q.rest.bytes ≡ bytes_away us p2.node_of n W.left
+  away_is us q Q = Q.bytes ∙ ap (λ k. weight (from_node k us p2.node_of)) Q.cut
+
+  left_is : W.left ≡ left_at (tuples_at t x.block) x.offset
+  left_is = let (e, f, g) = W.is_left (place 0 0) 0 in λ k. record { free = e k; gaps = f k }
+
+  bytes_are : bytes_away p2.leaves p2.node_of n W.left ≡ chain_bytes m t d
+  bytes_are =
+      ap (λ us. bytes_away us p2.node_of n W.left) P.leaves ∙ ap (λ ns. bytes_away (all_live (leaves_with (rows_of vs) dv.rests)) ns n W.left) P.node_of
+      ∙ ap (λ k. bytes_away (all_live (leaves_with (rows_of vs) dv.rests)) dv.node_of k W.left) links_are
+      ∙ ap (λ (l : Left). bytes_away (all_live (leaves_with (rows_of vs) dv.rests)) dv.node_of (length dv.frame.labels) l) left_is
+      ∙ ap (λ (v : Division). bytes_away (all_live (leaves_with (rows_of vs) v.rests)) v.node_of (length v.frame.labels) (left_at (tuples_at t x.block) x.offset)) D.exact
+      ∙ ap (λ (s : Stand). let y : Place = tuple_place s in let v : Division = division_of m d.recon (rests_of (leaves_below t d y)) in bytes_away (tuples_divided m d.recon (leaves_below t d y)) v.node_of (length v.frame.labels) (left_at (tuples_at t y.block) y.offset)) (sym st)
+
+  pub chain_cause : IsCauseOf (chain_bytes m t d) done.way
+  chain_cause = go done.way W.way
+    where
+      go : (way : Parted) → IsWayOf p2 plan way → IsCauseOf (chain_bytes m t d) way
+      go With all = ⊎_elim
+          (λ (Q, f). subst (λ k. k ≤ 8160) (away_is p2.leaves plan Q ∙ bytes_are) f)
+          (λ (Q, o). let a = Q.count in let b = length-take-le (length p2.leaves - 1) p2.leaves (omega arith) in let c = some in absurd (omega arith)) W.is_plan
+      go (Without in_one) (none, o) = ⊎_elim
+          (λ (Q, f). absurd (none Q.count))
+          (λ (Q, (q, A, f)). subst (λ k. 8160 < k) (away_is p2.leaves q A ∙ bytes_are) f) W.is_plan

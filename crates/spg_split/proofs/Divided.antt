@@ -14,7 +14,8 @@ use Rattle.spg_forest.specs.Classes.{class_of}
 use Rattle.spg_forest.specs.Divisions.{EachGoes, rests_of, HaveKeys}
 use Rattle.spg_forest.proofs.Divisions.{pick_goes, one_node_goes, nulls_go}
 use Rattle.spg_split.specs.Nodes.{turns, IsOnlyNode}
-use Rattle.spg_split.specs.Dividing.{GiveKeys, IsDivided, nulls_divided}
+use Rattle.spg_split.specs.Dividing.{GiveKeys, IsDivided, division_by, nulls_divided}
+use Rattle.spg_split.proofs.Onlys.{only_some, only_none}
 use Rattle.spg_split.proofs.Shrinking.{last_apart}
 
 -- a rest that gives a key
@@ -77,6 +78,7 @@ module _ {Key Recon Cond : Type 0} (m : Meaning Key Recon Cond) (law : PickLaw m
   -- the values are in several nodes
   pub several : IsOnlyNode P.node_of None → IsDivided m (Some recon) rests (record { frame = divided P; node_of = P.node_of; rests = P.rests })
   several apart = record {
+    exact = sym (ap (division_by P (length rests)) (only_none P.node_of apart));
     node_each = the_division.node_each;
     rest_each = the_division.rest_each;
     goes = λ ls e. subst (λ (qs : List (List ℕ)). EachGoes (class_of m) (Some recon) (divided (m.parts recon qs)) ls (m.parts recon qs).node_of (m.parts recon qs).rests) e
@@ -107,6 +109,7 @@ module _ {Key Recon Cond : Type 0} (m : Meaning Key Recon Cond) (law : PickLaw m
   -- they are all in one
   pub in_one : (node : ℕ) (label : ℤ) → IsOnlyNode P.node_of (Some node) → slice_get P.labels node ≡ Some label → IsDivided m (Some recon) rests (record { frame = eightfold P.prefix label; node_of = turns (length rests); rests = P.rests })
   in_one node label (some, only) at = record {
+    exact = sym (ap (division_by P (length rests)) (only_some P.node_of node (some, only)) ∙ ap (λ (l : ℤ). record { frame = eightfold P.prefix l; node_of = turns (length rests); rests = P.rests }) label_is);
     node_each = turns_length (length rests);
     rest_each = the_division.rest_each;
     goes = λ ls e. let k = length-rests ls in let n = ap length e in
@@ -124,6 +127,9 @@ module _ {Key Recon Cond : Type 0} (m : Meaning Key Recon Cond) (law : PickLaw m
     alone = λ k c last n more only e. absurd (turns_apart_first (length rests) k c n more only);
   }
     where
+      label_is : get_or P.labels node (pos 0) ≡ label
+      label_is = let g : Some (get_or P.labels node (pos 0)) ≡ Some label = sym (slice_get-get_or P.labels node (pos 0) (slice_get_within P.labels node label at)) ∙ at in cc
+
       all : InOneNode P node
       all = All-from_get_or (λ n. n ≡ node) P.node_of 0 only
 
@@ -168,6 +174,7 @@ empty_at (suc n) (suc i) q e = empty_at n i q e
 
 pub nulls_are_divided : {Key Recon Cond : Type 0} (m : Meaning Key Recon Cond) (rests : List (List ℕ)) → 2 ≤ length rests → IsDivided m None rests (nulls_divided (length rests))
 nulls_are_divided {Key} {Recon} {Cond} m rests two = record {
+  exact = refl;
   node_each = turns_length (length rests);
   rest_each = length-replicate (length rests) [];
   goes = λ ls e. let n = ap length e in let k = length-rests ls in nulls_go m (eightfold [] (pos 0)) ls (turns (length rests)) (replicate (length rests) []) (turns_length (length rests) ∙ sym n ∙ k) (length-replicate (length rests) [] ∙ sym n ∙ k);

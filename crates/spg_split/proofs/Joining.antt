@@ -40,6 +40,7 @@ use Rattle.spg_tree.specs.declared.stand.Stand.{Stand}
 use Rattle.spg_tree.specs.declared.stand.Stand.TheVariants.{Root}
 use Rattle.spg_descend.specs.Carried.{carried, IsCarried, WayFits}
 use Rattle.spg_descend.specs.Follows.{IsAtInner, tuple_place, link_of}
+use Rattle.spg_descend.specs.Makes.{MakesOne}
 use Rattle.spg_descend.specs.Puts.{IsAtLeaves, Fits}
 use Rattle.spg_descend.proofs.Picked.{PicksLeaf, picks_leaf}
 use Rattle.spg_split.specs.declared.division.Division.{Division}
@@ -57,6 +58,7 @@ use Rattle.spg_split.proofs.Taken.{taken_list, taken_node, taken_rest, goes_with
 use Rattle.spg_split.proofs.Totals.{total, but_first, count, count_sum, total_all, lists_room, placed_spread, root_spread, but_first_one, but_first_two, taken_some}
 use Rattle.spg_split.specs.Shrinks.{leaf_number, Shrinks}
 use Rattle.spg_split.proofs.Chaining.{downlink_there, downlink_none, downlinks_length}
+use Rattle.spg_split.proofs.Makes.{root_makes}
 use Rattle.spg_split.proofs.Plans.{length-leaves_in}
 use Rattle.spg_split.proofs.RootLaw.{V2, becomes, lists}
 use Rattle.spg_split.proofs.Shrinking.{LeadsToLists, shrinks}
@@ -378,6 +380,10 @@ module _ {Key Recon Cond : Type 0} (m : Meaning Key Recon Cond) (codes : CodeLaw
       };
     }
 
+  -- the inner tuple that is made
+  makes : (seat : ℕ) (t2 : Table) (ws : List Tuple) → PutsLists t t2 root seat p ws → MakesOne t t2 (tuple_place d.stand)
+  makes seat t2 ws W = subst (λ (s : Stand). MakesOne t t2 (tuple_place s)) (sym st) (root_makes t t2 root seat p ws W)
+
   first_nodes : (k : ℕ) (ns : List ℕ) (i : ℕ) → i < k → slice_index (take k ns) i ≡ slice_index ns i
   first_nodes k ns i h = get_or-take k ns i 0 h
 
@@ -400,7 +406,7 @@ module _ {Key Recon Cond : Type 0} (m : Meaning Key Recon Cond) (codes : CodeLaw
   without_law seat t2 W big true k only e =
       let c = count_old in let o = one_there m codes t d root H st A K no_room in let l = length_old in
       let one = bound_one seat t2 all_but_last ls few_old are_old (omega arith) W (omega arith) in
-      (calm seat t2 all_but_last ls few_old are_old (omega arith) W, parts_risen seat t2 all_but_last ls few_old are_old (omega arith) W refl 1 (bounded seat t2 all_but_last ls few_old are_old (omega arith) W 1 1 one (omega arith)) k only big)
+      (calm seat t2 all_but_last ls few_old are_old (omega arith) W, makes seat t2 all_but_last W, parts_risen seat t2 all_but_last ls few_old are_old (omega arith) W refl 1 (bounded seat t2 all_but_last ls few_old are_old (omega arith) W 1 1 one (omega arith)) k only big)
   without_law seat t2 W big false (Some k) only e = cc
   without_law seat t2 W big false None only e =
       let c = count_old in let o = one_there m codes t d root H st A K no_room in let l = length_old in
@@ -411,7 +417,7 @@ module _ {Key Recon Cond : Type 0} (m : Meaning Key Recon Cond) (codes : CodeLaw
       let fj = first_nodes (length p.leaves - 1) p.node_of j (omega arith) in
       let f0 = first_nodes (length p.leaves - 1) p.node_of 0 (omega arith) in
       let two = bound_two seat t2 all_but_last ls few_old are_old (omega arith) W j 0 (omega arith) (omega arith) (λ q. differ (fj ∙ q ∙ sym f0)) in
-      (calm seat t2 all_but_last ls few_old are_old (omega arith) W, parts_without seat t2 all_but_last ls few_old are_old (omega arith) W refl 0 (bounded seat t2 all_but_last ls few_old are_old (omega arith) W 2 0 two (omega arith)) None only big)
+      (calm seat t2 all_but_last ls few_old are_old (omega arith) W, makes seat t2 all_but_last W, parts_without seat t2 all_but_last ls few_old are_old (omega arith) W refl 0 (bounded seat t2 all_but_last ls few_old are_old (omega arith) W 2 0 two (omega arith)) None only big)
 
   -- whichever way it was done
   pub split_law : (seat : ℕ) (t2 : Table) (way : Parted) → IsWay p way → PutsLists t t2 root seat p (going p way) → IsSplitWay m t t2 d way
@@ -423,5 +429,5 @@ module _ {Key Recon Cond : Type 0} (m : Meaning Key Recon Cond) (codes : CodeLaw
       let cv = count_vs m codes t d root H st A K no_room in
       let differ2 : slice_index p.node_of i ≡ slice_index p.node_of j → ⊥ = λ e. differ (sym (ap (λ ns. slice_index ns i) P.node_of) ∙ e ∙ ap (λ ns. slice_index ns j) P.node_of) in
       let two = bound_two seat t2 p.leaves vs few P.leaves (omega arith) W i j (omega arith) (omega arith) differ2 in
-      (puts seat t2 p.leaves vs few P.leaves (omega arith) W refl (bounded seat t2 p.leaves vs few P.leaves (omega arith) W 2 1 two (omega arith)), calm seat t2 p.leaves vs few P.leaves (omega arith) W)
+      (puts seat t2 p.leaves vs few P.leaves (omega arith) W refl (bounded seat t2 p.leaves vs few P.leaves (omega arith) W 2 1 two (omega arith)), calm seat t2 p.leaves vs few P.leaves (omega arith) W, makes seat t2 p.leaves W)
   split_law seat t2 (Without in_one) (big, (node, only, e)) W = without_law seat t2 W big in_one node only e

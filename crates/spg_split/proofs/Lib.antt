@@ -3,6 +3,7 @@ pub mod Growing
 pub mod Reading
 pub mod Lists
 pub mod Clearing
+pub mod Onlys
 pub mod Shrinking
 pub mod Divided
 pub mod Totals
@@ -26,3 +27,5 @@ pub mod ChainStanding
 pub mod ChainJoining
 pub mod BlocksTouched
 pub mod Outcome
+pub mod Makes
+pub mod Causes

@@ -11,3 +11,4 @@ pub mod Writing
 pub mod Homes
 pub mod Parting
 pub mod Shrinks
+pub mod Causes

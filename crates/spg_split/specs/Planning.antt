@@ -2,7 +2,7 @@
 use Rattle.std.specs.Prelude.{◌≡◌, ◌⊎◌, ℕ, zero, suc, ◌+◌, ◌-◌, ◌*◌, ◌≤◌, ◌<◌, nat_le, min, if◌then◌else◌, List, [], ◌∷◌, Option, Some, None, is_some, length, take}
 use Rattle.spg_forest.specs.View.{Leaf}
 use Rattle.spg_forest.specs.Tuples.{Tuple}
-use Rattle.spg_forest.specs.Pages.{all_live}
+use Rattle.spg_forest.specs.Pages.{place, all_live}
 use Rattle.spg_forest.specs.View.{Place}
 use Rattle.spg_forest.specs.Sheets.{weight, gaps}
 use Rattle.spg_page.specs.Changes.{free_of}
@@ -43,6 +43,10 @@ from_node k [] nodes = []
 from_node k (t ∷ ts) [] = []
 from_node k (t ∷ ts) (n ∷ nodes) = if nat_le k n then t ∷ from_node k ts nodes else from_node k ts nodes
 
+-- the bytes of the lists of these leaf tuples that must go away
+abbrev pub bytes_away : List Tuple → List ℕ → ℕ → Left → ℕ
+bytes_away leaves nodes n l = weight (from_node (staying (λ j. taken_by j leaves nodes) l 0 n) leaves nodes)
+
 -- the lists of these leaf tuples stay while each fits, and those from the first on that does not go away
 pub record IsPlanOf (leaves : List Tuple) (nodes : List ℕ) (n : ℕ) (l : Left) (p : Plan) : Type 0 where
   pub count : p.count ≡ length leaves
@@ -56,7 +60,11 @@ IsPlan p l plan =
     (IsPlanOf p.leaves p.node_of (length p.links) l plan × (plan.rest.bytes ≤ 8160))
     ⊎ (IsPlanOf (take (length p.leaves - 1) p.leaves) p.node_of (length p.links) l plan × ((all : Plan) × IsPlanOf p.leaves p.node_of (length p.links) l all × (8160 < all.rest.bytes)))
 
--- what is left once the chain at an offset is taken away, whatever the redirect
+-- what is left once the chain at an offset is taken away
+abbrev pub left_at : List Tuple → ℕ → Left
+left_at ts o = record { free = free_of (taken_from ts o (place 0 0) 0); gaps = gaps (taken_from ts o (place 0 0) 0) }
+
+-- so much is left once it is taken away, whatever the redirect
 abbrev pub IsLeft : List Tuple → ℕ → Left → Type 0
 IsLeft ts o l = (to : Place) (stamp : ℕ) → (l.free ≡ free_of (taken_from ts o to stamp)) × (l.gaps ≡ gaps (taken_from ts o to stamp)) × (weight (taken_from ts o to stamp) ≤ 8160)
 

@@ -8,8 +8,9 @@ ghost use Rattle.spg_descend.specs.Puts.{Fits};
 ghost use Rattle.spg_descend.specs.Rules.{MayMove};
 ghost use Rattle.spg_descend.specs.Below.{IsAtChain, IsTicked};
 ghost use Rattle.spg_tree.specs.declared.stand.Stand.TheVariants.{At};
-ghost use Rattle.spg_split.specs.Below.{IsChainSplit};
+ghost use Rattle.spg_split.specs.Below.{IsChainSplit, MakesBelow};
 ghost use Rattle.spg_split.specs.Ways.{IsChainWay, NotesChain, IsBelowParent};
+ghost use Rattle.spg_split.specs.Causes.{IsCause, IsCauseOf, chain_bytes};
 ghost use Rattle.spg_split.specs.Splits.{IsSplitFull};
 
 use crate::division::divide;
@@ -41,7 +42,8 @@ fn divide_chain<O: OpClass>(
     requires of_key { (key : Option O.Key) × IsCarried O.meaning (sheets_of table.old) descent.now key }
     requires long { MayMove table.old descent.now.stand (Live (carried descent.now) 0) → ⊥ }
     requires tick { table.old.clock + 1 < 2 ^ 48 }
-    ensures ok { IfOk result (λ done. IsChainWay O.meaning table.old table.new descent.now done.at done.way × IsTicked table.old table.new) }
+    ensures ok { IfOk result (λ done. IsChainWay O.meaning table.old table.new descent.now done.at done.way × IsTicked table.old table.new × MakesBelow table.old table.new descent.now.parent done.at) }
+    ensures cause { IfOk result (λ done. IsCauseOf (chain_bytes O.meaning table.old descent.now) done.way) }
     ensures full { IsErrOf result IndexFull → IsSplitFull table.old }
     ensures clock { IsErrOf result ClockFull → ⊥ }
     ensures err { OnErr result (table.new ≡ table.old) }
@@ -97,6 +99,7 @@ pub fn split_chain<O: OpClass>(
     requires no_room { Fits table.old descent.old.stand (Live (carried descent.old) 0) → ⊥ }
     requires long { MayMove table.old descent.old.stand (Live (carried descent.old) 0) → ⊥ }
     ensures ok { IfOk result (λ out. IsChainSplit O.meaning table.old table.new descent.old descent.new out) }
+    ensures cause { IfOk result (λ out. IsCause (chain_bytes O.meaning table.old descent.old) out) }
     ensures ticked { IfOk result (λ out. IsTicked table.old table.new) }
     ensures full { IsErrOf result IndexFull → IsSplitFull table.old }
     ensures clock { IsErrOf result ClockFull → table.old.clock + 1 ≡ 2 ^ 48 }

@@ -9,6 +9,7 @@ ghost use Rattle.spg_descend.specs.Carried.{carried, IsCarried};
 ghost use Rattle.spg_descend.specs.Puts.{IsAtLeaves, Fits};
 ghost use Rattle.spg_split.specs.Splits.{IsAtRoot, IsSplitOut, IsSplitFull};
 ghost use Rattle.spg_split.specs.Ways.{IsSplitWay, Notes};
+ghost use Rattle.spg_split.specs.Causes.{IsCause, IsCauseOf, root_bytes};
 
 use crate::division::divide;
 use crate::parts::Parts;
@@ -44,6 +45,7 @@ fn split_root<O: OpClass>(
     requires of_key { (key : Option O.Key) × IsCarried O.meaning (sheets_of table.old) descent.now key }
     requires no_room { Fits table.old descent.now.stand (Live (carried descent.now) 0) → ⊥ }
     ensures ok { IfOk result (λ way. IsSplitWay O.meaning table.old table.new descent.now way) }
+    ensures cause { IfOk result (λ way. IsCauseOf (root_bytes O.meaning table.old descent.now) way) }
     ensures full { IsErrOf result IndexFull → IsSplitFull table.old }
     ensures clock { IsErrOf result ClockFull → ⊥ }
     ensures err { OnErr result (table.new ≡ table.old) }
@@ -87,6 +89,7 @@ pub fn split_leaf<O: OpClass>(
     requires of_key { (key : Option O.Key) × IsCarried O.meaning (sheets_of table.old) descent.old key }
     requires no_room { Fits table.old descent.old.stand (Live (carried descent.old) 0) → ⊥ }
     ensures ok { IfOk result (λ out. IsSplitOut O.meaning table.old table.new descent.old descent.new out) }
+    ensures cause { IfOk result (λ out. IsCause (root_bytes O.meaning table.old descent.old) out) }
     ensures full { IsErrOf result IndexFull → IsSplitFull table.old }
     ensures clock { IsErrOf result ClockFull → ⊥ }
     ensures err { OnErr result (table.new ≡ table.old) }

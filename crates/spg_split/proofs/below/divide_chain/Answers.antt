@@ -1,4 +1,4 @@
-use Rattle.std.proofs.Common.{[], ◌∷◌, ◌++◌, is_none, option_copied, length, refl, ap, ◌∙◌, subst, arith}
+use Rattle.std.proofs.Common.{[], ◌∷◌, ◌++◌, is_none, option_copied, length, ap, ◌∙◌, subst, arith}
 use Rattle.spg_forest.specs.Sheets.{Sheet}
 use Rattle.spg_chain.specs.Chains.{chain_members, leaves_of}
 use Rattle.spg_tree.specs.Table.{tuples_at}
@@ -7,10 +7,12 @@ use Rattle.spg_descend.specs.Below.{IsTicked}
 use Rattle.spg_forest.specs.Divisions.{rests_of}
 use Rattle.spg_split.specs.Dividing.{AreValues, rows_of}
 use Rattle.spg_split.specs.Parting.{IsParted}
+use Rattle.spg_split.specs.Below.{MakesBelow}
+use Rattle.spg_split.specs.Causes.{IsCauseOf, chain_bytes}
 use Rattle.spg_split.specs.Ways.{IsChainWay}
 use Rattle.spg_split.proofs.Standing.{rest_fits, tuple_fits, divided_as, keys_as, parts_as, nulls_recon}
 use Rattle.spg_split.proofs.ChainStanding.{several, keys, may_divide, ready, some_leaves, others_fit, inner_fits}
-use Rattle.spg_split.proofs.ChainJoining.{chain_law}
+use Rattle.spg_split.proofs.ChainJoining.{chain_done, chain_cause}
 use Rattle.spg_split.proofs.Outcome.{if_ok_then}
 use Rattle.spg_split.proofs.below.divide_chain.Goals as goal
 
@@ -78,5 +80,15 @@ returns-clause-ok g c =
     let N = nulls_recon c.args.descent.now.start c.args.descent.now.recon c.recon.ensures.known in
     let P = parts_as c.as_slice-2.result.now (rows_of (leaves_of (chain_members (tuples_at c.args.table.now c.args.head.block) c.args.head.offset) ++ carried c.args.descent.now ∷ [])) c.in_ok-division.division c.in_ok-parts.parts (c.as_slice-2.ensures ∙ V.rows) c.in_ok-parts.ensures in
     if_ok_then c.part_chain.result (λ done. IsParted c.args.table.now c.part_chain.new.table c.args.head c.args.parent c.args.node c.args.seat c.in_ok-parts.parts done)
-    (λ done. IsChainWay g.O.OpClass.meaning c.args.table.now c.part_chain.new.table c.args.descent.now done.at done.way × IsTicked c.args.table.now c.part_chain.new.table)
-    (λ done W. chain_law g.O.OpClass.meaning g.O.OpClass.codes c.args.table.now c.args.descent.now c.args.head c.args.parent c.args.node c.requires.shape c.requires.stands c.requires.above c.requires.spot c.requires.of_key c.requires.long c.requires.tick c.in_ok-division.division D N c.in_ok-parts.parts P c.args.seat c.part_chain.new.table done W done.at done.way refl W.way) c.part_chain.ensures.ok
+    (λ done. IsChainWay g.O.OpClass.meaning c.args.table.now c.part_chain.new.table c.args.descent.now done.at done.way × IsTicked c.args.table.now c.part_chain.new.table × MakesBelow c.args.table.now c.part_chain.new.table c.args.descent.now.parent done.at)
+    (λ done W. chain_done g.O.OpClass.meaning g.O.OpClass.codes c.args.table.now c.args.descent.now c.args.head c.args.parent c.args.node c.requires.shape c.requires.stands c.requires.above c.requires.spot c.requires.of_key c.requires.long c.requires.tick c.in_ok-division.division D N c.in_ok-parts.parts P c.args.seat c.part_chain.new.table done W) c.part_chain.ensures.ok
+
+pub returns-clause-cause : goal.returns-clause-cause
+returns-clause-cause g c =
+    let V = (subst (λ (s : Sheet). AreValues c.in_ok-values.values (leaves_of (chain_members s.tuples c.args.head.offset) ++ carried c.args.descent.now ∷ [])) c.page.ensures c.in_ok-values.ensures) in
+    let D = divided_as g.O.OpClass.meaning (option_copied c.recon.result) c.args.descent.now.recon c.as_slice.result.now (rests_of (leaves_of (chain_members (tuples_at c.args.table.now c.args.head.block) c.args.head.offset) ++ carried c.args.descent.now ∷ [])) c.in_ok-division.division c.recon.ensures.value (c.as_slice.ensures ∙ V.rests) c.in_ok-division.ensures in
+    let N = nulls_recon c.args.descent.now.start c.args.descent.now.recon c.recon.ensures.known in
+    let P = parts_as c.as_slice-2.result.now (rows_of (leaves_of (chain_members (tuples_at c.args.table.now c.args.head.block) c.args.head.offset) ++ carried c.args.descent.now ∷ [])) c.in_ok-division.division c.in_ok-parts.parts (c.as_slice-2.ensures ∙ V.rows) c.in_ok-parts.ensures in
+    if_ok_then c.part_chain.result (λ done. IsParted c.args.table.now c.part_chain.new.table c.args.head c.args.parent c.args.node c.args.seat c.in_ok-parts.parts done)
+    (λ done. IsCauseOf (chain_bytes g.O.OpClass.meaning c.args.table.now c.args.descent.now) done.way)
+    (λ done W. chain_cause g.O.OpClass.meaning g.O.OpClass.codes c.args.table.now c.args.descent.now c.args.head c.args.parent c.args.node c.requires.shape c.requires.stands c.requires.above c.requires.spot c.requires.of_key c.requires.long c.requires.tick c.in_ok-division.division D N c.in_ok-parts.parts P c.args.seat c.part_chain.new.table done W) c.part_chain.ensures.ok

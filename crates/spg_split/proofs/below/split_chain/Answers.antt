@@ -1,6 +1,12 @@
 use Rattle.spg_split.proofs.Outcome.{chain_split}
+use Rattle.spg_split.proofs.Causes.{noted_chain}
+use Rattle.spg_split.specs.Causes.{chain_bytes}
 use Rattle.spg_split.proofs.below.split_chain.Goals as goal
 
 pub returns-clause-ok : goal.returns-clause-ok
 returns-clause-ok g c = chain_split g.O.OpClass.meaning c.args.table.now c.divide_chain.new.table c.args.descent.now c.note_chain.new.descent c.in_ok-done-in-At-Some.done.at c.in_ok-done-in-At-Some.done.way c.note_chain.result
-    c.in_ok-done-in-At-Some.ensures.ok.0 c.note_chain.ensures
+    c.in_ok-done-in-At-Some.ensures.ok.0 c.in_ok-done-in-At-Some.ensures.ok.2 c.note_chain.ensures
+
+pub returns-clause-cause : goal.returns-clause-cause
+returns-clause-cause g c = noted_chain (chain_bytes g.O.OpClass.meaning c.args.table.now c.args.descent.now) c.args.descent.now c.note_chain.new.descent c.in_ok-done-in-At-Some.done.at c.in_ok-done-in-At-Some.done.way c.note_chain.result
+    c.in_ok-done-in-At-Some.ensures.cause c.note_chain.ensures
