@@ -2,7 +2,6 @@ pub mod Gathering
 pub mod Adding
 pub mod Leaving
 pub mod MoveLaw
-pub mod Makes
 pub mod Standing
 pub mod Picks
 pub mod SplitHomes

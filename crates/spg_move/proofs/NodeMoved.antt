@@ -35,13 +35,13 @@ use Rattle.spg_descend.specs.Below.{IsLink, IsTicked}
 use Rattle.spg_descend.specs.Carried.{carried, IsCarried}
 use Rattle.spg_descend.specs.Follows.{IsAtInner, tuple_place, link_of}
 use Rattle.spg_descend.specs.Makes.{MakesOne}
+use Rattle.spg_descend.proofs.Makes.{makes_same}
 use Rattle.spg_split.specs.Below.{IsLedTo}
 use Rattle.spg_split.specs.Writing.{new_place}
 use Rattle.spg_descend.specs.Answers.{IsAnswered}
 use Rattle.spg_move.specs.Answers.{IsInnerOf}
 use Rattle.spg_move.specs.Nodes.{node_cost, FitsWider, Widens, IsNodeAdded}
 use Rattle.spg_move.specs.Widening.{widened, shifted_table, blocks_shifted, node_want, IsHung, IsShifted, IsShiftedAt, IsShiftedFrom}
-use Rattle.spg_move.proofs.Makes.{none_same}
 use Rattle.spg_move.proofs.Picks.{PicksPage, picks_page}
 use Rattle.spg_move.proofs.NodePicks.{shifted_few, IsAway, away}
 use Rattle.spg_move.proofs.NodeShift.{CanShift, S2, shifts, y_now, p_now, leads_now, count_now, kinds_now, table_is, makes_one}
@@ -211,7 +211,7 @@ module _ {Key Recon Cond : Type 0} (m : Meaning Key Recon Cond) (adds : AddLaw m
     nowhere = ap (λ (v : Tuple). get_or (links v) at None) tuple_T ∙ get_or-insert_at ns at None None (standing.place_within m adds codes t d at label H A main K W)
 
     makes : MakesOne t T y
-    makes z n e = none_same t t1 P.tuples z (makes_one m t1 b x p i w w2 ns ns2 wp nsp can bs z n e)
+    makes z n e = makes_same t t1 P.tuples z (makes_one m t1 b x p i w w2 ns ns2 wp nsp can bs z n e)
 
     same_parity : y.block % 3 ≡ x.block % 3
     same_parity = P.parity

@@ -31,13 +31,13 @@ use Rattle.spg_tree.specs.declared.stand.Stand.TheVariants.{Start, Root, At, Emp
 use Rattle.spg_descend.specs.Carried.{IsCarried, WayFits}
 use Rattle.spg_descend.specs.Follows.{IsAtInner, tuple_place, link_of}
 use Rattle.spg_descend.specs.Makes.{MakesOne}
+use Rattle.spg_descend.proofs.Makes.{makes_same}
 use Rattle.spg_descend.specs.Puts.{IsQuiet}
 use Rattle.spg_split.specs.Parts.{bare}
 use Rattle.spg_descend.specs.Answers.{IsAnswered}
 use Rattle.spg_move.specs.Answers.{IsInnerOf}
 use Rattle.spg_move.specs.Splits.{PartsTuple, split_cost, lower_want_at}
 use Rattle.spg_move.specs.Splitting.{lower_want, split_touched, MayPart, IsParted}
-use Rattle.spg_move.proofs.Makes.{none_same}
 use Rattle.spg_move.proofs.SplitHomes.{IsHoused, housed, IsAway, away, touched_few}
 use Rattle.spg_move.proofs.SplitLaw.{IsDivision}
 use Rattle.spg_move.proofs.SplitLaw as law
@@ -218,7 +218,7 @@ module _ {Key Recon Cond : Type 0} (m : Meaning Key Recon Cond) (t : Table) (H :
 
     -- ---- the inner tuple that is made, and where the nodes lead
     made_now : MakesOne t t2 y
-    made_now z n e = none_same t u HH.tuples z (law.made m u x c h w ns pre low labels D z n (subst (λ (Z : Sheets). IsInner (tuple_of Z z)) after_is e))
+    made_now z n e = makes_same t u HH.tuples z (law.made m u x c h w ns pre low labels D z n (subst (λ (Z : Sheets). IsInner (tuple_of Z z)) after_is e))
 
     child_now : link_of t2 x c ≡ Some y
     child_now = ap (λ (a : Tuple). get_or (links a) c None) x_after ∙ law.us_child m u x c h w ns pre low labels D

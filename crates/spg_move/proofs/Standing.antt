@@ -37,16 +37,16 @@ use Rattle.spg_descend.specs.Makes.{MakesNone}
 use Rattle.spg_descend.specs.Puts.{IsAtLeaves}
 use Rattle.spg_descend.specs.Rules.{MayMove, IsShort}
 use Rattle.spg_descend.proofs.EmptyLaw.{inner_within}
+use Rattle.spg_descend.proofs.Makes.{makes_same, makes_none_at, makes_linked}
 use Rattle.spg_descend.proofs.Picked.{PicksLeaf, picks_leaf}
 use Rattle.spg_descend.proofs.PutLaws.{bucket_tuple, kind_kept}
 use Rattle.spg_split.specs.Placing.{chained, leaves_in, HaveRoom}
 use Rattle.spg_split.proofs.Chaining.{list_tuple}
 use Rattle.spg_split.proofs.Reading.{leaves_in_live, length-all_live}
-use Rattle.spg_split.proofs.Written.{tuples_other, pages_same}
+use Rattle.spg_split.proofs.Written.{tuples_other}
 use Rattle.spg_move.specs.Moves.{MovesCarried, carried_want, move_cost}
 use Rattle.spg_move.specs.Moving.{with_new, chain_leaves, chain_want, left, moved_table}
 use Rattle.spg_move.proofs.Leaving.{chain_leaf, left_tuple, linked as linked_there}
-use Rattle.spg_move.proofs.Makes.{none_same, none_page, none_link}
 use Rattle.spg_move.proofs.MoveLaw.{moves, at_p_x}
 
 leaves_length : (ms : List Member) → length (leaves_of ms) ≡ length ms
@@ -285,17 +285,10 @@ module _ {Key Recon Cond : Type 0} (m : Meaning Key Recon Cond) (t : Table) (d :
         (λ k. ⊎_elim (λ q. let f : IsInner Placeholder = subst IsInner q e in cc) (λ (h, q). let f : IsInner (Redirect y t1.clock) = subst IsInner q e in cc) k)
         (left_tuple (tuples_at t x.block) (λ o. spots S (place x.block o)) laid x.offset ls shows y t1.clock o)
 
-    p_now : tuples_at tx p.block ≡ tuples_at t p.block
-    p_now = tuples_other tb x.block (left (tuples_at tb x.block) x.offset y t1.clock) p.block p_not_x ∙ tuples_other t1 b (chained (tuples_at t1 b) 0 vs) p.block p_not_b ∙ P.tuples p.block
-
     pub makes_none : (t2 : Table) → t2 ≡ moved_table t1 b x p i vs → MakesNone t t2
     makes_none t2 et =
-        let cb = pages_same t1 b (chained (tuples_at t1 b) 0 vs) in
-        let cx = pages_same tb x.block (left (tuples_at tb x.block) x.offset y t1.clock) in
-        let hx = there in let hp = at.1.0 in let k = P.least in
-        let can : CanPut (sheets_of tx) p = record { block = omega arith; positive = p_within.0; within = let w = p_within.1 in let q = ap (λ (zs : List Tuple). length zs) p_now in omega arith } in
-        let made_b : MakesNone t1 tb = none_page t1 b (chained (tuples_at t1 b) 0 vs) P.there chain_tuple in
-        let made_x : MakesNone tb tx = none_page tb x.block (left (tuples_at tb x.block) x.offset y t1.clock) (omega arith)
+        let made_b : MakesNone t1 tb = makes_none_at t1 b (chained (tuples_at t1 b) 0 vs) chain_tuple in
+        let made_x : MakesNone tb tx = makes_none_at tb x.block (left (tuples_at tb x.block) x.offset y t1.clock)
         (subst (λ (ts : List Tuple). (o : ℕ) → IsInner (tuple_on (left ts x.offset y t1.clock) o) → IsInner (tuple_on ts o)) (sym x_now) left_inner) in
-        let made_p : MakesNone tx (with_link tx p i (Some y)) = none_link tx p i (Some y) can in
-        subst (λ (z : Table). MakesNone t z) (sym et) (λ z e. none_same t t1 P.tuples z (made_b z (made_x z (made_p z e))))
+        let made_p : MakesNone tx (with_link tx p i (Some y)) = makes_linked tx p i (Some y) in
+        subst (λ (z : Table). MakesNone t z) (sym et) (λ z e. makes_same t t1 P.tuples z (made_b z (made_x z (made_p z e))))

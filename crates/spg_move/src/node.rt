@@ -8,7 +8,7 @@ ghost use Rattle.spg_tree.specs.Descents.{in_nulls, placed, with_node, IsParent}
 ghost use Rattle.spg_tree.specs.declared.stand.Stand.TheVariants.{At};
 ghost use Rattle.spg_tree.specs.declared.stand.StepRefused.TheVariants.{IndexFull, ClockFull};
 ghost use Rattle.spg_descend.specs.Carried.{IsCarried};
-ghost use Rattle.spg_descend.specs.Follows.{IsAtPlace, tuple_place};
+ghost use Rattle.spg_descend.specs.Follows.{tuple_place};
 ghost use Rattle.spg_descend.specs.Answers.{IsAnswered};
 ghost use Rattle.spg_move.specs.Answers.{IsInnerOf};
 ghost use Rattle.spg_move.specs.Nodes.{IsNodeAdded, FitsWider, wider_want};
@@ -16,26 +16,12 @@ ghost use Rattle.spg_move.specs.Widening.{FitsInPlace, node_want, IsShiftedFrom}
 
 use crate::node_tuple::longer_tuple;
 use crate::node_write::{fits_in_place, shift, widen_here};
-use spg_base::{Offset, Place, SeatNo};
+use spg_base::{Place, SeatNo};
+use spg_descend::tuple_place;
 use spg_opclass::OpClass;
 use spg_page::TupleBytes;
 use spg_tree::{Descent, PageTable, Stand, StepRefused};
 use std::alloc::Global;
-
-/// Where the inner tuple stands at which an insert is.
-fn place_of(stand: Stand) -> Place
-    requires { IsAtPlace stand }
-    ensures { result ≡ tuple_place stand }
-{
-    match stand {
-        Stand::Root(block) => Place {
-            block,
-            offset: Offset(1),
-        },
-        Stand::At(place) => place,
-        Stand::Start | Stand::Empty => unreachable!(),
-    }
-}
 
 /// Moves the longer tuple to another page, and tells where it is then.
 fn shift_tuple<O: OpClass>(
@@ -112,7 +98,7 @@ pub fn add_node<O: OpClass>(
     ensures err { OnErr result (table.new ≡ table.old) }
     ensures err_descent { OnErr result (descent.new ≡ descent.old) }
 {
-    let here = place_of(descent.stand());
+    let here = tuple_place(descent.stand());
     let longer = longer_tuple(alloc, table.page(here.block), here.offset, at, label)?;
     if fits_in_place(table.page(here.block), here.offset, &longer) {
         widen_here(table, &here, &longer);

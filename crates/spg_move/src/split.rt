@@ -6,32 +6,18 @@ ghost use Rattle.spg_tree.specs.Pick.{IsFull};
 ghost use Rattle.spg_tree.specs.Descents.{in_nulls};
 ghost use Rattle.spg_tree.specs.declared.stand.StepRefused.TheVariants.{IndexFull, ClockFull};
 ghost use Rattle.spg_descend.specs.Carried.{IsCarried};
-ghost use Rattle.spg_descend.specs.Follows.{IsAtPlace, tuple_place};
+ghost use Rattle.spg_descend.specs.Follows.{tuple_place};
 ghost use Rattle.spg_descend.specs.Answers.{IsAnswered};
 ghost use Rattle.spg_move.specs.Answers.{IsInnerOf};
 ghost use Rattle.spg_move.specs.Splits.{PartsTuple, lower_want_at};
 
 use crate::split_pages::part_tuple;
 use crate::split_tuples::{lower_tuple, upper_tuple};
-use spg_base::{Bytes, Labels, Offset, Place, SeatNo};
+use spg_base::{Bytes, Labels, SeatNo};
+use spg_descend::tuple_place;
 use spg_opclass::OpClass;
-use spg_tree::{Descent, PageTable, Stand, StepRefused};
+use spg_tree::{Descent, PageTable, StepRefused};
 use std::alloc::Global;
-
-/// Where the inner tuple stands at which an insert is.
-fn inner_place(stand: Stand) -> Place
-    requires { IsAtPlace stand }
-    ensures { result ≡ tuple_place stand }
-{
-    match stand {
-        Stand::Root(block) => Place {
-            block,
-            offset: Offset(1),
-        },
-        Stand::At(place) => place,
-        Stand::Start | Stand::Empty => unreachable!(),
-    }
-}
 
 /// Splits the inner tuple at which an insert stands in two. The upper tuple, with the prefix and the
 /// labels given, replaces it in place and is never longer. It is not all-the-same, and its downlinks
@@ -65,7 +51,7 @@ pub fn split_tuple<O: OpClass>(
     ensures err { OnErr result (table.new ≡ table.old) }
     ensures err_descent { OnErr result (descent.new ≡ descent.old) }
 {
-    let at = inner_place(descent.stand());
+    let at = tuple_place(descent.stand());
     let upper = upper_tuple(alloc, upper_prefix, upper_labels)?;
     let lower = lower_tuple(alloc, table.page(at.block), at.offset, lower_prefix)?;
     part_tuple(alloc, table, at, child, &upper, &lower, seat)?;
