@@ -3,6 +3,7 @@ pub mod Adding
 pub mod Leaving
 pub mod MoveLaw
 pub mod Standing
+pub mod Picks
 pub mod SplitHomes
 pub mod SplitPages
 pub mod SplitLaw

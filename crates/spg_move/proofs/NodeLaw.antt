@@ -1,6 +1,7 @@
 -- A node put into an inner tuple that stays in its place.
 use Rattle.std.proofs.Common.{◌≡◌, ℕ, ◌≤◌, false, List, [], ◌∷◌, Option, Some, None, get_or, set, length, length-set, ⊎_elim, refl, sym, ap, ◌∙◌, subst, inl, arith}
 use Rattle.std.proofs.lemmas.Bool.{cases_eq}
+use Rattle.std.proofs.lemmas.List.Edits.{get_or-insert_at}
 use Rattle.std.specs.Prelude.{ℤ}
 use Rattle.spg_opclass.specs.Meaning.{Meaning}
 use Rattle.spg_opclass.specs.Laws.{AddLaw, CodeLaw}
@@ -9,7 +10,7 @@ use Rattle.spg_forest.specs.View.{Place}
 use Rattle.spg_forest.specs.Spot.{Frame, Branch, put_at}
 use Rattle.spg_forest.specs.Tuples.{Tuple, Inner}
 use Rattle.spg_forest.specs.Pages.{with_tuple}
-use Rattle.spg_forest.specs.Sheets.{Sheet, Sheets, sheet_at, with_tuples, weight}
+use Rattle.spg_forest.specs.Sheets.{Sheet, Sheets, sheet_at, with_tuples, weight, links}
 use Rattle.spg_forest.specs.Shape.{Shape, spots}
 use Rattle.spg_forest.specs.Section.{Leaves}
 use Rattle.spg_forest.specs.Walk.{spread}
@@ -20,16 +21,17 @@ use Rattle.spg_forest.proofs.Edits.{sheet_same, sheet_other, tuple_put}
 use Rattle.spg_forest.proofs.Joins.{weight_replaced}
 use Rattle.spg_forest.proofs.Keeping.{leaves_coming}
 use Rattle.spg_forest.proofs.Sections.{shape_shown}
-use Rattle.spg_forest.proofs.Spots.{put_at_same, put_at_other}
+use Rattle.spg_forest.proofs.Spots.{put_at_same, put_at_other, cases_place}
 use Rattle.spg_forest.proofs.Stock.{tuple_is, pages_kept}
-use Rattle.spg_page.specs.Kinds.{kind_of}
+use Rattle.spg_page.specs.Kinds.{IsInner, kind_of}
 use Rattle.spg_page.specs.Reads.{frame_in}
 use Rattle.spg_tree.specs.Table.{Table, sheets_of, tuples_at, tuple_at}
 use Rattle.spg_tree.specs.Descents.{Descending, in_nulls, with_node}
 use Rattle.spg_tree.specs.declared.stand.Stand.{Stand}
 use Rattle.spg_tree.specs.declared.stand.Stand.TheVariants.{Start, Root, At, Empty}
 use Rattle.spg_descend.specs.Carried.{carried, IsCarried, WayFits}
-use Rattle.spg_descend.specs.Follows.{IsAtInner, tuple_place}
+use Rattle.spg_descend.specs.Follows.{IsAtInner, tuple_place, link_of}
+use Rattle.spg_descend.specs.Makes.{MakesNone}
 use Rattle.spg_descend.specs.Puts.{IsQuiet}
 use Rattle.spg_descend.proofs.PutLaws.{kind_kept}
 use Rattle.spg_split.proofs.ChainPages.{Stage, begin_stage}
@@ -149,8 +151,16 @@ module _ {Key Recon Cond : Type 0} (m : Meaning Key Recon Cond) (adds : AddLaw m
             )
         go Empty pa es ep a J = absurd a
 
+    -- the node put in leads nowhere, and no inner tuple is made
+    nowhere_now : link_of (widened_table t x (Inner w2 ns2)) x at ≡ None
+    nowhere_now = ap (λ (u : Tuple). get_or (links u) at None) tuple_now ∙ get_or-insert_at ns at None None (standing.place_within m adds codes t d at label H A main K W)
+
+    makes : MakesNone t (widened_table t x (Inner w2 ns2))
+    makes z e = ⊎_elim (λ q. subst (λ (k : Place). IsInner (tuple_at t k)) (sym q) (standing.here m adds codes t d at label H A main K W).2)
+        (λ n. subst IsInner (ap (λ (F : Place → Tuple). F z) (tuple_put S x (Inner w2 ns2) can) ∙ put_at_other (tuple_of S) x (Inner w2 ns2) z n) e) (cases_place z x)
+
     widens : Widens m t (widened_table t x (Inner w2 ns2)) d (with_node d) at label (λ z. z)
-    widens = record { leaves = leaves; inner = inner_now; frame = ap frame_in tuple_now; carries = carries }
+    widens = record { leaves = leaves; inner = inner_now; frame = ap frame_in tuple_now; nowhere = nowhere_now; carries = carries }
 
     pub added_here : (t2 : Table) (d2 : Descending Recon) → t2 ≡ widened_table t x (widened (tuple_at t x) at label) → d2 ≡ with_node d → IsNodeAdded m t t2 d d2 at label
-    added_here t2 d2 et ed = subst (λ (u : Table). IsNodeAdded m t u d d2 at label) (sym et) (subst (λ (e : Descending Recon). IsNodeAdded m t (widened_table t x (Inner w2 ns2)) d e at label) (sym ed) (inl (refl, quiet, link_now, widens)))
+    added_here t2 d2 et ed = subst (λ (u : Table). IsNodeAdded m t u d d2 at label) (sym et) (subst (λ (e : Descending Recon). IsNodeAdded m t (widened_table t x (Inner w2 ns2)) d e at label) (sym ed) (inl (refl, quiet, makes, link_now, widens)))

@@ -1,6 +1,7 @@
 -- What comes of an inner tuple that goes to a picked page with one more node.
 use Rattle.std.proofs.Common.{◌≡◌, ℕ, ◌+◌, ◌≤◌, ◌<◌, Bool, false, List, Option, Some, None, get_or, set, length, refl, sym, ap, ◌∙◌, subst, inl, inr, arith}
-use Rattle.std.specs.Prelude.{ℤ}
+use Rattle.std.specs.Prelude.{ℤ, ◌%◌}
+use Rattle.std.proofs.lemmas.List.Edits.{get_or-insert_at}
 use Rattle.spg_opclass.specs.Meaning.{Meaning}
 use Rattle.spg_opclass.specs.Laws.{AddLaw, CodeLaw}
 use Rattle.spg_opclass.specs.declared.view.Choice.TheVariants.{Add}
@@ -32,15 +33,18 @@ use Rattle.spg_tree.specs.declared.stand.Stand.{Stand}
 use Rattle.spg_tree.specs.declared.stand.Stand.TheVariants.{Start, Root, At, Empty}
 use Rattle.spg_descend.specs.Below.{IsLink, IsTicked}
 use Rattle.spg_descend.specs.Carried.{carried, IsCarried}
-use Rattle.spg_descend.specs.Follows.{IsAtInner, tuple_place}
+use Rattle.spg_descend.specs.Follows.{IsAtInner, tuple_place, link_of}
+use Rattle.spg_descend.specs.Makes.{MakesOne}
+use Rattle.spg_descend.proofs.Makes.{makes_same}
 use Rattle.spg_split.specs.Below.{IsLedTo}
 use Rattle.spg_split.specs.Writing.{new_place}
 use Rattle.spg_descend.specs.Answers.{IsAnswered}
 use Rattle.spg_move.specs.Answers.{IsInnerOf}
-use Rattle.spg_move.specs.Nodes.{node_cost, Widens, IsNodeAdded}
+use Rattle.spg_move.specs.Nodes.{node_cost, FitsWider, Widens, IsNodeAdded}
 use Rattle.spg_move.specs.Widening.{widened, shifted_table, blocks_shifted, node_want, IsHung, IsShifted, IsShiftedAt, IsShiftedFrom}
-use Rattle.spg_move.proofs.NodePicks.{PicksPage, picks_page, shifted_few, IsAway, away}
-use Rattle.spg_move.proofs.NodeShift.{CanShift, S2, shifts, y_now, p_now, leads_now, count_now, kinds_now, table_is}
+use Rattle.spg_move.proofs.Picks.{PicksPage, picks_page}
+use Rattle.spg_move.proofs.NodePicks.{shifted_few, IsAway, away}
+use Rattle.spg_move.proofs.NodeShift.{CanShift, S2, shifts, y_now, p_now, leads_now, count_now, kinds_now, table_is, makes_one}
 use Rattle.spg_move.proofs.NodeStanding as standing
 
 -- a pick changes no tuple
@@ -202,18 +206,28 @@ module _ {Key Recon Cond : Type 0} (m : Meaning Key Recon Cond) (adds : AddLaw m
           way = subst (λ (z : Place). FitAt (class_of m) (spots (sheets_of T)) (Some key) z d.recon) (moved_here x y x refl) N.fits;
         }
 
-    widens : Widens m t T d (with_node (placed d (At y) d.parent)) at label (moved x y)
-    widens = record { leaves = leaves; inner = inner; frame = ap frame_in tuple_T; carries = carries }
+    -- the node put in leads nowhere, and the one inner tuple that is made is the longer one
+    nowhere : link_of T y at ≡ None
+    nowhere = ap (λ (v : Tuple). get_or (links v) at None) tuple_T ∙ get_or-insert_at ns at None None (standing.place_within m adds codes t d at label H A main K W)
 
-    pub moved_there : (t2 : Table) (d2 : Descending Recon) (to : Place) → to ≡ y → t2 ≡ T → d2 ≡ with_node (placed d (At to) d.parent) → IsNodeAdded m t t2 d d2 at label
-    moved_there t2 d2 to e et ed =
+    makes : MakesOne t T y
+    makes z n e = makes_same t t1 P.tuples z (makes_one m t1 b x p i w w2 ns ns2 wp nsp can bs z n e)
+
+    same_parity : y.block % 3 ≡ x.block % 3
+    same_parity = P.parity
+
+    widens : Widens m t T d (with_node (placed d (At y) d.parent)) at label (moved x y)
+    widens = record { leaves = leaves; inner = inner; frame = ap frame_in tuple_T; nowhere = nowhere; carries = carries }
+
+    pub moved_there : (FitsWider t d at label → ⊥) → (t2 : Table) (d2 : Descending Recon) (to : Place) → to ≡ y → t2 ≡ T → d2 ≡ with_node (placed d (At to) d.parent) → IsNodeAdded m t t2 d d2 at label
+    moved_there wide t2 d2 to e et ed =
         subst (λ (u : Table). IsNodeAdded m t u d d2 at label) (sym et)
         (subst (λ (z : Descending Recon). IsNodeAdded m t T d z at label) (sym (ed ∙ ap (λ (z : Place). with_node (placed d (At z) d.parent)) e))
-        (inr (y, refl, ticks, subst (λ (q : Option (Place × ℕ)). IsLedTo T q y) (sym pa) led, widens)))
+        (inr (wide, y, refl, ticks, makes, same_parity, subst (λ (q : Option (Place × ℕ)). IsLedTo T q y) (sym pa) led, widens)))
 
   -- the tuple has gone to a picked page
-  pub shifted_out : (t2 : Table) (d2 : Descending Recon) (u : Tuple) (seat : ℕ) (to : Place) → IsShiftedFrom t t2 d u seat to → u ≡ widened (tuple_at t x) at label → d2 ≡ with_node (placed d (At to) d.parent) → IsNodeAdded m t t2 d d2 at label
-  shifted_out t2 d2 u seat to R eu ed = go d.stand d.parent refl refl R
+  pub shifted_out : (FitsWider t d at label → ⊥) → (t2 : Table) (d2 : Descending Recon) (u : Tuple) (seat : ℕ) (to : Place) → IsShiftedFrom t t2 d u seat to → u ≡ widened (tuple_at t x) at label → d2 ≡ with_node (placed d (At to) d.parent) → IsNodeAdded m t t2 d d2 at label
+  shifted_out wide t2 d2 u seat to R eu ed = go d.stand d.parent refl refl R
     where
       go : (st : Stand) (pa : Option (Place × ℕ)) → d.stand ≡ st → d.parent ≡ pa → IsShiftedAt t t2 d st pa u seat to → IsNodeAdded m t t2 d d2 at label
       go Start pa eq ep r = absurd r
@@ -226,5 +240,5 @@ module _ {Key Recon Cond : Type 0} (m : Meaning Key Recon Cond) (adds : AddLaw m
           let hung : IsHung t x p i = subst (λ (v : Place). IsHung t v p i) (sym ex) (standing.hung_at m t H (in_nulls d) d.stand d.parent z p i eq ep A) in
           let link : IsLink t p i x = subst (λ (v : Place). IsLink t p i v) (sym ex) a.2 in
           let s : IsShifted t t2 (in_nulls d) x p i (widened (tuple_at t x) at label) seat to = subst (λ (v : Tuple). IsShifted t t2 (in_nulls d) x p i v seat to) eu (subst (λ (v : Place). IsShifted t t2 (in_nulls d) v p i u seat to) (sym ex) r) in
-          moved_there p i ep high hung link s.picked s.block seat s.picks s.is_picked t2 d2 to s.at s.after ed
+          moved_there p i ep high hung link s.picked s.block seat s.picks s.is_picked wide t2 d2 to s.at s.after ed
       go Empty pa eq ep r = absurd r

@@ -21,13 +21,15 @@ use Rattle.spg_forest.proofs.Joins.{weight_replaced, stands_within}
 use Rattle.spg_forest.proofs.Move.{put_swap}
 use Rattle.spg_forest.proofs.Relocate.{within_from_some}
 use Rattle.spg_forest.proofs.Sections.{shape_shown}
-use Rattle.spg_forest.proofs.Spots.{put_at_same, put_at_other, put_elim}
+use Rattle.spg_forest.proofs.Spots.{put_at_same, put_at_other, put_elim, cases_place}
 use Rattle.spg_forest.proofs.Stock.{tuple_is, pages_kept}
 use Rattle.spg_forest.proofs.Writes.{inner_at}
 use Rattle.spg_page.specs.Changes.{room_of}
+use Rattle.spg_page.specs.Kinds.{IsInner}
 use Rattle.spg_page.proofs.SheetFacts.{added_fits, free_place_free}
 use Rattle.spg_tree.specs.Table.{Table, sheets_of, tuples_at, tuple_at, with_touched}
 use Rattle.spg_tree.specs.Table as table
+use Rattle.spg_descend.specs.Makes.{MakesOne}
 use Rattle.spg_split.proofs.ChainPages.{Stage}
 use Rattle.spg_split.specs.Writing.{new_place}
 use Rattle.spg_move.specs.Widening.{shifted_table, IsHung}
@@ -233,3 +235,13 @@ module _ {Key Recon Cond : Type 0} (m : Meaning Key Recon Cond) (u : Table) (b :
   -- the pages of the table
   pub table_is : (bs : List ℕ) → sheets_of (with_touched (shifted_table u b x p i (Inner w2 ns2)) bs) ≡ S2
   table_is bs = ap (λ (v : Tuple). put Sx p (linked v i (Some y))) p_kept
+
+  -- but at y, an inner tuple stands only where one stood
+  made : (z : Place) → (z ≡ y → ⊥) → IsInner (tuple_of S2 z) → IsInner (tuple_at u z)
+  made z n e = ⊎_elim (λ q. subst (λ (k : Place). IsInner (tuple_at u k)) (sym q) (subst IsInner (sym D.above) refl))
+      (λ np. ⊎_elim (λ q. subst (λ (k : Place). IsInner (tuple_at u k)) (sym q) (subst IsInner (sym D.here) refl))
+      (λ nx. subst IsInner (ap (λ (F : Place → Tuple). F z) tuples_now ∙ put_at_other (put_at (put_at (tuple_of S0) y (Inner w2 ns2)) x red) p (Inner wp gs) z np
+      ∙ put_at_other (put_at (tuple_of S0) y (Inner w2 ns2)) x red z nx ∙ put_at_other (tuple_of S0) y (Inner w2 ns2) z n) e) (cases_place z x)) (cases_place z p)
+
+  pub makes_one : (bs : List ℕ) → MakesOne u (with_touched (shifted_table u b x p i (Inner w2 ns2)) bs) (new_place u b)
+  makes_one bs z n e = made z n (subst (λ (Z : Sheets). IsInner (tuple_of Z z)) (table_is bs) e)

@@ -8,11 +8,11 @@ use Rattle.spg_opclass.specs.Laws.{AddLaw, CodeLaw, IsAdd}
 use Rattle.spg_opclass.specs.declared.view.Choice.TheVariants.{Add}
 use Rattle.spg_forest.specs.View.{Place}
 use Rattle.spg_forest.specs.Spot.{Frame, Spot, Branch, child_of}
-use Rattle.spg_forest.specs.Tuples.{Tuple, Inner, Live, Dead, Redirect, Placeholder}
+use Rattle.spg_forest.specs.Tuples.{Tuple, Inner}
 use Rattle.spg_forest.specs.Pages.{place, tuple_on, page_of}
 use Rattle.spg_forest.specs.Classes.{class_of, key_of, HasRecon}
 use Rattle.spg_forest.specs.Fit.{FitAt}
-use Rattle.spg_forest.specs.Sheets.{Sheets, pages_of, size_of, weight, links}
+use Rattle.spg_forest.specs.Sheets.{Sheet, Sheets, pages_of, size_of, weight, links}
 use Rattle.spg_forest.specs.Shape.{Shape, AreNodes, IsKindOf, IsTupleOf, spots}
 use Rattle.spg_forest.specs.Edits.{spot_of, CanPut}
 use Rattle.spg_forest.specs.Changes.{IsLonger}
@@ -37,14 +37,9 @@ use Rattle.spg_descend.proofs.EmptyLaw.{inner_within}
 use Rattle.spg_descend.proofs.FollowLaw.{is_within, fit_here}
 use Rattle.spg_descend.specs.Answers.{IsAnswered}
 use Rattle.spg_move.specs.Answers.{IsInnerOf}
+use Rattle.spg_move.specs.Nodes.{FitsWider}
 use Rattle.spg_move.specs.Widening.{widened, FitsInPlace, IsHung}
-
-pub inner_is : (u : Tuple) → IsInner u → u ≡ Inner (frame_in u) (links u)
-inner_is (Inner w ns) e = refl
-inner_is (Live l n) e = cc
-inner_is Dead e = cc
-inner_is (Redirect y u) e = cc
-inner_is Placeholder e = cc
+use Rattle.spg_move.proofs.SplitStanding.{inner_is}
 
 pub at_inner : (t : Table) (nulls : Bool) (st : Stand) (pa : Option (Place × ℕ)) → IsInnerOf t nulls st pa → IsAtInner t st
 at_inner t nulls Start pa a = absurd a
@@ -52,6 +47,12 @@ at_inner t nulls (Root b) pa a = a.1
 at_inner t nulls (At x) None a = absurd a
 at_inner t nulls (At x) (Some (p, i)) a = a.0
 at_inner t nulls Empty pa a = absurd a
+
+-- what the code compares
+pub not_wider : {Recon : Type 0} (t : Table) (d : Descending Recon) (at : ℕ) (label : ℤ) (page : Sheet) (here : Place) (u : Tuple) → page ≡ table.sheet_at t here.block → here ≡ tuple_place d.stand → u ≡ widened (tuple_at t (tuple_place d.stand)) at label →
+    (FitsInPlace page.tuples here.offset u → ⊥) → FitsWider t d at label → ⊥
+not_wider t d at label page here u ep eh eu n f = n (subst (λ (s : Sheet). FitsInPlace s.tuples here.offset u) (sym ep)
+    (subst (λ (z : Place). FitsInPlace (tuples_at t z.block) z.offset u) (sym eh) (subst (λ (v : Tuple). FitsInPlace (tuples_at t (tuple_place d.stand).block) (tuple_place d.stand).offset v) (sym eu) f)))
 
 -- the size of a list with one inner tuple
 alone_size : (ts : List Tuple) (v : Frame) (ms : List (Option Place)) → ts ≡ Inner v ms ∷ [] → weight ts ≡ size_of (tuple_on ts 1) + 4

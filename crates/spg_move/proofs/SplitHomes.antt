@@ -1,27 +1,24 @@
 -- The page for the lower tuple of a split, and the blocks that a split touches.
-use Rattle.std.proofs.Common.{◌≡◌, ℕ, zero, suc, ◌+◌, ◌-◌, ◌*◌, ◌≤◌, ◌<◌, ◌&&◌, ◌||◌, nat_le, nat_eq, min, Bool, true, false, List, [], ◌∷◌, ◌++◌, ◌⊎◌, ⊎_elim, Option, length, length-append, length-set, refl, sym, ap, ◌∙◌, subst, inl, inr, arith}
-use Rattle.std.specs.Prelude.{if◌then◌else◌, ◌%◌}
+use Rattle.std.proofs.Common.{◌≡◌, ℕ, ◌+◌, ◌-◌, ◌*◌, ◌≤◌, ◌<◌, ◌&&◌, nat_le, min, Bool, true, false, List, [], ◌∷◌, ◌++◌, ◌⊎◌, ⊎_elim, length, length-append, refl, sym, ap, ◌∙◌, subst, inl, inr, arith}
+use Rattle.std.specs.Prelude.{◌%◌}
 use Rattle.std.specs.List.{range_with_len}
-use Rattle.std.proofs.lemmas.Bool.{cases_eq, cases_lt, leb-true, eqb-true}
-use Rattle.std.proofs.lemmas.List.{get_or_past}
+use Rattle.std.proofs.lemmas.Bool.{cases_lt, leb-true}
 use Rattle.std.proofs.lemmas.List.FromFn.{length-range_with_len}
 use Rattle.spg_forest.specs.View.{Place}
 use Rattle.spg_forest.specs.Tuples.{Tuple, Inner, Live, Dead, Redirect, Placeholder, IsAmong}
 use Rattle.spg_forest.specs.Pages.{tuple_on, with_tuple}
-use Rattle.spg_forest.specs.Sheets.{Sheet, blank, size_of, weight, gap, gaps}
+use Rattle.spg_forest.specs.Sheets.{Sheet, size_of, weight, gap, gaps}
 use Rattle.spg_forest.specs.Edits.{IsPicked as IsPickedIn}
-use Rattle.spg_forest.proofs.Edits.{sheet_same}
 use Rattle.spg_forest.proofs.Flat.{none_on}
 use Rattle.spg_page.specs.Changes.{room_of}
 use Rattle.spg_page.specs.Kinds.{IsOffset, IsInner}
 use Rattle.spg_page.proofs.SheetFacts.{weight-replaced, gaps-replaced}
 use Rattle.spg_tree.specs.Table.{Table, sheets_of, sheet_at, tuples_at, latch_at}
-use Rattle.spg_tree.specs.declared.want.Want.{Want}
-use Rattle.spg_tree.specs.Pick.{Picks, first_from, has_parity, fresh}
-use Rattle.spg_tree.specs.Picked.{IsPicked}
 use Rattle.spg_split.specs.Homes.{another}
+use Rattle.spg_split.proofs.Housing.{held}
 use Rattle.spg_split.proofs.Written.{tuples_same, tuples_other}
 use Rattle.spg_move.specs.Splitting.{upper_table, fits_beside, lower_want, IsHome, GoesTo, split_touched, MayPart}
+use Rattle.spg_move.proofs.Picks.{picks_page, left_among, right_among, range_among, another_few, another_cases}
 
 inner_gap : (t : Tuple) → IsInner t → gap t ≡ 0
 inner_gap (Inner w ns) e = refl
@@ -49,40 +46,13 @@ room_is t x up page room old new M e r a b =
     let p = ap (λ (s : Sheet). room_of s.tuples 1) e in let q = ap (λ (s : Sheet). size_of (tuple_on s.tuples x.offset)) e in
     omega arith
 
-past_none : (t : Table) (c : ℕ) → length t.pages ≤ c → sheet_at t c ≡ blank false
-past_none t c h = get_or_past t.pages c (blank false) h
-
-first_past : (n : ℕ) (p : Option ℕ) → n ≤ first_from n p
-first_past n p = go (has_parity p n) (has_parity p (n + 1))
-  where
-    go : (a b : Bool) → n ≤ (if a then n else (if b then n + 1 else n + 2))
-    go true b = omega arith
-    go false true = omega arith
-    go false false = omega arith
-
-picks_any : (t u : Table) (w : Want) (b : ℕ) → 3 ≤ length t.pages → IsPicked t w b u → Picks t w b u → IsPickedIn (sheets_of t) (sheets_of u)
-picks_any t u w b roots P Q = record { clock = P.clock; count = P.least; same = λ c. ⊎_elim (λ e. subst (λ i. Same i) (sym e) (here Q)) (λ n. ⊎_elim (λ h. inl (P.others c h n)) (λ h. behind c h) (cases_lt c (length t.pages))) (cases_eq c b) }
-  where
-    Same : ℕ → Type 0
-    Same c = (sheet_at u c ≡ sheet_at t c) ⊎ ((3 ≤ c) × (tuples_at t c ≡ []) × (tuples_at u c ≡ []))
-
-    behind : (c : ℕ) → length t.pages ≤ c → Same c
-    behind c h = let e : tuples_at t c ≡ [] = ap (λ (s : Sheet). s.tuples) (past_none t c h) in inr (omega arith, e, P.tuples c ∙ e)
-
-    here : Picks t w b u → Same b
-    here (inl R) = inl (ap (λ (z : Table). sheet_at z b) R.same)
-    here (inr (inl V)) =
-        let k = ap (λ (z : Table). length z.pages) V.after ∙ length-set t.pages b (fresh w) in
-        let e : tuples_at u b ≡ [] = ap (λ (z : Table). tuples_at z b) V.after ∙ ap (λ (s : Sheet). s.tuples) (sheet_same (sheets_of t) b (fresh w) (let a = P.there in omega arith)) in
-        inr (P.from, sym (P.tuples b) ∙ e, e)
-    here (inr (inr N)) = let e = N.block in let f = first_past (length t.pages) w.parity in behind b (omega arith)
-
 -- the pages as they are then: h is the home of a tuple of this size
 pub record IsHoused (t u : Table) (x : Place) (up : Tuple) (h need : ℕ) : Type 0 where
   pub pages : IsPickedIn (sheets_of t) (sheets_of u)
   pub others : (c : ℕ) → (c ≡ h → ⊥) → (c < length t.pages) ⊎ (length u.pages ≤ c) → sheet_at u c ≡ sheet_at t c
   pub more : length u.pages ≤ length t.pages + 3
   pub from : 3 ≤ h
+  pub next : (h ≡ x.block) ⊎ (h % 3 ≡ (x.block % 3 + 1) % 3)
   pub there : h < length u.pages
   pub kind : (sheet_at u h).inner ≡ true
   pub tree : (sheet_at u h).nulls ≡ (sheet_at t x.block).nulls
@@ -112,6 +82,7 @@ module _ (t : Table) (x : Place) (up low : Tuple) (roots : 3 ≤ length t.pages)
         others = λ c n k. refl;
         more = omega arith;
         from = omega arith;
+        next = inl eh;
         there = omega arith;
         kind = ap (λ i. (sheet_at t i).inner) eh ∙ inner;
         tree = ap (λ i. (sheet_at t i).nulls) eh;
@@ -124,18 +95,19 @@ module _ (t : Table) (x : Place) (up low : Tuple) (roots : 3 ≤ length t.pages)
         tuples = λ c. refl;
       })
   housed_by false u h seat eb (Q, P) =
-      let A = picks_any t u (lower_want (sheet_at t x.block).nulls x.block low seat) h roots P Q in
+      let A = picks_page t u (lower_want (sheet_at t x.block).nulls x.block low seat) h roots P Q in
       let apart : h ≡ x.block → ⊥ = λ e. let k = P.parity in let j = ap (λ n. n % 3) e in absurd (omega arith) in
       record {
-        pages = A;
-        others = λ c n k. ⊎_elim (λ g. P.others c g n) (λ g. let m = P.least in past_none u c g ∙ sym (past_none t c (omega arith))) k;
+        pages = A.pages;
+        others = A.others;
         more = P.most;
         from = P.from;
+        next = inr P.parity;
         there = P.there;
         kind = P.kind;
         tree = P.tree;
         room = subst (λ (ts : List Tuple). size_of low + 4 ≤ room_of ts 1) (sym (tuples_other u x.block (with_tuple (tuples_at u x.block) x.offset up) h apart)) P.room;
-        here = ⊎_elim (λ e. e) (λ (g, e, f). absurd (x_some e)) (A.same x.block);
+        here = held t u x.block A.pages x_some;
         latches = P.latches;
         limit = P.limit;
         clock = P.clock;
@@ -147,38 +119,6 @@ module _ (t : Table) (x : Place) (up low : Tuple) (roots : 3 ≤ length t.pages)
   housed u h seat G = housed_by (fits_beside t x up low) u h seat refl G
 
 -- ---- the blocks touched
-left_among : (e : ℕ) (xs ys : List ℕ) → IsAmong e xs → IsAmong e (xs ++ ys)
-left_among e [] ys a = absurd a
-left_among e (x ∷ xs) ys (inl q) = inl q
-left_among e (x ∷ xs) ys (inr a) = inr (left_among e xs ys a)
-
-right_among : (e : ℕ) (xs ys : List ℕ) → IsAmong e ys → IsAmong e (xs ++ ys)
-right_among e [] ys a = a
-right_among e (x ∷ xs) ys a = inr (right_among e xs ys a)
-
-range_among : (n a e : ℕ) → a ≤ e → e < a + n → IsAmong e (range_with_len a n)
-range_among zero a e h k = absurd (omega arith)
-range_among (suc n) a e h k = ⊎_elim (λ q. inl q) (λ q. inr (range_among n (a + 1) e (⊎_elim (λ z. absurd (q (omega arith))) (λ z. z) (cases_lt e (a + 1))) (omega arith))) (cases_eq e a)
-
-another_few : (b o end : ℕ) → length (another b o end) ≤ 1
-another_few b o end = go (nat_eq b o || nat_le end b)
-  where
-    go : (x : Bool) → length (if x then [] else b ∷ []) ≤ 1
-    go true = omega arith
-    go false = omega arith
-
-or_cases : (a b : Bool) → a || b ≡ true → (a ≡ true) ⊎ (b ≡ true)
-or_cases true b e = inl refl
-or_cases false b e = inr e
-
--- a block is the other one, or new, or named
-another_cases : (b o end : ℕ) → (b ≡ o) ⊎ (end ≤ b) ⊎ IsAmong b (another b o end)
-another_cases b o end = go (nat_eq b o || nat_le end b) refl
-  where
-    go : (x : Bool) → nat_eq b o || nat_le end b ≡ x → (b ≡ o) ⊎ (end ≤ b) ⊎ IsAmong b (if x then [] else b ∷ [])
-    go true e = ⊎_elim (λ q. inl (eqb-true b o q)) (λ q. inr (inl (leb-true end b q))) (or_cases (nat_eq b o) (nat_le end b) e)
-    go false e = inr (inr (inl refl))
-
 pub touched_few : (b h before now : ℕ) → now ≤ before + 3 → length (split_touched b h before now) ≤ 8
 touched_few b h before now le =
     let x = another_few h b before in

@@ -1,6 +1,6 @@
 -- The split of an inner tuple as the insert and its callers see it.
 use Rattle.std.proofs.lemmas.List.{length-replicate}
-use Rattle.std.proofs.Common.{◌≡◌, ℕ, ◌+◌, ◌≤◌, ◌<◌, ℤ, false, List, [], ⊎_elim, Option, Some, None, get_or, length, refl, sym, ap, ◌∙◌, subst, arith}
+use Rattle.std.proofs.Common.{◌≡◌, ℕ, ◌+◌, ◌≤◌, ◌<◌, ℤ, Bool, false, List, [], ⊎_elim, Option, Some, None, get_or, length, refl, sym, ap, ◌∙◌, subst, arith}
 use Rattle.spg_base.specs.Row.{RowAt}
 use Rattle.spg_opclass.specs.Meaning.{Meaning, upper, lower}
 use Rattle.spg_opclass.specs.Laws.{SplitLaw, CodeLaw, inner_size}
@@ -29,17 +29,24 @@ use Rattle.spg_tree.specs.Descents.{Descending, in_nulls, risen}
 use Rattle.spg_tree.specs.declared.stand.Stand.{Stand}
 use Rattle.spg_tree.specs.declared.stand.Stand.TheVariants.{Start, Root, At, Empty}
 use Rattle.spg_descend.specs.Carried.{IsCarried, WayFits}
-use Rattle.spg_descend.specs.Follows.{IsAtInner, tuple_place}
+use Rattle.spg_descend.specs.Follows.{IsAtInner, tuple_place, link_of}
+use Rattle.spg_descend.specs.Makes.{MakesOne}
+use Rattle.spg_descend.proofs.Makes.{makes_same}
 use Rattle.spg_descend.specs.Puts.{IsQuiet}
 use Rattle.spg_split.specs.Parts.{bare}
 use Rattle.spg_descend.specs.Answers.{IsAnswered}
 use Rattle.spg_move.specs.Answers.{IsInnerOf}
-use Rattle.spg_move.specs.Splits.{PartsTuple, split_cost}
-use Rattle.spg_move.specs.Splitting.{split_touched, MayPart, IsParted}
+use Rattle.spg_move.specs.Splits.{PartsTuple, split_cost, lower_want_at}
+use Rattle.spg_move.specs.Splitting.{lower_want, split_touched, MayPart, IsParted}
 use Rattle.spg_move.proofs.SplitHomes.{IsHoused, housed, IsAway, away, touched_few}
 use Rattle.spg_move.proofs.SplitLaw.{IsDivision}
 use Rattle.spg_move.proofs.SplitLaw as law
 use Rattle.spg_move.proofs.SplitStanding as standing
+
+-- what is no place is none
+none_else : (o : Option Place) → ((z : Place) → o ≡ Some z → ⊥) → o ≡ None
+none_else None k = refl
+none_else (Some z) k = absurd (k z refl)
 
 module _ {Key Recon Cond : Type 0} (m : Meaning Key Recon Cond) (t : Table) (H : Shape m (sheets_of t)) (splits : SplitLaw m) (codes : CodeLaw m) (d : Descending Recon) (c : ℕ) (pre low : List ℕ) (labels : List ℤ) (I : IsInnerOf t (in_nulls d) d.stand d.parent) (N : in_nulls d ≡ false)
     (K : (key : Option Key) × IsCarried m (sheets_of t) d key) (A : IsAnswered m t d (Split pre labels c low)) where
@@ -209,13 +216,25 @@ module _ {Key Recon Cond : Type 0} (m : Meaning Key Recon Cond) (t : Table) (H :
       roots = kinds_now;
     }
 
-    pub parts : (d2 : Descending Recon) → d2 ≡ risen d → PartsTuple m t t2 d d2 pre labels
-    parts d2 e = subst (λ (z : Descending Recon). PartsTuple m t t2 d z pre labels) (sym e) (record {
+    -- ---- the inner tuple that is made, and where the nodes lead
+    made_now : MakesOne t t2 y
+    made_now z n e = makes_same t u HH.tuples z (law.made m u x c h w ns pre low labels D z n (subst (λ (Z : Sheets). IsInner (tuple_of Z z)) after_is e))
+
+    child_now : link_of t2 x c ≡ Some y
+    child_now = ap (λ (a : Tuple). get_or (links a) c None) x_after ∙ law.us_child m u x c h w ns pre low labels D
+
+    others_now : (i : ℕ) → (i ≡ c → ⊥) → link_of t2 x i ≡ None
+    others_now i n = ap (λ (a : Tuple). get_or (links a) i None) x_after ∙ none_else (get_or us i None) (λ z e. n (law.us_alone m u x c h w ns pre low labels D i z e))
+
+    pub parts : (d2 : Descending Recon) → d2 ≡ risen d → PartsTuple m t t2 d d2 pre labels c
+    parts d2 e = subst (λ (z : Descending Recon). PartsTuple m t t2 d z pre labels c) (sym e) (record {
       after = refl;
       quiet = quiet;
       leaves = leaves;
       inner = inner_now;
       frame = ap frame_in x_after;
+      lower = (y, child_now, made_now, HH.next);
+      others = others_now;
       link = link_now;
       carries = carries;
     })
@@ -244,5 +263,12 @@ module _ {Key Recon Cond : Type 0} (m : Meaning Key Recon Cond) (t : Table) (H :
           let l : length (bare (length labels)) ≡ length labels = length-replicate (length labels) None in
           let k = (standing.split m t H splits codes d c pre low labels I N K A).child_there in omega arith
 
-      pub parts_of : (t2 : Table) (seat : ℕ) (d2 : Descending Recon) → IsParted t t2 at c seat a b → d2 ≡ risen d → PartsTuple m t t2 d d2 pre labels
-      parts_of t2 seat d2 P e = parts t2 seat (subst (λ (o : Place). IsParted t t2 o c seat up lo) place_is (subst (λ (z : Tuple). IsParted t t2 at c seat z lo) upper_is (subst (λ (z : Tuple). IsParted t t2 at c seat a z) (lower_is ∙ ap (λ (z : Tuple). Inner (lower (frame_in z) low) (links z)) tuple_is) P))) d2 e
+      lower_same : b ≡ lo
+      lower_same = lower_is ∙ ap (λ (z : Tuple). Inner (lower (frame_in z) low) (links z)) tuple_is
+
+      pub want_is : (seat : ℕ) → lower_want (table.sheet_at t at.block).nulls at.block b seat ≡ lower_want_at t d low seat
+      want_is seat = ap (λ (z : Tuple). lower_want (table.sheet_at t at.block).nulls at.block z seat) lower_same ∙ ap (λ (o : Place). lower_want (table.sheet_at t o.block).nulls o.block lo seat) place_is
+          ∙ ap (λ (n : Bool). lower_want n x.block lo seat) (standing.main m t H splits codes d c pre low labels I N K A ∙ sym N)
+
+      pub parts_of : (t2 : Table) (seat : ℕ) (d2 : Descending Recon) → IsParted t t2 at c seat a b → d2 ≡ risen d → PartsTuple m t t2 d d2 pre labels c
+      parts_of t2 seat d2 P e = parts t2 seat (subst (λ (o : Place). IsParted t t2 o c seat up lo) place_is (subst (λ (z : Tuple). IsParted t t2 at c seat z lo) upper_is (subst (λ (z : Tuple). IsParted t t2 at c seat a z) lower_same P))) d2 e

@@ -23,6 +23,7 @@ use Rattle.spg_forest.proofs.Spots.{put_at_same, put_at_other, cases_place}
 use Rattle.spg_forest.proofs.Stock.{tuple_is, changed_none, changed_put, pages_kept, spread_put}
 use Rattle.spg_forest.proofs.Writes.{inner_at}
 use Rattle.spg_page.specs.Changes.{room_of}
+use Rattle.spg_page.specs.Kinds.{IsInner}
 use Rattle.spg_page.proofs.SheetFacts.{free_place_free, free_place_length, added_fits}
 use Rattle.spg_tree.specs.Table.{Table, sheets_of, tuples_at, tuple_at}
 use Rattle.spg_split.specs.Parts.{bare}
@@ -276,3 +277,10 @@ module _ {Key Recon Cond : Type 0} (m : Meaning Key Recon Cond) (u : Table) (x :
 
   pub kinds : (d : ℕ) → ((sheet_at Sc d).inner ≡ (sheet_at S d).inner) × ((sheet_at Sc d).nulls ≡ (sheet_at S d).nulls)
   kinds d = (put_inner Sb x (Inner v us) d can_b.block ∙ put_inner Sa y (Inner lo ns) d can_y.block ∙ put_inner S x (Inner v bs) d D.can.block, changed_c.nulls d)
+
+  -- but at y, an inner tuple stands only where one stood
+  pub made : (z : Place) → (z ≡ y → ⊥) → IsInner (tuple_of Sc z) → IsInner (tuple_at u z)
+  made z n e = ⊎_elim (λ a. subst (λ (k : Place). IsInner (tuple_at u k)) (sym a) (subst IsInner (sym D.at_x) refl))
+      (λ k. subst IsInner (ap (λ (T : Place → Tuple). T z) (tuple_put Sb x (Inner v us) can_b) ∙ put_at_other (tuple_of Sb) x (Inner v us) z k
+      ∙ ap (λ (T : Place → Tuple). T z) (tuple_put Sa y (Inner lo ns) can_y) ∙ put_at_other (tuple_of Sa) y (Inner lo ns) z n
+      ∙ ap (λ (T : Place → Tuple). T z) (tuple_put S x (Inner v bs) D.can) ∙ put_at_other (tuple_of S) x (Inner v bs) z k) e) (cases_place z x)

@@ -5,7 +5,7 @@ use Rattle.spg_base.specs.Row.{RowAt}
 use Rattle.spg_opclass.specs.Meaning.{Meaning}
 use Rattle.spg_forest.specs.View.{Place, Leaf}
 use Rattle.spg_forest.specs.Spot.{Frame, Spot, Bucket, IsIn}
-use Rattle.spg_forest.specs.Tuples.{Tuple, Inner, Live, IsLaidOut}
+use Rattle.spg_forest.specs.Tuples.{Tuple, Inner, Live, Redirect, Placeholder, IsLaidOut}
 use Rattle.spg_forest.specs.Pages.{place, tuple_on, with_tuple, all_live, moved, page_of}
 use Rattle.spg_forest.specs.Sheets.{Sheet, Sheets, sheet_at, with_tuples, pages_of, weight, size_of, free_place, links, linked}
 use Rattle.spg_forest.specs.Shape.{Shape, spots, IsKindOf, IsRestOf}
@@ -18,12 +18,12 @@ use Rattle.spg_forest.proofs.Picks.{picked_shape, picked_spots, adds_after_pick}
 use Rattle.spg_forest.proofs.Relocate.{within_from_some}
 use Rattle.spg_forest.proofs.Sections.{shape_shown}
 use Rattle.spg_forest.proofs.Stock.{tuple_is}
-use Rattle.spg_page.specs.Kinds.{IsOffset}
+use Rattle.spg_page.specs.Kinds.{IsOffset, IsInner}
 use Rattle.spg_page.specs.Reads.{leaf_in}
 use Rattle.spg_page.specs.declared.tuple.PageKind.TheVariants as kinds
 use Rattle.spg_chain.specs.Chains.{Member, chain_members, leaves_of, IsChainAt, IsChainedPage, BeginsChain}
 use Rattle.spg_chain.proofs.Shown.{reads_shown, laid_chained, shown_begins}
-use Rattle.spg_tree.specs.Table.{Table, sheets_of, tuples_at, tuple_at, with_tuples_at}
+use Rattle.spg_tree.specs.Table.{Table, sheets_of, tuples_at, tuple_at, with_tuples_at, with_link}
 use Rattle.spg_tree.specs.Table as table
 use Rattle.spg_tree.specs.Pick.{Picks}
 use Rattle.spg_tree.specs.Picked.{IsPicked, want_of}
@@ -33,16 +33,20 @@ use Rattle.spg_tree.specs.declared.stand.Stand.TheVariants.{At}
 use Rattle.spg_descend.specs.Below.{IsAtChain, IsChainBelow, IsLink, IsTicked}
 use Rattle.spg_descend.specs.Carried.{carried, IsCarried, WayFits}
 use Rattle.spg_descend.specs.Follows.{tuple_place}
+use Rattle.spg_descend.specs.Makes.{MakesNone}
 use Rattle.spg_descend.specs.Puts.{IsAtLeaves}
 use Rattle.spg_descend.specs.Rules.{MayMove, IsShort}
 use Rattle.spg_descend.proofs.EmptyLaw.{inner_within}
+use Rattle.spg_descend.proofs.Makes.{makes_same, makes_none_at, makes_linked}
 use Rattle.spg_descend.proofs.Picked.{PicksLeaf, picks_leaf}
 use Rattle.spg_descend.proofs.PutLaws.{bucket_tuple, kind_kept}
 use Rattle.spg_split.specs.Placing.{chained, leaves_in, HaveRoom}
+use Rattle.spg_split.proofs.Chaining.{list_tuple}
 use Rattle.spg_split.proofs.Reading.{leaves_in_live, length-all_live}
-use Rattle.spg_move.specs.Moves.{MovesCarried, move_cost}
+use Rattle.spg_split.proofs.Written.{tuples_other}
+use Rattle.spg_move.specs.Moves.{MovesCarried, carried_want, move_cost}
 use Rattle.spg_move.specs.Moving.{with_new, chain_leaves, chain_want, left, moved_table}
-use Rattle.spg_move.proofs.Leaving.{chain_leaf, linked as linked_there}
+use Rattle.spg_move.proofs.Leaving.{chain_leaf, left_tuple, linked as linked_there}
 use Rattle.spg_move.proofs.MoveLaw.{moves, at_p_x}
 
 leaves_length : (ms : List Member) → length (leaves_of ms) ≡ length ms
@@ -136,6 +140,10 @@ module _ {Key Recon Cond : Type 0} (m : Meaning Key Recon Cond) (t : Table) (d :
           let (w, ns, e, l) = above in
           let n : tuples_at t p.block ≡ [] = sym (page_is S p.block) ∙ ap (page_of (pages_of S)) z ∙ H.links.meta in
           let c = sym (none_on (tuples_at t p.block) p.offset n) ∙ e in cc
+
+  -- the pick for the chain at which the insert stands
+  pub want_there : (seat : ℕ) → chain_want (in_nulls d) vs x.block seat ≡ carried_want t d seat
+  want_there seat = ap (λ (z : Place). chain_want (in_nulls d) (with_new (chain_leaves (tuples_at t z.block) z.offset) (carried d)) z.block seat) (sym (ap tuple_place st))
 
   -- what the code counts
   module _ (page : Sheet) (us s : List Tuple) (u : Tuple) (r : RowAt) (rest : List ℕ) (n k c : ℕ) (pe : page ≡ table.sheet_at t x.block) (ue : us ≡ all_live (chain_leaves page.tuples x.offset)) (se : s ≡ us) (re : r ≡ d.row) (qe : rest ≡ d.rest) (ne : u ≡ Live (record { row = r; rest = rest }) 0)
@@ -264,3 +272,23 @@ module _ {Key Recon Cond : Type 0} (m : Meaning Key Recon Cond) (t : Table) (d :
       roots = λ c h. kind_kept tx p.block (with_tuple (tuples_at tx p.block) p.offset (linked (tuple_at tx p) i (Some y))) c ∙ kind_kept tb x.block (left (tuples_at tb x.block) x.offset y t1.clock) c
           ∙ kind_kept t1 b (chained (tuples_at t1 b) 0 vs) c ∙ ap (λ (s : Sheet). s.inner) (K.others c (λ e. let k = P.from in absurd (omega arith)));
     })
+
+    -- ---- no inner tuple is made
+    chain_tuple : (o : ℕ) → IsInner (tuple_on (chained (tuples_at t1 b) 0 vs) o) → IsInner (tuple_on (tuples_at t1 b) o)
+    chain_tuple o e = ⊎_elim (λ q. subst IsInner q e) (λ (l, n, a, q). let f : IsInner (Live l n) = subst IsInner q e in cc) (list_tuple (tuples_at t1 b) vs o)
+
+    x_now : tuples_at tb x.block ≡ tuples_at t x.block
+    x_now = tuples_other t1 b (chained (tuples_at t1 b) 0 vs) x.block x_not_b ∙ P.tuples x.block
+
+    left_inner : (o : ℕ) → IsInner (tuple_on (left (tuples_at t x.block) x.offset y t1.clock) o) → IsInner (tuple_on (tuples_at t x.block) o)
+    left_inner o e = ⊎_elim (λ q. subst IsInner q e)
+        (λ k. ⊎_elim (λ q. let f : IsInner Placeholder = subst IsInner q e in cc) (λ (h, q). let f : IsInner (Redirect y t1.clock) = subst IsInner q e in cc) k)
+        (left_tuple (tuples_at t x.block) (λ o. spots S (place x.block o)) laid x.offset ls shows y t1.clock o)
+
+    pub makes_none : (t2 : Table) → t2 ≡ moved_table t1 b x p i vs → MakesNone t t2
+    makes_none t2 et =
+        let made_b : MakesNone t1 tb = makes_none_at t1 b (chained (tuples_at t1 b) 0 vs) chain_tuple in
+        let made_x : MakesNone tb tx = makes_none_at tb x.block (left (tuples_at tb x.block) x.offset y t1.clock)
+        (subst (λ (ts : List Tuple). (o : ℕ) → IsInner (tuple_on (left ts x.offset y t1.clock) o) → IsInner (tuple_on ts o)) (sym x_now) left_inner) in
+        let made_p : MakesNone tx (with_link tx p i (Some y)) = makes_linked tx p i (Some y) in
+        subst (λ (z : Table). MakesNone t z) (sym et) (λ z e. makes_same t t1 P.tuples z (made_b z (made_x z (made_p z e))))

@@ -3,7 +3,6 @@ ghost use Rattle.spg_forest.specs.Tuples.{Live};
 ghost use Rattle.spg_forest.specs.Shape.{Shape};
 ghost use Rattle.spg_tree.specs.Table.{sheets_of};
 ghost use Rattle.spg_tree.specs.Pick.{IsFull};
-ghost use Rattle.spg_tree.specs.declared.want.Want.{Want};
 ghost use Rattle.spg_tree.specs.declared.stand.Stand.TheVariants.{At};
 ghost use Rattle.spg_tree.specs.declared.stand.StepRefused.TheVariants.{IndexFull, ClockFull};
 ghost use Rattle.spg_descend.specs.Carried.{carried, IsCarried};
@@ -40,7 +39,8 @@ fn move_from<O: OpClass>(
     requires clock { table.old.clock + 1 < 2 ^ 48 }
     ensures ok { OnOk result (MovesCarried O.meaning table.old table.new descent.now) }
     ensures ticked { OnOk result (IsTicked table.old table.new) }
-    ensures full { IsErrOf result IndexFull → (w : Want) × IsFull table.old w }
+    ensures makes { OnOk result (MakesNone table.old table.new) }
+    ensures full { IsErrOf result IndexFull → IsFull table.old (carried_want table.old descent.now seat) }
     ensures clock { IsErrOf result ClockFull → ⊥ }
     ensures err { OnErr result (table.new ≡ table.old) }
 {
@@ -65,9 +65,10 @@ fn move_from<O: OpClass>(
 /// Moves the short chain at which an insert stands, with the insert's leaf behind its head, to one
 /// other leaf page. The old head becomes a redirect to the new one with the clock's moment, the other
 /// tuples become placeholders, the downlink of the tuple above is set, and the clock is raised. A dead
-/// tuple is a chain of no tuples. `ClockFull` comes exactly where the clock is 2^48 - 1, before a page
-/// is picked; `IndexFull` only where the pick needs a new page and there may be none. After a refusal
-/// the table is as it was.
+/// tuple is a chain of no tuples. No inner tuple is made. `ClockFull` comes exactly where the clock is
+/// 2^48 - 1, before a page is picked; `IndexFull` only where the pick of a leaf page for the chain with
+/// its new leaf, by this seat and not on the old block, needs a new page and there may be none. After a
+/// refusal the table is as it was.
 pub fn move_chain<O: OpClass>(
     alloc: Global,
     table: &mut PageTable,

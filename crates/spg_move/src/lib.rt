@@ -11,6 +11,7 @@ mod node_write;
 mod split;
 mod split_pages;
 mod split_tuples;
+mod writes;
 
 pub use chain::move_chain;
 pub use node::add_node;

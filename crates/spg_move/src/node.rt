@@ -5,38 +5,23 @@ ghost use Rattle.spg_forest.specs.Shape.{Shape};
 ghost use Rattle.spg_tree.specs.Table.{sheets_of, tuples_at};
 ghost use Rattle.spg_tree.specs.Pick.{IsFull};
 ghost use Rattle.spg_tree.specs.Descents.{in_nulls, placed, with_node, IsParent};
-ghost use Rattle.spg_tree.specs.declared.want.Want.{Want};
 ghost use Rattle.spg_tree.specs.declared.stand.Stand.TheVariants.{At};
 ghost use Rattle.spg_tree.specs.declared.stand.StepRefused.TheVariants.{IndexFull, ClockFull};
 ghost use Rattle.spg_descend.specs.Carried.{IsCarried};
-ghost use Rattle.spg_descend.specs.Follows.{IsAtPlace, tuple_place};
+ghost use Rattle.spg_descend.specs.Follows.{tuple_place};
 ghost use Rattle.spg_descend.specs.Answers.{IsAnswered};
 ghost use Rattle.spg_move.specs.Answers.{IsInnerOf};
 ghost use Rattle.spg_move.specs.Nodes.{IsNodeAdded, FitsWider, wider_want};
-ghost use Rattle.spg_move.specs.Widening.{FitsInPlace, IsShiftedFrom};
+ghost use Rattle.spg_move.specs.Widening.{FitsInPlace, node_want, IsShiftedFrom};
 
 use crate::node_tuple::longer_tuple;
 use crate::node_write::{fits_in_place, shift, widen_here};
-use spg_base::{Offset, Place, SeatNo};
+use spg_base::{Place, SeatNo};
+use spg_descend::tuple_place;
 use spg_opclass::OpClass;
 use spg_page::TupleBytes;
 use spg_tree::{Descent, PageTable, Stand, StepRefused};
 use std::alloc::Global;
-
-/// Where the inner tuple stands at which an insert is.
-fn place_of(stand: Stand) -> Place
-    requires { IsAtPlace stand }
-    ensures { result ≡ tuple_place stand }
-{
-    match stand {
-        Stand::Root(block) => Place {
-            block,
-            offset: Offset(1),
-        },
-        Stand::At(place) => place,
-        Stand::Start | Stand::Empty => unreachable!(),
-    }
-}
 
 /// Moves the longer tuple to another page, and tells where it is then.
 fn shift_tuple<O: OpClass>(
@@ -51,7 +36,7 @@ fn shift_tuple<O: OpClass>(
     requires size { size_of longer.now ≤ 8156 }
     requires no_room { FitsInPlace (tuples_at table.old (tuple_place descent.now.stand).block) (tuple_place descent.now.stand).offset longer.now → ⊥ }
     ensures ok { IfOk result (λ to. IsShiftedFrom table.old table.new descent.now longer.now seat to) }
-    ensures full { IsErrOf result IndexFull → (w : Want) × IsFull table.old w }
+    ensures full { IsErrOf result IndexFull → IsFull table.old (node_want (in_nulls descent.now) (tuple_place descent.now.stand).block (size_of longer.now) seat) }
     ensures clock { IsErrOf result ClockFull → table.old.clock + 1 ≡ 2 ^ 48 }
     ensures err { OnErr result (table.new ≡ table.old) }
 {
@@ -85,14 +70,15 @@ fn note_shift<O: OpClass>(descent: &mut Descent<O>, to: Place)
 /// Puts a node with this label and an empty downlink into the inner tuple at which an insert stands:
 /// that of a root, or one to which the node of the tuple above leads. The node has the position `at`,
 /// from 0 to the number of nodes; the other nodes keep their order and their downlinks. Where the
-/// longer tuple fits in its place it stays there, and at a root it always fits. Else it goes to a
-/// picked inner page of the same tree and of the same parity as its old block; the old place becomes a
-/// redirect to it with the clock's moment, the downlink of the tuple above is set, the clock is raised
-/// by one, and the insert stands at the new place. In both cases the insert notes that it has added a
-/// node, and the touched blocks are those changed or added, each once. `ClockFull` comes only where the
-/// longer tuple does not fit and the clock is 2^48 - 1, before a page is picked; `IndexFull` only where
-/// the pick needs a new page and there may be none. After a refusal table and insert are as they were.
-/// The latches stay as they are.
+/// longer tuple fits in its place it stays there, and at a root it always fits; no inner tuple is made
+/// then. Else it goes to a picked inner page of the same tree and of the same parity as its old block,
+/// the one inner tuple that is made; the old place becomes a redirect to it with the clock's moment,
+/// the downlink of the tuple above is set, the clock is raised by one, and the insert stands at the new
+/// place. In both cases the insert notes that it has added a node, and the touched blocks are those
+/// changed or added, each once. `ClockFull` comes only where the longer tuple does not fit and the
+/// clock is 2^48 - 1, before a page is picked; `IndexFull` only where it does not fit and the pick of
+/// an inner page for it, by this seat and not on the old block, needs a new page and there may be none.
+/// After a refusal table and insert are as they were. The latches stay as they are.
 pub fn add_node<O: OpClass>(
     alloc: Global,
     table: &mut PageTable,
@@ -112,7 +98,7 @@ pub fn add_node<O: OpClass>(
     ensures err { OnErr result (table.new ≡ table.old) }
     ensures err_descent { OnErr result (descent.new ≡ descent.old) }
 {
-    let here = place_of(descent.stand());
+    let here = tuple_place(descent.stand());
     let longer = longer_tuple(alloc, table.page(here.block), here.offset, at, label)?;
     if fits_in_place(table.page(here.block), here.offset, &longer) {
         widen_here(table, &here, &longer);

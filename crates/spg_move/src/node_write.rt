@@ -1,14 +1,14 @@
-ghost use Rattle.std.specs.Prelude.{◌≡◌, ◌<◌, ◌≤◌, ◌+◌, ◌^◌, ◌++◌, ◌↔◌, length, IsTrue, IfOk, OnErr, IsErrOf};
+ghost use Rattle.std.specs.Prelude.{◌≡◌, ◌<◌, ◌≤◌, ◌+◌, ◌^◌, ◌↔◌, length, IsTrue, IfOk, OnErr, IsErrOf};
 ghost use Rattle.spg_forest.specs.Sheets.{size_of};
 ghost use Rattle.spg_page.specs.Changes.{room_of};
 ghost use Rattle.spg_page.specs.Kinds.{IsOffset};
 ghost use Rattle.spg_tree.specs.Table.{tuples_at};
 ghost use Rattle.spg_tree.specs.Pick.{IsFull};
 ghost use Rattle.spg_tree.specs.declared.stand.StepRefused.TheVariants.{IndexFull, ClockFull};
-ghost use Rattle.spg_split.specs.Homes.{another};
-ghost use Rattle.spg_split.specs.Writing.{new_place, added_table};
-ghost use Rattle.spg_move.specs.Widening.{FitsInPlace, put_table, widened_table, shifted_table, blocks_shifted, node_want, IsHung, IsShifted};
+ghost use Rattle.spg_split.specs.Writing.{new_place};
+ghost use Rattle.spg_move.specs.Widening.{FitsInPlace, widened_table, shifted_table, blocks_shifted, node_want, IsHung, IsShifted};
 
+use crate::writes::{add_on, push_another, put_at};
 use spg_base::{Block, Offset, Place, SeatNo, Stamp, parity};
 use spg_page::{Page, PageKind, TupleBytes};
 use spg_tree::{PageTable, StepRefused, Touched};
@@ -22,16 +22,6 @@ pub(crate) fn fits_in_place(page: &Page, offset: Offset, tuple: &TupleBytes) -> 
     tuple.size() <= page.size_at(offset) + page.free()
 }
 
-/// Puts a tuple in the place of another.
-fn put_at(table: &mut PageTable, at: &Place, tuple: &TupleBytes)
-    requires block { (0 < at.now.block) × (at.now.block < length table.old.pages) }
-    requires offset { IsOffset (tuples_at table.old at.now.block) at.now.offset }
-    requires room { FitsInPlace (tuples_at table.old at.now.block) at.now.offset tuple.now }
-    ensures { table.new ≡ put_table table.old at.now tuple.now }
-{
-    table.page_mut(at.block).replace(at.offset, tuple);
-}
-
 /// Puts the longer tuple in the place of the old one.
 pub(crate) fn widen_here(table: &mut PageTable, at: &Place, longer: &TupleBytes)
     requires block { (0 < at.now.block) × (at.now.block < length table.old.pages) }
@@ -43,16 +33,6 @@ pub(crate) fn widen_here(table: &mut PageTable, at: &Place, longer: &TupleBytes)
     touched.push(at.block);
     put_at(table, at, longer);
     table.set_touched(touched);
-}
-
-/// Adds a tuple to a page that has room, and tells at which offset.
-fn add_on(table: &mut PageTable, block: Block, tuple: &TupleBytes) -> Offset
-    requires block { (0 < block) × (block < length table.old.pages) }
-    requires room { size_of tuple.now + 4 ≤ room_of (tuples_at table.old block) 1 }
-    ensures at { result ≡ (new_place table.old block).offset }
-    ensures table { table.new ≡ added_table table.old block tuple.now }
-{
-    table.page_mut(block).add(tuple)
 }
 
 /// Puts the longer tuple on another page. A redirect with the clock's moment stays, and the node of
@@ -80,16 +60,6 @@ fn write_shifted(
     table.relink(*parent, node, Some(Place { block, offset }));
     table.raise_clock();
     Place { block, offset }
-}
-
-/// Adds a block that was there before, where it is not the other one.
-fn push_another(touched: &mut Touched, block: Block, other: Block, before: u32)
-    requires { length touched.old < 8 }
-    ensures { touched.new ≡ touched.old ++ another block other before }
-{
-    if block != other && block.0 < before {
-        touched.push(block);
-    }
 }
 
 /// The blocks that the move of an inner tuple changes or has added.

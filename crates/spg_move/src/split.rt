@@ -6,43 +6,30 @@ ghost use Rattle.spg_tree.specs.Pick.{IsFull};
 ghost use Rattle.spg_tree.specs.Descents.{in_nulls};
 ghost use Rattle.spg_tree.specs.declared.stand.StepRefused.TheVariants.{IndexFull, ClockFull};
 ghost use Rattle.spg_descend.specs.Carried.{IsCarried};
-ghost use Rattle.spg_descend.specs.Follows.{IsAtPlace, tuple_place};
+ghost use Rattle.spg_descend.specs.Follows.{tuple_place};
 ghost use Rattle.spg_descend.specs.Answers.{IsAnswered};
 ghost use Rattle.spg_move.specs.Answers.{IsInnerOf};
 ghost use Rattle.spg_move.specs.Splits.{PartsTuple, lower_want_at};
 
 use crate::split_pages::part_tuple;
 use crate::split_tuples::{lower_tuple, upper_tuple};
-use spg_base::{Bytes, Labels, Offset, Place, SeatNo};
+use spg_base::{Bytes, Labels, SeatNo};
+use spg_descend::tuple_place;
 use spg_opclass::OpClass;
-use spg_tree::{Descent, PageTable, Stand, StepRefused};
+use spg_tree::{Descent, PageTable, StepRefused};
 use std::alloc::Global;
-
-/// Where the inner tuple stands at which an insert is.
-fn inner_place(stand: Stand) -> Place
-    requires { IsAtPlace stand }
-    ensures { result ≡ tuple_place stand }
-{
-    match stand {
-        Stand::Root(block) => Place {
-            block,
-            offset: Offset(1),
-        },
-        Stand::At(place) => place,
-        Stand::Start | Stand::Empty => unreachable!(),
-    }
-}
 
 /// Splits the inner tuple at which an insert stands in two. The upper tuple, with the prefix and the
 /// labels given, replaces it in place and is never longer. It is not all-the-same, and its downlinks
-/// are empty but that of the node `child`, which leads to the lower tuple. The lower tuple has the
-/// prefix given for it and the labels, the downlinks and the all-the-same mark of the old tuple. It
-/// goes on the page of the upper tuple where it fits there beside it and that page is no root, else
-/// on an inner page of the next parity, one more than that of the upper tuple's block modulo 3, which
-/// is picked. The insert stays where it stands, and the rise is noted. Touched are the blocks that are
-/// changed or added. The clock stays, so `ClockFull` never comes; `IndexFull` comes only where the
-/// pick needs a new page and there may be none. After a refusal table and insert are as they were.
-/// The latches stay as they are.
+/// are empty but that of the node `child`, which leads to the lower tuple, the one inner tuple that is
+/// made. The lower tuple has the prefix given for it and the labels, the downlinks and the all-the-same
+/// mark of the old tuple. It goes on the page of the upper tuple where it fits there beside it and that
+/// page is no root, else on an inner page of the next parity, one more than that of the upper tuple's
+/// block modulo 3, which is picked. The insert stays where it stands, and the rise is noted. Touched
+/// are the blocks that are changed or added. The clock stays, so `ClockFull` never comes; `IndexFull`
+/// comes only where the pick of a page of that parity for the lower tuple, by this seat, needs a new
+/// page and there may be none. After a refusal table and insert are as they were. The latches stay as
+/// they are.
 pub fn split_tuple<O: OpClass>(
     alloc: Global,
     table: &mut PageTable,
@@ -64,7 +51,7 @@ pub fn split_tuple<O: OpClass>(
     ensures err { OnErr result (table.new ≡ table.old) }
     ensures err_descent { OnErr result (descent.new ≡ descent.old) }
 {
-    let at = inner_place(descent.stand());
+    let at = tuple_place(descent.stand());
     let upper = upper_tuple(alloc, upper_prefix, upper_labels)?;
     let lower = lower_tuple(alloc, table.page(at.block), at.offset, lower_prefix)?;
     part_tuple(alloc, table, at, child, &upper, &lower, seat)?;

@@ -1,16 +1,14 @@
 ghost use Rattle.std.specs.Prelude.{◌≡◌, ◌<◌, ◌≤◌, ◌+◌, ◌-◌, length, IfOk, OnOk, OnErr, IsErrOf};
 ghost use Rattle.spg_forest.specs.Sheets.{size_of, links};
-ghost use Rattle.spg_page.specs.Changes.{room_of, free_of};
-ghost use Rattle.spg_page.specs.Kinds.{IsOffset};
-ghost use Rattle.spg_tree.specs.Table.{tuples_at, tuple_at};
+ghost use Rattle.spg_page.specs.Changes.{room_of};
+ghost use Rattle.spg_tree.specs.Table.{sheet_at, tuples_at};
 ghost use Rattle.spg_tree.specs.Pick.{IsFull};
-ghost use Rattle.spg_tree.specs.declared.want.Want.{Want};
 ghost use Rattle.spg_tree.specs.declared.stand.StepRefused.TheVariants.{IndexFull, ClockFull};
-ghost use Rattle.spg_split.specs.Writing.{new_place, added_table};
 ghost use Rattle.spg_move.specs.Splitting as splits;
-ghost use Rattle.spg_move.specs.Splitting.{upper_table, parted_table, split_touched, GoesTo, MayPart, IsParted};
+ghost use Rattle.spg_move.specs.Splitting.{upper_table, parted_table, lower_want, split_touched, GoesTo, MayPart, IsParted};
 
-use spg_base::{Block, Offset, Place, SeatNo, parity};
+use crate::writes::{add_on, push_another, put_at};
+use spg_base::{Block, Place, SeatNo, parity};
 use spg_page::{PageKind, TupleBytes};
 use spg_tree::{PageTable, StepRefused, Touched};
 use std::alloc::Global;
@@ -37,7 +35,7 @@ fn pick_home(
 ) -> Result<Block, StepRefused>
     requires { MayPart table.old at.now upper.now }
     ensures ok { IfOk result (λ home. GoesTo table.old table.new at.now upper.now lower.now home seat) }
-    ensures full { IsErrOf result IndexFull → (w : Want) × IsFull table.old w }
+    ensures full { IsErrOf result IndexFull → IsFull table.old (lower_want (sheet_at table.old at.now.block).nulls at.now.block lower.now seat) }
     ensures clock { IsErrOf result ClockFull → ⊥ }
     ensures err { OnErr result (table.new ≡ table.old) }
 {
@@ -60,26 +58,6 @@ fn pick_home(
     Ok(block)
 }
 
-/// Puts the upper tuple in the place of the old one.
-fn put_upper(table: &mut PageTable, at: &Place, upper: &TupleBytes)
-    requires block { (0 < at.now.block) × (at.now.block < length table.old.pages) }
-    requires within { IsOffset (tuples_at table.old at.now.block) at.now.offset }
-    requires room { size_of upper.now ≤ size_of (tuple_at table.old at.now) + free_of (tuples_at table.old at.now.block) }
-    ensures { table.new ≡ upper_table table.old at.now upper.now }
-{
-    table.page_mut(at.block).replace(at.offset, upper);
-}
-
-/// Adds the lower tuple to a page that has room, and tells at which offset.
-fn add_lower(table: &mut PageTable, block: Block, lower: &TupleBytes) -> Offset
-    requires block { (0 < block) × (block < length table.old.pages) }
-    requires room { size_of lower.now + 4 ≤ room_of (tuples_at table.old block) 1 }
-    ensures at { result ≡ (new_place table.old block).offset }
-    ensures table { table.new ≡ added_table table.old block lower.now }
-{
-    table.page_mut(block).add(lower)
-}
-
 /// Writes the upper tuple in the place of the old one, the lower tuple on a block, and the downlink
 /// from the one to the other.
 fn write_parts(
@@ -96,8 +74,8 @@ fn write_parts(
     requires room { size_of lower.now + 4 ≤ room_of (tuples_at (upper_table table.old at upper.now) home) 1 }
     ensures { table.new ≡ parted_table table.old at child home upper.now lower.now }
 {
-    put_upper(table, &at, upper);
-    let offset = add_lower(table, home, lower);
+    put_at(table, &at, upper);
+    let offset = add_on(table, home, lower);
     let to = Place {
         block: home,
         offset,
@@ -113,9 +91,7 @@ fn touched_by(block: Block, home: Block, before: u32, now: u32) -> Touched
 {
     let mut touched = Touched::new();
     touched.push(block);
-    if home != block && home.0 < before {
-        touched.push(home);
-    }
+    push_another(&mut touched, home, block, before);
     touched.push_range(before, now);
     touched
 }
@@ -133,7 +109,7 @@ pub(crate) fn part_tuple(
     requires may { MayPart table.old at upper.now }
     requires node { child < length (links upper.now) }
     ensures ok { OnOk result (IsParted table.old table.new at child seat upper.now lower.now) }
-    ensures full { IsErrOf result IndexFull → (w : Want) × IsFull table.old w }
+    ensures full { IsErrOf result IndexFull → IsFull table.old (lower_want (sheet_at table.old at.block).nulls at.block lower.now seat) }
     ensures clock { IsErrOf result ClockFull → ⊥ }
     ensures err { OnErr result (table.new ≡ table.old) }
 {

@@ -9,7 +9,7 @@ use Rattle.spg_tree.specs.declared.want.Want.{Want}
 use Rattle.spg_tree.specs.declared.stand.StepRefused.TheVariants.{IndexFull}
 use Rattle.spg_split.specs.Placing.{HaveRoom}
 use Rattle.spg_move.specs.Moving.{moved_table}
-use Rattle.spg_move.proofs.Standing.{total, need_small, count_small, want_is, leaves_are, live_are, chained_after, begins_after, parent_after, within_after, node_after, room_after, carried_moves, ticks}
+use Rattle.spg_move.proofs.Standing.{total, need_small, count_small, want_is, leaves_are, live_are, chained_after, begins_after, parent_after, within_after, node_after, room_after, carried_moves, ticks, want_there, makes_none}
 use Rattle.spg_move.proofs.chain.move_from.Goals as goal
 
 pub chain_tuples-requires : goal.chain_tuples-requires
@@ -40,7 +40,9 @@ pick_page-requires-clause-need g c = need_small g.O.OpClass.meaning c.args.table
 pub returns-in_err-block-clause-full : goal.returns-in_err-block-clause-full
 returns-in_err-block-clause-full g c =
     let f : IsErrOf c.from_residual-in_err-block.result IndexFull → IsFull c.args.table.now (want_of kinds.Leaf c.is_nulls.result None (c.bytes_of.result + c.size.result + 4) (c.len-count.result + 1) (Some c.args.at.block) c.args.seat) = search rules in
-    λ e. (_, f e)
+    let W = want_is g.O.OpClass.meaning c.args.table.now c.args.descent.now c.args.at c.args.parent c.args.node c.requires.shape c.requires.stands c.requires.above c.requires.spot c.requires.short c.page.result.now c.in_ok-leaves.leaves c.as_slice-2.result.now c.in_ok-new.new c.row.result c.as_slice.result.now c.bytes_of.result c.size.result c.len-count.result c.page.ensures c.in_ok-leaves.ensures c.as_slice-2.ensures c.row.ensures (c.as_slice.ensures.value ∙ c.rest.ensures) c.in_ok-new.ensures c.bytes_of.ensures c.size.ensures.value c.len-count.ensures c.is_nulls.result c.args.seat c.is_nulls.ensures in
+    let V = want_there g.O.OpClass.meaning c.args.table.now c.args.descent.now c.args.at c.args.parent c.args.node c.requires.shape c.requires.stands c.requires.above c.requires.spot c.requires.short c.args.seat in
+    λ e. subst (λ (z : Want). IsFull c.args.table.now z) (W ∙ V) (f e)
 
 pub write_chain-requires-clause-chained : goal.write_chain-requires-clause-chained
 write_chain-requires-clause-chained g c =
@@ -100,3 +102,10 @@ returns-clause-ticked g c =
     let Q = subst (λ (z : Want). Picks c.args.table.now z c.in_ok-block.block c.pick_page.new.self) W c.in_ok-block.ensures.ok in
     let P = subst (λ (z : Want). IsPicked c.args.table.now z c.in_ok-block.block c.pick_page.new.self) W c.in_ok-block.ensures.picked in
     ticks g.O.OpClass.meaning c.args.table.now c.args.descent.now c.args.at c.args.parent c.args.node c.requires.shape c.requires.stands c.requires.above c.requires.spot c.requires.short c.pick_page.new.self c.in_ok-block.block c.args.seat Q P c.write_chain.new.table (c.write_chain.ensures ∙ ap (λ vs. moved_table c.pick_page.new.self c.in_ok-block.block c.args.at c.args.parent c.args.node vs) (leaves_are g.O.OpClass.meaning c.args.table.now c.args.descent.now c.args.at c.args.parent c.args.node c.requires.shape c.requires.stands c.requires.above c.requires.spot c.requires.short c.page.result.now c.in_ok-leaves.leaves c.as_slice-2.result.now c.in_ok-new.new c.row.result c.as_slice.result.now c.bytes_of.result c.size.result c.len-count.result c.page.ensures c.in_ok-leaves.ensures c.as_slice-2.ensures c.row.ensures (c.as_slice.ensures.value ∙ c.rest.ensures) c.in_ok-new.ensures c.bytes_of.ensures c.size.ensures.value c.len-count.ensures c.as_slice-3.result.now c.as_slice-3.ensures))
+
+pub returns-clause-makes : goal.returns-clause-makes
+returns-clause-makes g c =
+    let W = want_is g.O.OpClass.meaning c.args.table.now c.args.descent.now c.args.at c.args.parent c.args.node c.requires.shape c.requires.stands c.requires.above c.requires.spot c.requires.short c.page.result.now c.in_ok-leaves.leaves c.as_slice-2.result.now c.in_ok-new.new c.row.result c.as_slice.result.now c.bytes_of.result c.size.result c.len-count.result c.page.ensures c.in_ok-leaves.ensures c.as_slice-2.ensures c.row.ensures (c.as_slice.ensures.value ∙ c.rest.ensures) c.in_ok-new.ensures c.bytes_of.ensures c.size.ensures.value c.len-count.ensures c.is_nulls.result c.args.seat c.is_nulls.ensures in
+    let Q = subst (λ (z : Want). Picks c.args.table.now z c.in_ok-block.block c.pick_page.new.self) W c.in_ok-block.ensures.ok in
+    let P = subst (λ (z : Want). IsPicked c.args.table.now z c.in_ok-block.block c.pick_page.new.self) W c.in_ok-block.ensures.picked in
+    makes_none g.O.OpClass.meaning c.args.table.now c.args.descent.now c.args.at c.args.parent c.args.node c.requires.shape c.requires.stands c.requires.above c.requires.spot c.requires.short c.pick_page.new.self c.in_ok-block.block c.args.seat Q P c.write_chain.new.table (c.write_chain.ensures ∙ ap (λ vs. moved_table c.pick_page.new.self c.in_ok-block.block c.args.at c.args.parent c.args.node vs) (leaves_are g.O.OpClass.meaning c.args.table.now c.args.descent.now c.args.at c.args.parent c.args.node c.requires.shape c.requires.stands c.requires.above c.requires.spot c.requires.short c.page.result.now c.in_ok-leaves.leaves c.as_slice-2.result.now c.in_ok-new.new c.row.result c.as_slice.result.now c.bytes_of.result c.size.result c.len-count.result c.page.ensures c.in_ok-leaves.ensures c.as_slice-2.ensures c.row.ensures (c.as_slice.ensures.value ∙ c.rest.ensures) c.in_ok-new.ensures c.bytes_of.ensures c.size.ensures.value c.len-count.ensures c.as_slice-3.result.now c.as_slice-3.ensures))

@@ -1,4 +1,5 @@
-use Rattle.std.proofs.Common.{◌≡◌, ℤ, ◌≤◌, length, ap, ap₂, sym, ◌∙◌, subst}
+use Rattle.std.proofs.Common.{rules, ◌≡◌, ℤ, true, false, ◌+◌, ◌≤◌, length, ap, ap₂, sym, ◌∙◌, subst}
+use Rattle.std.specs.Prelude.{◌^◌, IsErrOf}
 use Rattle.std.specs.Int.{w16}
 use Rattle.std.proofs.lemmas.Int.{to_z-of_z}
 use Rattle.spg_forest.specs.View.{Place}
@@ -7,42 +8,65 @@ use Rattle.spg_forest.specs.Pages.{tuple_on}
 use Rattle.spg_forest.specs.Sheets.{Sheet, size_of, links}
 use Rattle.spg_page.specs.Kinds.{IsOffset}
 use Rattle.spg_tree.specs.Table.{tuples_at, tuple_at}
+use Rattle.spg_tree.specs.Descents.{in_nulls}
+use Rattle.spg_tree.specs.Pick.{IsFull}
+use Rattle.spg_tree.specs.declared.stand.StepRefused.TheVariants.{IndexFull, ClockFull}
 use Rattle.spg_descend.specs.Follows.{tuple_place}
-use Rattle.spg_move.specs.Widening.{widened, widened_table, FitsInPlace}
-use Rattle.spg_move.proofs.NodeStanding.{within, place_within, small}
+use Rattle.spg_move.specs.Nodes.{FitsWider}
+use Rattle.spg_move.specs.Widening.{widened, widened_table, node_want, FitsInPlace}
+use Rattle.spg_move.proofs.NodeStanding.{within, place_within, small, not_wider}
 use Rattle.spg_move.proofs.NodeLaw.{added_here}
 use Rattle.spg_move.proofs.NodeMoved.{shifted_out}
 use Rattle.spg_move.proofs.node.add_node.Goals as goal
 
 pub longer_tuple-requires-clause-offset : goal.longer_tuple-requires-clause-offset
 longer_tuple-requires-clause-offset g c =
-    let eh : c.place_of-here.result ≡ tuple_place c.args.descent.now.stand = c.place_of-here.ensures ∙ ap tuple_place c.stand.ensures in
-    subst (λ (s : Sheet). IsOffset s.tuples c.place_of-here.result.offset) (sym c.page.ensures) (subst (λ (z : Place). IsOffset (tuples_at c.args.table.now z.block) z.offset) (sym eh) (within g.O.OpClass.meaning g.O.OpClass.adds g.O.OpClass.codes c.args.table.now c.args.descent.now c.args.at c.args.label c.requires.shape c.requires.spot c.requires.main c.requires.of_key c.requires.answer))
+    let eh : c.tuple_place-here.result ≡ tuple_place c.args.descent.now.stand = c.tuple_place-here.ensures ∙ ap tuple_place c.stand.ensures in
+    subst (λ (s : Sheet). IsOffset s.tuples c.tuple_place-here.result.offset) (sym c.page.ensures) (subst (λ (z : Place). IsOffset (tuples_at c.args.table.now z.block) z.offset) (sym eh) (within g.O.OpClass.meaning g.O.OpClass.adds g.O.OpClass.codes c.args.table.now c.args.descent.now c.args.at c.args.label c.requires.shape c.requires.spot c.requires.main c.requires.of_key c.requires.answer))
 
 pub longer_tuple-requires-clause-at : goal.longer_tuple-requires-clause-at
 longer_tuple-requires-clause-at g c =
-    let eh : c.place_of-here.result ≡ tuple_place c.args.descent.now.stand = c.place_of-here.ensures ∙ ap tuple_place c.stand.ensures in
-    subst (λ (s : Sheet). c.args.at ≤ length (links (tuple_on s.tuples c.place_of-here.result.offset))) (sym c.page.ensures) (subst (λ (z : Place). c.args.at ≤ length (links (tuple_at c.args.table.now z))) (sym eh) (place_within g.O.OpClass.meaning g.O.OpClass.adds g.O.OpClass.codes c.args.table.now c.args.descent.now c.args.at c.args.label c.requires.shape c.requires.spot c.requires.main c.requires.of_key c.requires.answer))
+    let eh : c.tuple_place-here.result ≡ tuple_place c.args.descent.now.stand = c.tuple_place-here.ensures ∙ ap tuple_place c.stand.ensures in
+    subst (λ (s : Sheet). c.args.at ≤ length (links (tuple_on s.tuples c.tuple_place-here.result.offset))) (sym c.page.ensures) (subst (λ (z : Place). c.args.at ≤ length (links (tuple_at c.args.table.now z))) (sym eh) (place_within g.O.OpClass.meaning g.O.OpClass.adds g.O.OpClass.codes c.args.table.now c.args.descent.now c.args.at c.args.label c.requires.shape c.requires.spot c.requires.main c.requires.of_key c.requires.answer))
 
 pub longer_tuple-requires-clause-size : goal.longer_tuple-requires-clause-size
 longer_tuple-requires-clause-size g c =
-    let eh : c.place_of-here.result ≡ tuple_place c.args.descent.now.stand = c.place_of-here.ensures ∙ ap tuple_place c.stand.ensures in
-    subst (λ (s : Sheet). size_of (widened (tuple_on s.tuples c.place_of-here.result.offset) c.args.at c.args.label) ≤ 8156) (sym c.page.ensures) (subst (λ (z : Place). size_of (widened (tuple_at c.args.table.now z) c.args.at c.args.label) ≤ 8156) (sym eh) (small g.O.OpClass.meaning g.O.OpClass.adds g.O.OpClass.codes c.args.table.now c.args.descent.now c.args.at c.args.label c.requires.shape c.requires.spot c.requires.main c.requires.of_key c.requires.answer))
+    let eh : c.tuple_place-here.result ≡ tuple_place c.args.descent.now.stand = c.tuple_place-here.ensures ∙ ap tuple_place c.stand.ensures in
+    subst (λ (s : Sheet). size_of (widened (tuple_on s.tuples c.tuple_place-here.result.offset) c.args.at c.args.label) ≤ 8156) (sym c.page.ensures) (subst (λ (z : Place). size_of (widened (tuple_at c.args.table.now z) c.args.at c.args.label) ≤ 8156) (sym eh) (small g.O.OpClass.meaning g.O.OpClass.adds g.O.OpClass.codes c.args.table.now c.args.descent.now c.args.at c.args.label c.requires.shape c.requires.spot c.requires.main c.requires.of_key c.requires.answer))
 
 pub returns-then-fits_in_place-clause-ok : goal.returns-then-fits_in_place-clause-ok
 returns-then-fits_in_place-clause-ok g c =
-    let eh : c.place_of-here.result ≡ tuple_place c.args.descent.now.stand = c.place_of-here.ensures ∙ ap tuple_place c.stand.ensures in
+    let eh : c.tuple_place-here.result ≡ tuple_place c.args.descent.now.stand = c.tuple_place-here.ensures ∙ ap tuple_place c.stand.ensures in
     let el : c.in_ok-longer.longer ≡ widened (tuple_at c.args.table.now (tuple_place c.args.descent.now.stand)) c.args.at c.args.label =
-    c.in_ok-longer.ensures ∙ ap (λ (z : ℤ). widened (tuple_on c.page.result.now.tuples c.place_of-here.result.offset) c.args.at z) (to_z-of_z w16 c.args.label c.ranges.label) ∙ ap (λ (s : Sheet). widened (tuple_on s.tuples c.place_of-here.result.offset) c.args.at c.args.label) c.page.ensures ∙ ap (λ (z : Place). widened (tuple_at c.args.table.now z) c.args.at c.args.label) eh in
-    let room : FitsInPlace c.page-2.result.now.tuples c.place_of-here.result.offset c.in_ok-longer.longer = c.fits_in_place.ensures.0 c.if-fits_in_place.true in
+    c.in_ok-longer.ensures ∙ ap (λ (z : ℤ). widened (tuple_on c.page.result.now.tuples c.tuple_place-here.result.offset) c.args.at z) (to_z-of_z w16 c.args.label c.ranges.label) ∙ ap (λ (s : Sheet). widened (tuple_on s.tuples c.tuple_place-here.result.offset) c.args.at c.args.label) c.page.ensures ∙ ap (λ (z : Place). widened (tuple_at c.args.table.now z) c.args.at c.args.label) eh in
+    let room : FitsInPlace c.page-2.result.now.tuples c.tuple_place-here.result.offset c.in_ok-longer.longer = c.fits_in_place.ensures.0 c.if-fits_in_place.true in
     added_here g.O.OpClass.meaning g.O.OpClass.adds g.O.OpClass.codes c.args.table.now c.args.descent.now c.args.at c.args.label c.requires.shape c.requires.spot c.requires.main c.requires.of_key c.requires.answer
     (subst (λ (u : Tuple). FitsInPlace (tuples_at c.args.table.now (tuple_place c.args.descent.now.stand).block) (tuple_place c.args.descent.now.stand).offset u) el
-    (subst (λ (z : Place). FitsInPlace (tuples_at c.args.table.now z.block) z.offset c.in_ok-longer.longer) eh (subst (λ (s : Sheet). FitsInPlace s.tuples c.place_of-here.result.offset c.in_ok-longer.longer) c.page-2.ensures room)))
+    (subst (λ (z : Place). FitsInPlace (tuples_at c.args.table.now z.block) z.offset c.in_ok-longer.longer) eh (subst (λ (s : Sheet). FitsInPlace s.tuples c.tuple_place-here.result.offset c.in_ok-longer.longer) c.page-2.ensures room)))
     c.widen_here.new.table c.note_node.new.self (c.widen_here.ensures ∙ ap₂ (λ (z : Place) (u : Tuple). widened_table c.args.table.now z u) eh el) c.note_node.ensures
 
 pub returns-clause-ok : goal.returns-clause-ok
 returns-clause-ok g c =
-    let eh : c.place_of-here.result ≡ tuple_place c.args.descent.now.stand = c.place_of-here.ensures ∙ ap tuple_place c.stand.ensures in
+    let eh : c.tuple_place-here.result ≡ tuple_place c.args.descent.now.stand = c.tuple_place-here.ensures ∙ ap tuple_place c.stand.ensures in
     let el : c.in_ok-longer.longer ≡ widened (tuple_at c.args.table.now (tuple_place c.args.descent.now.stand)) c.args.at c.args.label =
-    c.in_ok-longer.ensures ∙ ap (λ (z : ℤ). widened (tuple_on c.page.result.now.tuples c.place_of-here.result.offset) c.args.at z) (to_z-of_z w16 c.args.label c.ranges.label) ∙ ap (λ (s : Sheet). widened (tuple_on s.tuples c.place_of-here.result.offset) c.args.at c.args.label) c.page.ensures ∙ ap (λ (z : Place). widened (tuple_at c.args.table.now z) c.args.at c.args.label) eh in
-    shifted_out g.O.OpClass.meaning g.O.OpClass.adds g.O.OpClass.codes c.args.table.now c.args.descent.now c.args.at c.args.label c.requires.shape c.requires.spot c.requires.main c.requires.of_key c.requires.answer c.shift_tuple.new.table c.note_shift.new.descent c.in_ok-longer.longer c.args.seat c.in_ok-to.to c.in_ok-to.ensures.ok el c.note_shift.ensures
+    c.in_ok-longer.ensures ∙ ap (λ (z : ℤ). widened (tuple_on c.page.result.now.tuples c.tuple_place-here.result.offset) c.args.at z) (to_z-of_z w16 c.args.label c.ranges.label) ∙ ap (λ (s : Sheet). widened (tuple_on s.tuples c.tuple_place-here.result.offset) c.args.at c.args.label) c.page.ensures ∙ ap (λ (z : Place). widened (tuple_at c.args.table.now z) c.args.at c.args.label) eh in
+    let wide : FitsWider c.args.table.now c.args.descent.now c.args.at c.args.label → ⊥ = not_wider c.args.table.now c.args.descent.now c.args.at c.args.label c.page-2.result.now c.tuple_place-here.result c.in_ok-longer.longer c.page-2.ensures eh el (λ f. let k : true ≡ false = sym (c.fits_in_place.ensures.1 f) ∙ c.if-fits_in_place.false in cc) in
+    shifted_out g.O.OpClass.meaning g.O.OpClass.adds g.O.OpClass.codes c.args.table.now c.args.descent.now c.args.at c.args.label c.requires.shape c.requires.spot c.requires.main c.requires.of_key c.requires.answer wide c.shift_tuple.new.table c.note_shift.new.descent c.in_ok-longer.longer c.args.seat c.in_ok-to.to c.in_ok-to.ensures.ok el c.note_shift.ensures
+
+pub returns-in_err-to-clause-full : goal.returns-in_err-to-clause-full
+returns-in_err-to-clause-full g c =
+    let eh : c.tuple_place-here.result ≡ tuple_place c.args.descent.now.stand = c.tuple_place-here.ensures ∙ ap tuple_place c.stand.ensures in
+    let el : c.in_ok-longer.longer ≡ widened (tuple_at c.args.table.now (tuple_place c.args.descent.now.stand)) c.args.at c.args.label =
+    c.in_ok-longer.ensures ∙ ap (λ (z : ℤ). widened (tuple_on c.page.result.now.tuples c.tuple_place-here.result.offset) c.args.at z) (to_z-of_z w16 c.args.label c.ranges.label) ∙ ap (λ (s : Sheet). widened (tuple_on s.tuples c.tuple_place-here.result.offset) c.args.at c.args.label) c.page.ensures ∙ ap (λ (z : Place). widened (tuple_at c.args.table.now z) c.args.at c.args.label) eh in
+    let wide : FitsWider c.args.table.now c.args.descent.now c.args.at c.args.label → ⊥ = not_wider c.args.table.now c.args.descent.now c.args.at c.args.label c.page-2.result.now c.tuple_place-here.result c.in_ok-longer.longer c.page-2.ensures eh el (λ f. let k : true ≡ false = sym (c.fits_in_place.ensures.1 f) ∙ c.if-fits_in_place.false in cc) in
+    let f : IsErrOf c.from_residual-in_err-to.result IndexFull → IsFull c.args.table.now (node_want (in_nulls c.args.descent.now) (tuple_place c.args.descent.now.stand).block (size_of c.in_ok-longer.longer) c.args.seat) = search rules in
+    λ e. (wide, subst (λ (u : Tuple). IsFull c.args.table.now (node_want (in_nulls c.args.descent.now) (tuple_place c.args.descent.now.stand).block (size_of u) c.args.seat)) el (f e))
+
+pub returns-in_err-to-clause-clock : goal.returns-in_err-to-clause-clock
+returns-in_err-to-clause-clock g c =
+    let eh : c.tuple_place-here.result ≡ tuple_place c.args.descent.now.stand = c.tuple_place-here.ensures ∙ ap tuple_place c.stand.ensures in
+    let el : c.in_ok-longer.longer ≡ widened (tuple_at c.args.table.now (tuple_place c.args.descent.now.stand)) c.args.at c.args.label =
+    c.in_ok-longer.ensures ∙ ap (λ (z : ℤ). widened (tuple_on c.page.result.now.tuples c.tuple_place-here.result.offset) c.args.at z) (to_z-of_z w16 c.args.label c.ranges.label) ∙ ap (λ (s : Sheet). widened (tuple_on s.tuples c.tuple_place-here.result.offset) c.args.at c.args.label) c.page.ensures ∙ ap (λ (z : Place). widened (tuple_at c.args.table.now z) c.args.at c.args.label) eh in
+    let wide : FitsWider c.args.table.now c.args.descent.now c.args.at c.args.label → ⊥ = not_wider c.args.table.now c.args.descent.now c.args.at c.args.label c.page-2.result.now c.tuple_place-here.result c.in_ok-longer.longer c.page-2.ensures eh el (λ f. let k : true ≡ false = sym (c.fits_in_place.ensures.1 f) ∙ c.if-fits_in_place.false in cc) in
+    let f : IsErrOf c.from_residual-in_err-to.result ClockFull → c.args.table.now.clock + 1 ≡ 2 ^ 48 = search rules in
+    λ e. (wide, f e)
