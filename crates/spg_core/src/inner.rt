@@ -6,7 +6,8 @@ ghost use Rattle.spg_tree.specs.declared.stand.StepRefused.TheVariants.{IndexFul
 ghost use Rattle.spg_descend.specs.Carried.{IsCarried};
 ghost use Rattle.spg_descend.specs.Follows.{IsAtInner, tuple_place};
 ghost use Rattle.spg_core.specs.declared.inner.Chosen.TheVariants.{Node, Add};
-ghost use Rattle.spg_core.specs.Stepping.{Stands, IsOutgrown, IsNearLimit, IsStepOut, IsChosen, named};
+ghost use Rattle.spg_core.specs.Stepping.{Stands, IsOutgrown, IsNearLimit, IsStepOut, IsChosen, MakesAtMostOne, named};
+ghost use Rattle.spg_core.specs.Ends.{TakesOne};
 ghost use Rattle.spg_core.specs.Latches.{InsertHolds, HoldsAfter};
 
 use crate::answer::InsertOut;
@@ -152,6 +153,8 @@ fn go_down<O: OpClass>(
     requires chosen { IsChosen O.meaning table.old descent.old (Node node rest by_turn) }
     ensures ok { IfOk result (λ out. IsStepOut O.meaning table.old table.new descent.old descent.new seat out) }
     ensures latches { IfOk result (λ out. InsertHolds table.old seat descent.old → HoldsAfter table.new seat descent.new out) }
+    ensures ends { IfOk result (λ out. TakesOne O.meaning table.old table.new descent.old descent.new out) }
+    ensures makes { IfOk result (λ _. MakesAtMostOne table.old table.new) }
     ensures err { OnErr result (table.new ≡ table.old) }
     ensures err_descent { OnErr result (descent.new ≡ descent.old) }
 {
@@ -182,6 +185,8 @@ fn widen<O: OpClass>(
     requires chosen { IsChosen O.meaning table.old descent.old (Add at label) }
     ensures ok { IfOk result (λ out. IsStepOut O.meaning table.old table.new descent.old descent.new seat out) }
     ensures latches { IfOk result (λ out. InsertHolds table.old seat descent.old → HoldsAfter table.new seat descent.new out) }
+    ensures ends { IfOk result (λ out. TakesOne O.meaning table.old table.new descent.old descent.new out) }
+    ensures makes { IfOk result (λ _. MakesAtMostOne table.old table.new) }
     ensures full { IsErrOf result IndexFull → IsOutgrown table.old descent.old × IsNearLimit table.old }
     ensures clock { IsErrOf result ClockFull → IsOutgrown table.old descent.old × (table.old.clock + 1 ≡ 2 ^ 48) }
     ensures err { OnErr result (table.new ≡ table.old) }
@@ -208,6 +213,8 @@ pub(crate) fn at_inner<O: OpClass>(
     requires stands { Stands table.old descent.old }
     ensures ok { IfOk result (λ out. IsStepOut O.meaning table.old table.new descent.old descent.new seat out) }
     ensures latches { IfOk result (λ out. InsertHolds table.old seat descent.old → HoldsAfter table.new seat descent.new out) }
+    ensures ends { IfOk result (λ out. TakesOne O.meaning table.old table.new descent.old descent.new out) }
+    ensures makes { IfOk result (λ _. MakesAtMostOne table.old table.new) }
     ensures full { IsErrOf result IndexFull → IsOutgrown table.old descent.old × IsNearLimit table.old }
     ensures clock { IsErrOf result ClockFull → IsOutgrown table.old descent.old × (table.old.clock + 1 ≡ 2 ^ 48) }
     ensures err { OnErr result (table.new ≡ table.old) }

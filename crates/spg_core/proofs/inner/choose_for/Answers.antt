@@ -1,4 +1,4 @@
-use Rattle.std.proofs.Common.{◌≡◌, ℕ, ◌<◌, List, length, sym, ap, ap₂, ◌∙◌, subst}
+use Rattle.std.proofs.Common.{◌≡◌, ℕ, ◌<◌, List, length, sym, ap, ap₂, ◌∙◌, subst, inr}
 use Rattle.spg_opclass.specs.declared.view.Choice.TheVariants.{Match}
 use Rattle.spg_forest.specs.View.{Place}
 use Rattle.spg_forest.specs.Spot.{Frame}
@@ -36,4 +36,5 @@ returns-in-Match g c =
       rest_ok m g.O.OpClass.matches t d c.requires.shape c.requires.inner c.requires.stands c.args.recon.now c.requires.recon c.requires.main key C c.in-Match.node c.in-Match.rest eq,
       (λ other D. subst (λ (n : ℕ). GoesBelow m d.recon (frame_in (tuple_at t (tuple_place d.stand))) n c.in-Match.rest other) (sym en)
           (goes m g.O.OpClass.matches t d c.requires.shape c.requires.inner c.requires.stands c.args.recon.now c.requires.recon c.requires.main other D c.in-Match.node c.in-Match.rest c.counter.result low eq)),
+      inr (c.in-Match.node, (c.args.recon.now, c.requires.recon, eq), en ∙ ap (λ (n : ℕ). named n (frame_in (tuple_at t (tuple_place d.stand))) c.in-Match.node) c.counter.ensures.value),
     )

@@ -8,7 +8,8 @@ use Rattle.spg_descend.specs.Leaves.{stand_block}
 use Rattle.spg_descend.specs.Follows.{FollowsNode, CarriesBelow, tuple_place, link_of, stand_below}
 use Rattle.spg_core.specs.Stepping.{SamePages, StandsAt}
 use Rattle.spg_core.proofs.Stands.{child_stands, here_there}
-use Rattle.spg_core.proofs.Moves.{down_out, back_out}
+use Rattle.spg_core.proofs.Moves.{down_out, back_out, down_makes}
+use Rattle.spg_core.proofs.Ends.{down_ends}
 use Rattle.spg_core.proofs.Holding.{follow_holds, back_holds}
 use Rattle.spg_core.proofs.inner.go_down.Goals as goal
 use Rattle.spg_core.proofs.inner.go_down.Goals.{then-by_turn, else-by_turn}
@@ -80,3 +81,42 @@ returns-in-Busy-clause-latches g c = λ h.
     ] in
     let (eb, held, other, et, ed) = subst (λ (e : Entered). FollowsNode m t t1 d d2 c.args.seat node rest e) c.in-Busy.is c.in_ok-entered.ensures.ok in
     back_holds t t1 c.if-by_turn.table c.args.seat d d2 et same ed h
+
+pub returns-in-In-clause-ends : goal.returns-in-In-clause-ends
+returns-in-In-clause-ends g c =
+    let t = c.args.table.now in
+    let d = c.args.descent.now in
+    let m = g.O.OpClass.meaning in
+    let t1 = c.follow.new.table in
+    let d2 = c.follow.new.descent in
+    let same : SamePages t1 c.if-by_turn.table = elim c.if-by_turn.branch [
+      | then-by_turn w ↦ (ap sheets_of (w.table-is ∙ w.turn_counter.ensures), ap (λ (z : Table). z.limit) (w.table-is ∙ w.turn_counter.ensures))
+      | else-by_turn w ↦ (ap sheets_of w.table-is, ap (λ (z : Table). z.limit) w.table-is)
+    ] in
+    let node = c.args.node in
+    let rest = c.args.rest in
+    down_ends m t t1 c.if-by_turn.table d d2 c.args.seat node rest c.requires.shape c.requires.inner c.requires.chosen.3 (subst (λ (e : Entered). FollowsNode m t t1 d d2 c.args.seat node rest e) c.in-In.is c.in_ok-entered.ensures.ok) same
+
+pub returns-in-In-clause-makes : goal.returns-in-In-clause-makes
+returns-in-In-clause-makes g c =
+    let t = c.args.table.now in
+    let d = c.args.descent.now in
+    let m = g.O.OpClass.meaning in
+    let t1 = c.follow.new.table in
+    let same : SamePages t1 c.if-by_turn.table = elim c.if-by_turn.branch [
+      | then-by_turn w ↦ (ap sheets_of (w.table-is ∙ w.turn_counter.ensures), ap (λ (z : Table). z.limit) (w.table-is ∙ w.turn_counter.ensures))
+      | else-by_turn w ↦ (ap sheets_of w.table-is, ap (λ (z : Table). z.limit) w.table-is)
+    ] in
+    down_makes m t t1 c.if-by_turn.table d c.follow.new.descent c.args.seat c.args.node c.args.rest _ c.in_ok-entered.ensures.ok same
+
+pub returns-in-Busy-clause-makes : goal.returns-in-Busy-clause-makes
+returns-in-Busy-clause-makes g c =
+    let t = c.args.table.now in
+    let d = c.args.descent.now in
+    let m = g.O.OpClass.meaning in
+    let t1 = c.follow.new.table in
+    let same : SamePages t1 c.if-by_turn.table = elim c.if-by_turn.branch [
+      | then-by_turn w ↦ (ap sheets_of (w.table-is ∙ w.turn_counter.ensures), ap (λ (z : Table). z.limit) (w.table-is ∙ w.turn_counter.ensures))
+      | else-by_turn w ↦ (ap sheets_of w.table-is, ap (λ (z : Table). z.limit) w.table-is)
+    ] in
+    down_makes m t t1 c.if-by_turn.table d c.follow.new.descent c.args.seat c.args.node c.args.rest _ c.in_ok-entered.ensures.ok same

@@ -1,6 +1,7 @@
 use Rattle.std.proofs.Common.{ap, ◌∙◌}
 use Rattle.spg_descend.specs.Leaves.{stand_block}
-use Rattle.spg_core.proofs.Inners.{widen_out, widen_holds}
+use Rattle.spg_core.proofs.Inners.{widen_out, widen_holds, widen_makes}
+use Rattle.spg_core.proofs.Ends.{widen_ends}
 use Rattle.spg_core.proofs.inner.widen.Goals as goal
 
 pub returns-clause-ok : goal.returns-clause-ok
@@ -10,3 +11,10 @@ returns-clause-ok g c = widen_out g.O.OpClass.meaning c.args.table.now c.add_nod
 pub returns-clause-latches : goal.returns-clause-latches
 returns-clause-latches g c = λ h. widen_holds g.O.OpClass.meaning c.args.table.now c.add_node.new.table c.hold_anew.new.table c.args.descent.now c.add_node.new.descent c.args.seat c.args.at _ c.stand_block-was.result
     c.in_ok-add_node.ensures.ok c.page_count-count.ensures.sound.latched (c.stand_block-was.ensures ∙ ap stand_block c.stand.ensures) c.hold_anew.ensures.held h
+
+pub returns-clause-ends : goal.returns-clause-ends
+returns-clause-ends g c = widen_ends g.O.OpClass.meaning g.O.OpClass.adds c.args.table.now c.add_node.new.table c.hold_anew.new.table c.args.descent.now c.add_node.new.descent c.args.at _ c.requires.shape c.requires.of_key c.requires.stands c.requires.inner
+    c.requires.chosen.0 c.requires.chosen.1 c.in_ok-add_node.ensures.ok c.hold_anew.ensures.pages
+
+pub returns-clause-makes : goal.returns-clause-makes
+returns-clause-makes g c = widen_makes g.O.OpClass.meaning c.args.table.now c.add_node.new.table c.hold_anew.new.table c.args.descent.now c.add_node.new.descent c.args.at _ c.in_ok-add_node.ensures.ok c.hold_anew.ensures.pages
