@@ -92,7 +92,7 @@ leaves_spot m t nulls (Root b) H (pos, low, leaf, tree) =
       ⊎_elim
           (λ (w, ns, e, s).
           let inner : (sheet_at S b).inner ≡ true = (subst (λ (ts : List Tuple). IsKindOf m (sheet_at S b).inner (sheet_at S b).nulls (tuple_on ts 1)) (sym (page_is S b) ∙ e) ((H.pages.each b).kinds 1)).0 in
-          absurd (cc))
+          let both : false ≡ true = sym leaf ∙ inner in cc)
           (λ (ls, e, s). (ls, ap (spots S) (low_spot (place b 1) low) ∙ s))
           ((shape_shown m S H).root b pos low),
     )
@@ -147,7 +147,7 @@ enters_ends {Key} {Recon} m t t2 d d2 start same e = λ n h.
 -- the answer that the class gives is one
 one_answer : {Key Recon Cond : Type 0} (m : Meaning Key Recon Cond) (t : Table) (d : Descending Recon) (a b : Choice) → IsAnswered m t d a → IsAnswered m t d b → a ≡ b
 one_answer {Key} {Recon} m t d a b (r, er, ea) (s, es, eb) =
-    let same : r ≡ s = let f : Some r ≡ Some s = sym er ∙ es in cc in
+    let same : r ≡ s = (let f : Some r ≡ Some s = sym er ∙ es in cc) in
     sym ea ∙ ap (λ (q : Recon). m.answer q (frame_in (tuple_at t (tuple_place d.stand))) d.rest) same ∙ eb
 
 same_match : (a b : ℕ) (p q : List ℕ) → Match a p ≡ Match b q → a ≡ b
@@ -163,20 +163,23 @@ module _ {Key Recon Cond : Type 0} (m : Meaning Key Recon Cond) (t : Table) (d :
   near_leads n node rest (inl (no, turn)) (i, inr (three, (r, child, er, goes, others, plain))) = absurd (let f : None ≡ Some r = sym no ∙ er in cc)
   near_leads n node rest (inr (answer, is, e)) (i, inl (two, (other, left, was, nowhere, plain))) =
       let same : answer ≡ other = same_match answer other rest left (one_answer m t d (Match answer rest) (Match other left) is was) in
-      let at : node ≡ other = rw plain at e ∙ same in
-      (ap (λ (j : ℕ). link_of t x j) at ∙ nowhere, two)
+      let here : node ≡ answer = rw plain at e in
+      (ap (λ (j : ℕ). link_of t x j) (here ∙ same) ∙ nowhere, two)
   near_leads n node rest (inr (answer, (s, es, ea), e)) (i, inr (three, (r, child, er, goes, others, plain))) =
-      let same : r ≡ s = let f : Some r ≡ Some s = sym er ∙ es in cc in
+      let same : r ≡ s = (let f : Some r ≡ Some s = sym er ∙ es in cc) in
       let eq : m.answer r (frame_in (tuple_at t x)) d.rest ≡ Match answer rest = ap (λ (q : Recon). m.answer q (frame_in (tuple_at t x)) d.rest) same ∙ ea in
       let off : answer ≡ child → ⊥ = subst (λ (c : Choice). GoesOn child c) eq goes in
-      let at : node ≡ answer = rw plain at e in
-      (ap (λ (j : ℕ). link_of t x j) at ∙ others answer off, omega arith)
+      let here : node ≡ answer = rw plain at e in
+      (ap (λ (j : ℕ). link_of t x j) here ∙ others answer off, omega arith)
 
   -- where it leads fewer sections come
   ends_below : (dz : Descending Recon) (n node : ℕ) (rest : List ℕ) → Shape m (sheets_of t) → IsAtInner t d.stand → IsNamed m t d node rest → EndsWithin m t d (suc n) → EndsAt m t dz n (stand_below (link_of t x node))
   ends_below dz n node rest H i is h = ⊎_elim
       (λ r. let (few, each) = branch_rank (spots (sheets_of t)) n (spot_of x) (frame_in (tuple_at t x)) (links (tuple_at t x)) (inner_spot m t d.stand H i) r in go few each (link_of t x node) refl)
-      (λ q. let (none, two) = near_leads (suc n) node rest is q in subst (λ (l : Option Place). EndsAt m t dz n (stand_below l)) (sym none) (omega arith))
+      (λ q.
+      let (none, two) = near_leads (suc n) node rest is q in
+      let one : 1 ≤ n = omega arith in
+      subst (λ (l : Option Place). EndsAt m t dz n (stand_below l)) (sym none) one)
       (from_place m t d (suc n) d.stand i.0 h)
     where
       go : 3 ≤ n → ((j : ℕ) (y : Place) → get_or (links (tuple_at t x)) j None ≡ Some y → IsRanked (spots (sheets_of t)) n y) → (l : Option Place) → link_of t x node ≡ l → EndsAt m t dz n (stand_below l)
@@ -193,7 +196,12 @@ down_ends {Key} {Recon} m t t1 t2 d d2 seat node rest H i is (open, et, ed) same
 
 -- ---- a node is put in, or the tuple is split
 
--- the class and the key that an insert of the main tree carries
+inner_rank : {Key Recon Cond : Type 0} (m : Meaning Key Recon Cond) (t : Table) (d : Descending Recon) (n : ℕ) → Shape m (sheets_of t) → IsAtInner t d.stand → IsRanked (spots (sheets_of t)) (suc n) (spot_of (tuple_place d.stand)) → 3 ≤ n
+inner_rank m t d n H i r =
+    let u : Tuple = tuple_at t (tuple_place d.stand) in
+    (branch_rank (spots (sheets_of t)) n (spot_of (tuple_place d.stand)) (frame_in u) (links u) (inner_spot m t d.stand H i) r).0
+
+-- what the class sees there is one of its tuples, and the insert carries a key
 is_tuple_here : {Key Recon Cond : Type 0} (m : Meaning Key Recon Cond) (t : Table) (d : Descending Recon) → Shape m (sheets_of t) → IsAtInner t d.stand → Stands t d → in_nulls d ≡ false → is_tuple m (frame_in (tuple_at t (tuple_place d.stand))) ≡ true
 is_tuple_here m t d H i at main = subst (λ (b : Bool). IsTupleOf m b (frame_in (tuple_at t (tuple_place d.stand)))) main (framed m t d H i at).kind
 
@@ -207,23 +215,20 @@ widen_ends {Key} {Recon} m adds t t1 t2 d d2 at label H (key, C) stands i main (
     (λ (big, y, e, ticked, makes, parity, led, W). one n (moved (tuple_place d.stand) y) (ap (λ (z : Descending Recon). z.recon) e) (ap (λ (z : Descending Recon). z.rest) e) W h)
     added)
   where
+    near : (n : ℕ) → IsNearEnd m t d (suc n) → 2 ≤ n
+    near n (j, inl (two, (other, left, was, nowhere, plain))) = let f : Match other left ≡ Add at label = one_answer m t d (Match other left) (Add at label) was (recon, er, ea) in cc
+    near n (j, inr (three, q)) = omega arith
+
     two : (n : ℕ) → EndsWithin m t d (suc n) → 2 ≤ n
-    two n h = ⊎_elim
-        (λ r. let (few, each) = branch_rank (spots (sheets_of t)) n (spot_of (tuple_place d.stand)) (frame_in (tuple_at t (tuple_place d.stand))) (links (tuple_at t (tuple_place d.stand))) (inner_spot m t d.stand H i) r in omega arith)
-        (λ q. near q)
-        (from_place m t d (suc n) d.stand i.0 h)
-      where
-        near : IsNearEnd m t d (suc n) → 2 ≤ n
-        near (j, inl (two, (other, left, was, nowhere, plain))) = absurd (let f : Match other left ≡ Add at label = one_answer m t d (Match other left) (Add at label) was (recon, er, ea) in cc)
-        near (j, inr (three, q)) = omega arith
+    two n h = ⊎_elim (λ r. let few = inner_rank m t d n H i r in omega arith) (λ q. near n q) (from_place m t d (suc n) d.stand i.0 h)
 
     one : (n : ℕ) (f : Place → Place) → d2.recon ≡ d.recon → d2.rest ≡ d.rest → Widens m t t1 d d2 at label f → EndsWithin m t d (suc n) → EndsWithin m t1 d2 n
     one n f recons rests W h =
         let w : Frame = frame_in (tuple_at t (tuple_place d.stand)) in
         let (k, ek, q) = gives_key m t d recon key er C in
         let L = adds recon w d.rest k (is_tuple_here m t d H i stands main) ek at label ea in
-        let (rest, then) = L.then_matches in
-        let answer : m.answer recon (frame_in (tuple_at t1 (tuple_place d2.stand))) d2.rest ≡ Match at rest = ap₂ (λ (v : Frame) (bs : List ℕ). m.answer recon v bs) W.frame rests ∙ then in
+        let (rest, again) = L.then_matches in
+        let answer : m.answer recon (frame_in (tuple_at t1 (tuple_place d2.stand))) d2.rest ≡ Match at rest = ap₂ (λ (v : Frame) (bs : List ℕ). m.answer recon v bs) W.frame rests ∙ again in
         let plain : (frame_in (tuple_at t1 (tuple_place d2.stand))).all_same ≡ false = ap (λ (v : Frame). v.all_same) W.frame ∙ L.not_same in
         to_place m t1 d2 n d2.stand W.inner.0 (inr (W.inner, inl (two n h, (at, rest, (recon, recons ∙ er, answer), W.nowhere, plain))))
 
@@ -240,18 +245,15 @@ split_ends {Key} {Recon} m splits t t2 d d2 up labels child low H (key, C) stand
     let plain : (frame_in (tuple_at t2 (tuple_place d2.stand))).all_same ≡ false = ap (λ (v : Frame). v.all_same) P.frame in
     to_place m t2 d2 n d2.stand P.inner.0 (inr (P.inner, inr (three n h, (recon, child, recons ∙ er, goes, P.others, plain))))
   where
+    near : (n : ℕ) → IsNearEnd m t d n → ⊥
+    near n (j, inl (two, (other, left, was, nowhere, plain))) = let f : Match other left ≡ Split up labels child low = one_answer m t d (Match other left) (Split up labels child low) was (recon, er, ea) in cc
+    near n (j, inr (few, (r, other, es, goes, others, plain))) =
+        let same : r ≡ recon = (let f : Some r ≡ Some recon = sym es ∙ er in cc) in
+        let eq : m.answer r (frame_in (tuple_at t (tuple_place d.stand))) d.rest ≡ Split up labels child low = ap (λ (z : Recon). m.answer z (frame_in (tuple_at t (tuple_place d.stand))) d.rest) same ∙ ea in
+        subst (λ (c : Choice). GoesOn other c) eq goes
+
     three : (n : ℕ) → EndsWithin m t d (suc n) → 3 ≤ n
-    three n h = ⊎_elim
-        (λ r. (branch_rank (spots (sheets_of t)) n (spot_of (tuple_place d.stand)) (frame_in (tuple_at t (tuple_place d.stand))) (links (tuple_at t (tuple_place d.stand))) (inner_spot m t d.stand H i) r).0)
-        (λ q. absurd (near q))
-        (from_place m t d (suc n) d.stand i.0 h)
-      where
-        near : IsNearEnd m t d (suc n) → ⊥
-        near (j, inl (two, (other, left, was, nowhere, plain))) = let f : Match other left ≡ Split up labels child low = one_answer m t d (Match other left) (Split up labels child low) was (recon, er, ea) in cc
-        near (j, inr (three, (r, other, es, goes, others, plain))) =
-            let same : r ≡ recon = let f : Some r ≡ Some recon = sym es ∙ er in cc in
-            let eq : m.answer r (frame_in (tuple_at t (tuple_place d.stand))) d.rest ≡ Split up labels child low = ap (λ (z : Recon). m.answer z (frame_in (tuple_at t (tuple_place d.stand))) d.rest) same ∙ ea in
-            subst (λ (c : Choice). GoesOn other c) eq goes
+    three n h = ⊎_elim (λ r. inner_rank m t d n H i r) (λ q. absurd (near (suc n) q)) (from_place m t d (suc n) d.stand i.0 h)
 
 -- ---- leaves are divided without that of the insert
 
