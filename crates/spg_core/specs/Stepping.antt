@@ -17,6 +17,7 @@ use Rattle.spg_descend.specs.Puts.{IsAtLeaves, IsAtEmpty, Fits}
 use Rattle.spg_descend.specs.Rules.{IsAtNoInner}
 use Rattle.spg_forest.specs.Shape.{IsRestOf}
 use Rattle.spg_forest.specs.Sheets.{links}
+use Rattle.spg_forest.specs.Classes.{down_of}
 use Rattle.spg_forest.specs.Follows.{GoesBelow}
 use Rattle.spg_page.specs.Reads.{frame_in}
 use Rattle.spg_opclass.specs.declared.view.Choice.TheVariants as choice
@@ -90,10 +91,11 @@ abbrev pub IsNamed : {Key Recon Cond : Type 0} → Meaning Key Recon Cond → Ta
 IsNamed m t d node rest =
     ((d.recon ≡ None) × (node ≡ t.counter)) ⊎ ((answer : ℕ) × IsAnswered m t d (choice.Match answer rest) × (node ≡ named t.counter (frame_in (tuple_at t (tuple_place d.stand))) answer))
 
--- What an insert does at an inner tuple: it goes down a node that is there, below which it carries what it carried, by what the class answers; or the class asks for a node or a split
-abbrev pub IsChosen : {Key Recon Cond : Type 0} → Meaning Key Recon Cond → Table → Descending Recon → Chosen → Type 0
-IsChosen {Key} m t d (Node node rest by_turn) =
+-- What an insert does at an inner tuple: it goes down a node that is there, below which it carries what it carried, by what the class answers, with the rebuilt value there; or the class asks for a node or a split
+abbrev pub IsChosen : {O Key Recon Cond : Type 0} → Meaning Key Recon Cond → Table → Descending Recon → Chosen O Key Recon Cond → Type 0
+IsChosen {O} {Key} m t d (Node node rest by_turn below) =
     let x : Place = tuple_place d.stand in
     (node < length (links (tuple_at t x))) × IsRestOf m (in_nulls d) rest × ((key : Option Key) → IsCarried m (sheets_of t) d key → GoesBelow m d.recon (frame_in (tuple_at t x)) node rest key) × IsNamed m t d node rest
+        × (below ≡ down_of m d.recon (frame_in (tuple_at t x)) node)
 IsChosen m t d (Add at label) = (in_nulls d ≡ false) × IsAnswered m t d (choice.Add at label)
 IsChosen m t d (Split up labels child low) = (in_nulls d ≡ false) × IsAnswered m t d (choice.Split up labels child low)
