@@ -28,7 +28,7 @@ returns-in-In-clause-ok g c =
     let node = c.args.node in
     let rest = c.args.rest in
     down_out m t t1 c.if-by_turn.table d d2 c.args.seat node rest c.requires.shape c.requires.inner c.requires.stands c.requires.chosen.0 c.requires.chosen.1 c.requires.chosen.2
-    (subst (λ (e : Entered). FollowsNode m t t1 d d2 c.args.seat node rest e) c.in-In.is c.enter_node-entered.ensures.ok) (subst (λ (e : Entered). CarriesBelow m t t1 d d2 node rest e) c.in-In.is c.enter_node-entered.ensures.carries) same
+    (subst (λ (e : Entered). FollowsNode m t t1 d d2 c.args.seat node rest e) c.in-In.is c.enter_node-entered.ensures.follows) (subst (λ (e : Entered). CarriesBelow m t t1 d d2 node rest e) c.in-In.is c.enter_node-entered.ensures.carries) same
 
 pub returns-in-Busy-clause-ok : goal.returns-in-Busy-clause-ok
 returns-in-Busy-clause-ok g c =
@@ -44,7 +44,7 @@ returns-in-Busy-clause-ok g c =
     let node = c.args.node in
     let rest = c.args.rest in
     back_out m t t1 c.if-by_turn.table d d2 c.args.seat c.in-Busy.block c.in-Busy.by node rest
-    (subst (λ (e : Entered). FollowsNode m t t1 d d2 c.args.seat node rest e) c.in-Busy.is c.enter_node-entered.ensures.ok) (subst (λ (e : Entered). CarriesBelow m t t1 d d2 node rest e) c.in-Busy.is c.enter_node-entered.ensures.carries) same
+    (subst (λ (e : Entered). FollowsNode m t t1 d d2 c.args.seat node rest e) c.in-Busy.is c.enter_node-entered.ensures.follows) (subst (λ (e : Entered). CarriesBelow m t t1 d d2 node rest e) c.in-Busy.is c.enter_node-entered.ensures.carries) same
 
 pub returns-in-In-clause-latches : goal.returns-in-In-clause-latches
 returns-in-In-clause-latches g c = λ h.
@@ -60,7 +60,7 @@ returns-in-In-clause-latches g c = λ h.
       | then-by_turn w ↦ (λ b. ap (λ (z : Table). latch_at z b) (w.table-is ∙ w.turn_counter.ensures))
       | else-by_turn w ↦ (λ b. ap (λ (z : Table). latch_at z b) w.table-is)
     ] in
-    let (unheld, et, ed) = subst (λ (e : Entered). FollowsNode m t t1 d d2 c.args.seat node rest e) c.in-In.is c.enter_node-entered.ensures.ok in
+    let (unheld, et, ed) = subst (λ (e : Entered). FollowsNode m t t1 d d2 c.args.seat node rest e) c.in-In.is c.enter_node-entered.ensures.follows in
     let stands : StandsAt t (in_nulls d) st (Some (tuple_place d.stand, node)) = child_stands m t (in_nulls d) d.stand d.parent node c.requires.shape c.requires.stands c.requires.inner c.requires.chosen.0 in
     let within = here_there m t (in_nulls d) st (Some (tuple_place d.stand, node)) c.requires.shape stands in
     follow_holds t t1 c.if-by_turn.table c.args.seat d d2 st node (down_of m d.recon (frame_in (tuple_at t (tuple_place d.stand))) node) rest c.requires.inner
@@ -79,7 +79,7 @@ returns-in-Busy-clause-latches g c = λ h.
       | then-by_turn w ↦ (λ b. ap (λ (z : Table). latch_at z b) (w.table-is ∙ w.turn_counter.ensures))
       | else-by_turn w ↦ (λ b. ap (λ (z : Table). latch_at z b) w.table-is)
     ] in
-    let (eb, held, other, et, ed) = subst (λ (e : Entered). FollowsNode m t t1 d d2 c.args.seat node rest e) c.in-Busy.is c.enter_node-entered.ensures.ok in
+    let (eb, held, other, et, ed) = subst (λ (e : Entered). FollowsNode m t t1 d d2 c.args.seat node rest e) c.in-Busy.is c.enter_node-entered.ensures.follows in
     back_holds t t1 c.if-by_turn.table c.args.seat d d2 et same ed h
 
 pub returns-in-In-clause-ends : goal.returns-in-In-clause-ends
@@ -95,7 +95,7 @@ returns-in-In-clause-ends g c =
     ] in
     let node = c.args.node in
     let rest = c.args.rest in
-    down_ends m t t1 c.if-by_turn.table d d2 c.args.seat node rest c.requires.shape c.requires.inner c.requires.chosen.3 (subst (λ (e : Entered). FollowsNode m t t1 d d2 c.args.seat node rest e) c.in-In.is c.enter_node-entered.ensures.ok) same
+    down_ends m t t1 c.if-by_turn.table d d2 c.args.seat node rest c.requires.shape c.requires.inner c.requires.chosen.3 (subst (λ (e : Entered). FollowsNode m t t1 d d2 c.args.seat node rest e) c.in-In.is c.enter_node-entered.ensures.follows) same
 
 pub returns-in-In-clause-makes : goal.returns-in-In-clause-makes
 returns-in-In-clause-makes g c =
@@ -107,7 +107,7 @@ returns-in-In-clause-makes g c =
       | then-by_turn w ↦ (ap sheets_of (w.table-is ∙ w.turn_counter.ensures), ap (λ (z : Table). z.limit) (w.table-is ∙ w.turn_counter.ensures))
       | else-by_turn w ↦ (ap sheets_of w.table-is, ap (λ (z : Table). z.limit) w.table-is)
     ] in
-    down_makes m t t1 c.if-by_turn.table d c.enter_node-entered.new.descent c.args.seat c.args.node c.args.rest _ c.enter_node-entered.ensures.ok same
+    down_makes m t t1 c.if-by_turn.table d c.enter_node-entered.new.descent c.args.seat c.args.node c.args.rest _ c.enter_node-entered.ensures.follows same
 
 pub returns-in-Busy-clause-makes : goal.returns-in-Busy-clause-makes
 returns-in-Busy-clause-makes g c =
@@ -119,4 +119,4 @@ returns-in-Busy-clause-makes g c =
       | then-by_turn w ↦ (ap sheets_of (w.table-is ∙ w.turn_counter.ensures), ap (λ (z : Table). z.limit) (w.table-is ∙ w.turn_counter.ensures))
       | else-by_turn w ↦ (ap sheets_of w.table-is, ap (λ (z : Table). z.limit) w.table-is)
     ] in
-    down_makes m t t1 c.if-by_turn.table d c.enter_node-entered.new.descent c.args.seat c.args.node c.args.rest _ c.enter_node-entered.ensures.ok same
+    down_makes m t t1 c.if-by_turn.table d c.enter_node-entered.new.descent c.args.seat c.args.node c.args.rest _ c.enter_node-entered.ensures.follows same
