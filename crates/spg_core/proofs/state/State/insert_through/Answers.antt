@@ -1,5 +1,5 @@
 use Rattle.std.proofs.Common.{ℕ, ◌≡◌, ◌^◌, rules, subst, arith}
-use Rattle.spg_forest.specs.Ranks.{EachIsRanked}
+use Rattle.spg_core.proofs.RanksTmp.{each_is_ranked}
 use Rattle.spg_core.specs.declared.answer.InsertOut.{InsertOut}
 use Rattle.spg_core.specs.declared.answer.InsertOut.TheVariants.{Put}
 use Rattle.spg_core.specs.Latches.{LatchesAfter}
@@ -21,14 +21,13 @@ loop-turn-preserved g c =
       inserting = goes_inserting c.loop-turn.self c.insert_step.new.self c.args.seat c.in_ok-insert_step.field-0 c.in_ok-insert_step.ensures.ok no_put;
       ends =
           let (k, few, now) = c.loop-turn.invariant.ends in
-          fewer_come g.O.OpClass.meaning c.loop-turn.self c.insert_step.new.self c.args.seat k c.loop-turn.turn (2 ^ 64) c.in_ok-insert_step.field-0 few now c.in_ok-insert_step.ensures.ends no_put c.in_ok-insert_step.ensures.alone;
+          fewer_come g.O.OpClass.meaning c.loop-turn.self c.insert_step.new.self c.args.seat k c.loop-turn._turn (2 ^ 64) c.in_ok-insert_step.field-0 few now c.in_ok-insert_step.ensures.ends no_put c.in_ok-insert_step.ensures.alone;
     }
 
 pub loop-turn-init : goal.loop-turn-init
 loop-turn-init g c =
     let t = c.args.self.now.table in
-    let ranks : EachIsRanked g.O.OpClass.meaning = ? in
-    let (k, most, now) = ends_from g.O.OpClass.meaning ranks c.args.self.now c.args.seat c.pages.ensures.represents.shape c.requires.inserting in
+    let (k, most, now) = ends_from g.O.OpClass.meaning (each_is_ranked g.O.OpClass.meaning) c.args.self.now c.args.seat c.pages.ensures.represents.shape c.requires.inserting in
     let sound = c.page_count-count.ensures.sound in
     record {
       goes = still_there c.args.self.now c.args.seat;
