@@ -148,8 +148,8 @@ module _ {Key Recon Cond : Type 0} (m : Meaning Key Recon Cond) (t : Table) (d :
 
   -- near the end the node that is followed leads nowhere
   near_leads : (n node : ℕ) (rest : List ℕ) → IsNamed m t d node rest → IsNearEnd m t d n → (link_of t x node ≡ None) × (2 ≤ n)
-  near_leads n node rest (inl (no, turn)) (i, inl (two, (other, left, (r, er, ea), nowhere, plain))) = absurd (let f : None ≡ Some r = sym no ∙ er in cc)
-  near_leads n node rest (inl (no, turn)) (i, inr (three, (r, child, er, goes, others, plain))) = absurd (let f : None ≡ Some r = sym no ∙ er in cc)
+  near_leads n node rest (inl (absent, turn)) (i, inl (two, (other, left, (r, er, ea), nowhere, plain))) = absurd (let f : None ≡ Some r = sym absent ∙ er in cc)
+  near_leads n node rest (inl (absent, turn)) (i, inr (three, (r, child, er, goes, others, plain))) = absurd (let f : None ≡ Some r = sym absent ∙ er in cc)
   near_leads n node rest (inr (answer, is, e)) (i, inl (two, (other, left, was, nowhere, plain))) =
       let same : answer ≡ other = same_match answer other rest left (one_answer m t d (Match answer rest) (Match other left) is was) in
       let here : node ≡ answer = rw plain at e in
