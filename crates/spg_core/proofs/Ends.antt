@@ -13,10 +13,11 @@ use Rattle.spg_forest.specs.Sheets.{Sheet, Sheets, sheet_at, links}
 use Rattle.spg_forest.specs.Shape.{Shape, spots, IsKindOf, IsTupleOf}
 use Rattle.spg_forest.specs.Classes.{key_of}
 use Rattle.spg_forest.specs.Edits.{spot_of, CanPut}
-use Rattle.spg_forest.specs.Ranks.{leaf_rank, IsRankedAt, IsRanked, most_sections, EachIsRanked}
+use Rattle.spg_forest.specs.Ranks.{leaf_rank, IsRanked, most_sections, EachIsRanked}
 use Rattle.spg_forest.proofs.Writes.{inner_at, high_spot, low_spot}
 use Rattle.spg_forest.proofs.Sections.{shape_shown}
 use Rattle.spg_forest.proofs.Edits.{page_is}
+use Rattle.spg_core.proofs.RanksTmp.{ranked_branch, branch_ranked, ranked_leaves, leaves_ranked}
 use Rattle.spg_page.specs.Reads.{frame_in}
 use Rattle.spg_tree.specs.Table.{Table, sheets_of, tuple_at}
 use Rattle.spg_tree.specs.Descents.{Descending, in_nulls, placed}
@@ -44,27 +45,15 @@ use Rattle.spg_core.proofs.Chooses.{framed, key_given}
 
 -- ---- ranks
 
-pub branch_rank : (V : Place → Spot) (n : ℕ) (x : Place) (w : Frame) (ns : List (Option Place)) → V x ≡ Branch w ns → IsRanked V (suc n) x → (3 ≤ n) × ((i : ℕ) (y : Place) → get_or ns i None ≡ Some y → IsRanked V n y)
-branch_rank V n x w ns e r = subst (λ (s : Spot). IsRankedAt n (IsRanked V n) s) e r
-
-pub ranked_branch : (V : Place → Spot) (n : ℕ) (x : Place) (w : Frame) (ns : List (Option Place)) → V x ≡ Branch w ns → 3 ≤ n → ((i : ℕ) (y : Place) → get_or ns i None ≡ Some y → IsRanked V n y) → IsRanked V (suc n) x
-ranked_branch V n x w ns e few each = subst (λ (s : Spot). IsRankedAt n (IsRanked V n) s) (sym e) (few, each)
-
-pub bucket_rank : (V : Place → Spot) (n : ℕ) (x : Place) (ls : List Leaf) → V x ≡ Bucket ls → IsRanked V (suc n) x → leaf_rank (length ls) ≤ suc n
-bucket_rank V n x ls e r = subst (λ (s : Spot). IsRankedAt n (IsRanked V n) s) e r
-
-pub ranked_bucket : (V : Place → Spot) (n : ℕ) (x : Place) (ls : List Leaf) → V x ≡ Bucket ls → leaf_rank (length ls) ≤ suc n → IsRanked V (suc n) x
-ranked_bucket V n x ls e few = subst (λ (s : Spot). IsRankedAt n (IsRanked V n) s) (sym e) few
-
 -- an inner tuple each node of which leads to fewer leaves than stood before
 fewer_ranked : (V : Place → Spot) (n c : ℕ) (x : Place) (w : Frame) (ns : List (Option Place)) → V x ≡ Branch w ns → leaf_rank c ≤ suc n →
     ((i : ℕ) (y : Place) → get_or ns i None ≡ Some y → (ls : List Leaf) × (V y ≡ Bucket ls) × (length ls < c)) → IsRanked V n x
 fewer_ranked V zero c x w ns e few each = absurd (omega arith)
 fewer_ranked V (suc zero) c x w ns e few each = absurd (omega arith)
-fewer_ranked V (suc (suc k)) c x w ns e few each = ranked_branch V (suc k) x w ns e (omega arith) below
+fewer_ranked V (suc (suc k)) c x w ns e few each = branch_ranked V (suc k) x w ns e (omega arith) below
   where
     below : (i : ℕ) (y : Place) → get_or ns i None ≡ Some y → IsRanked V (suc k) y
-    below i y l = let (ls, b, less) = each i y l in ranked_bucket V k y ls b (omega arith)
+    below i y l = let (ls, b, less) = each i y l in leaves_ranked V k y ls b (omega arith)
 
 -- ---- where an insert stands
 
@@ -159,8 +148,8 @@ module _ {Key Recon Cond : Type 0} (m : Meaning Key Recon Cond) (t : Table) (d :
 
   -- near the end the node that is followed leads nowhere
   near_leads : (n node : ℕ) (rest : List ℕ) → IsNamed m t d node rest → IsNearEnd m t d n → (link_of t x node ≡ None) × (2 ≤ n)
-  near_leads n node rest (inl (no, turn)) (i, inl (two, (other, left, (r, er, ea), nowhere, plain))) = absurd (let f : None ≡ Some r = sym no ∙ er in cc)
-  near_leads n node rest (inl (no, turn)) (i, inr (three, (r, child, er, goes, others, plain))) = absurd (let f : None ≡ Some r = sym no ∙ er in cc)
+  near_leads n node rest (inl (absent, turn)) (i, inl (two, (other, left, (r, er, ea), nowhere, plain))) = absurd (let f : None ≡ Some r = sym absent ∙ er in cc)
+  near_leads n node rest (inl (absent, turn)) (i, inr (three, (r, child, er, goes, others, plain))) = absurd (let f : None ≡ Some r = sym absent ∙ er in cc)
   near_leads n node rest (inr (answer, is, e)) (i, inl (two, (other, left, was, nowhere, plain))) =
       let same : answer ≡ other = same_match answer other rest left (one_answer m t d (Match answer rest) (Match other left) is was) in
       let here : node ≡ answer = rw plain at e in
@@ -175,7 +164,7 @@ module _ {Key Recon Cond : Type 0} (m : Meaning Key Recon Cond) (t : Table) (d :
   -- where it leads fewer sections come
   ends_below : (dz : Descending Recon) (n node : ℕ) (rest : List ℕ) → Shape m (sheets_of t) → IsAtInner t d.stand → IsNamed m t d node rest → EndsWithin m t d (suc n) → EndsAt m t dz n (stand_below (link_of t x node))
   ends_below dz n node rest H i is h = ⊎_elim
-      (λ r. let (few, each) = branch_rank (spots (sheets_of t)) n (spot_of x) (frame_in (tuple_at t x)) (links (tuple_at t x)) (inner_spot m t d.stand H i) r in go few each (link_of t x node) refl)
+      (λ r. let (few, each) = ranked_branch (spots (sheets_of t)) n (spot_of x) (frame_in (tuple_at t x)) (links (tuple_at t x)) (inner_spot m t d.stand H i) r in go few each (link_of t x node) refl)
       (λ q.
       let (none, two) = near_leads (suc n) node rest is q in
       let one : 1 ≤ n = omega arith in
@@ -188,7 +177,7 @@ module _ {Key Recon Cond : Type 0} (m : Meaning Key Recon Cond) (t : Table) (d :
 
 pub down_ends : {Key Recon Cond : Type 0} (m : Meaning Key Recon Cond) (t t1 t2 : Table) (d d2 : Descending Recon) (seat node : ℕ) (rest : List ℕ) → Shape m (sheets_of t) → IsAtInner t d.stand → IsNamed m t d node rest →
     FollowsNode m t t1 d d2 seat node rest In → SamePages t1 t2 → TakesOne m t t2 d d2 outs.Descended
-down_ends {Key} {Recon} m t t1 t2 d d2 seat node rest H i is (open, et, ed) same = λ n h.
+down_ends {Key} {Recon} m t t1 t2 d d2 seat node rest H i is (unheld, et, ed) same = λ n h.
     let x : Place = tuple_place d.stand in
     let s1 : SamePages t t1 = subst (λ (z : Table). SamePages t z) (sym et) (below_same t d x (stand_below (link_of t x node)) seat) in
     let stand : d2.stand ≡ stand_below (link_of t x node) = ap (λ (z : Descending Recon). z.stand) ed in
@@ -199,7 +188,7 @@ down_ends {Key} {Recon} m t t1 t2 d d2 seat node rest H i is (open, et, ed) same
 inner_rank : {Key Recon Cond : Type 0} (m : Meaning Key Recon Cond) (t : Table) (d : Descending Recon) (n : ℕ) → Shape m (sheets_of t) → IsAtInner t d.stand → IsRanked (spots (sheets_of t)) (suc n) (spot_of (tuple_place d.stand)) → 3 ≤ n
 inner_rank m t d n H i r =
     let u : Tuple = tuple_at t (tuple_place d.stand) in
-    (branch_rank (spots (sheets_of t)) n (spot_of (tuple_place d.stand)) (frame_in u) (links u) (inner_spot m t d.stand H i) r).0
+    (ranked_branch (spots (sheets_of t)) n (spot_of (tuple_place d.stand)) (frame_in u) (links u) (inner_spot m t d.stand H i) r).0
 
 -- what the class sees there is one of its tuples, and the insert carries a key
 is_tuple_here : {Key Recon Cond : Type 0} (m : Meaning Key Recon Cond) (t : Table) (d : Descending Recon) → Shape m (sheets_of t) → IsAtInner t d.stand → Stands t d → in_nulls d ≡ false → is_tuple m (frame_in (tuple_at t (tuple_place d.stand))) ≡ true
@@ -261,7 +250,7 @@ divided_ends : {Key Recon Cond : Type 0} (m : Meaning Key Recon Cond) (t t1 : Ta
     Shrinks m t t1 d d2 → EndsWithin m t d (suc n) → EndsWithin m t1 d2 n
 divided_ends {Key} {Recon} m t t1 d d2 n H H1 leaves off inner shrinks h =
     let (here, (ls, b)) = leaves_spot m t (in_nulls d) d.stand H leaves in
-    ⊎_elim (λ r. go ls b (bucket_rank (spots (sheets_of t)) n (spot_of (tuple_place d.stand)) ls b r) shrinks) (λ q. absurd (off q.0)) (from_place m t d (suc n) d.stand here h)
+    ⊎_elim (λ r. go ls b (ranked_leaves (spots (sheets_of t)) n (spot_of (tuple_place d.stand)) ls b r) shrinks) (λ q. absurd (off q.0)) (from_place m t d (suc n) d.stand here h)
   where
     go : (ls : List Leaf) → spots (sheets_of t) (spot_of (tuple_place d.stand)) ≡ Bucket ls → leaf_rank (length ls) ≤ suc n → Shrinks m t t1 d d2 → EndsWithin m t1 d2 n
     go ls b few (inl less) =

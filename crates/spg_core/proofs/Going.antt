@@ -1,12 +1,12 @@
 -- A section of an insert, and what the sections before it have left of the state.
-use Rattle.std.proofs.Common.{◌≡◌, ℕ, zero, suc, ◌+◌, ◌≤◌, ◌<◌, List, ◌++◌, [], ◌∷◌, Option, refl, sym, ap, ◌∙◌, subst, arith}
+use Rattle.std.proofs.Common.{◌≡◌, ℕ, zero, suc, ◌+◌, ◌^◌, ◌≤◌, ◌<◌, List, ◌++◌, [], ◌∷◌, Option, refl, sym, ap, ◌∙◌, subst, arith}
 use Rattle.spg_base.specs.Row.{RowAt}
 use Rattle.spg_opclass.specs.Meaning.{Meaning}
 use Rattle.spg_forest.specs.Ranks.{most_sections, EachIsRanked}
 use Rattle.spg_forest.specs.Shape.{Shape}
 use Rattle.spg_rows.specs.declared.event.Event.{Event}
 use Rattle.spg_rows.specs.declared.event.Event.TheVariants as event
-use Rattle.spg_tree.specs.Table.{sheets_of}
+use Rattle.spg_tree.specs.Table.{Table, IsSound, sheets_of}
 use Rattle.spg_tree.specs.Descents.{Descending}
 use Rattle.spg_core.specs.declared.answer.InsertOut.{InsertOut}
 use Rattle.spg_core.specs.declared.answer.InsertOut.TheVariants.{Descended, Restructured, Restarted, Put}
@@ -16,6 +16,10 @@ use Rattle.spg_core.specs.Sections.{IsAfterSection, IsOutOf, IsInsertOut, IsNoRe
 use Rattle.spg_core.specs.Ends.{StageEnds, SeatEnds, SeatThenEnds}
 use Rattle.spg_core.specs.Through.{IsInsertOf, StillInserts, PutsRow}
 use Rattle.spg_core.proofs.Ends.{ends_somewhere, none_left}
+
+-- a table has at most 131,072 pages
+pub few_sections : (t : Table) (k : ℕ) → IsSound t → k ≤ most_sections (sheets_of t) + 1 → k + 0 < 2 ^ 64
+few_sections t k sound most = omega arith
 
 module _ {O Key Recon Cond : Type 0} where
   pub still_there : (s : Seen O Key Recon Cond) (seat : ℕ) → StillInserts s s seat

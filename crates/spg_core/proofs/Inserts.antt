@@ -181,16 +181,16 @@ module _ {O Key Recon Cond : Type 0} (m : Meaning Key Recon Cond) (codes : CodeL
 
     -- one of the sections that may come is taken
     ends_seen : (key : Option Key) (d : Descending Recon) (n : ℕ) → get_or s.slots.items seat Free ≡ Insert key d → SeatEnds m seen seat n → EndsWithin m s.table d n
-    ends_seen key d n e h = subst (λ (t : pages.Table). StageEnds m t n (descending key d)) (table_is s seen view 0) (subst (λ st. StageEnds m seen.table n st) (stage_is s seen view seat ∙ ap stage_of e) h)
+    ends_seen key d n e h = subst (λ (t : pages.Table). StageEnds {O = O} m t n (descending key d)) (table_is s seen view 0) (subst (λ (st : Stage O Key Recon Cond). StageEnds m seen.table n st) (stage_is s seen view seat ∙ ap stage_of e) h)
 
     pub ends_step : (out : InsertOut) (slot : Slot O Key Recon Cond) (t2 : pages.Table) (slots : List (Slot O Key Recon Cond)) → seat ≡ 0 → get_or s.slots.items seat Free ≡ slot → (out ≡ outs.Put → ⊥) →
         StepsFrom m s.table t2 s.slots.items slots seat out slot → (n : ℕ) → SeatEnds m seen seat (suc n) → SeatThenEnds m (seen_as s.journal.events (map stage_of slots) t2 s.origin) seat n out
-    ends_step out Free t2 slots first e no_put h n before = absurd h
-    ends_step out (Scan x) t2 slots first e no_put h n before = absurd h
-    ends_step outs.Descended (Insert key d) t2 slots first e no_put (d2, items, o, holds, ends, makes) n before = subst (λ st. StageEnds m t2 n st) (sym (moved_by d2 key t2 slots first items).1) (ends n (ends_seen key d (suc n) e before))
-    ends_step outs.Restructured (Insert key d) t2 slots first e no_put (d2, items, o, holds, ends, makes) n before = subst (λ st. StageEnds m t2 n st) (sym (moved_by d2 key t2 slots first items).1) (ends n (ends_seen key d (suc n) e before))
-    ends_step (outs.Restarted block by) (Insert key d) t2 slots first e no_put h n before = tt
-    ends_step outs.Put (Insert key d) t2 slots first e no_put h n before = absurd (no_put refl)
+    ends_step out Free t2 slots first e no_put h n was = absurd h
+    ends_step out (Scan x) t2 slots first e no_put h n was = absurd h
+    ends_step outs.Descended (Insert key d) t2 slots first e no_put (d2, items, o, holds, ends, makes) n was = subst (λ (st : Stage O Key Recon Cond). StageEnds m t2 n st) (sym (moved_by d2 key t2 slots first items).1) (ends n (ends_seen key d (suc n) e was))
+    ends_step outs.Restructured (Insert key d) t2 slots first e no_put (d2, items, o, holds, ends, makes) n was = subst (λ (st : Stage O Key Recon Cond). StageEnds m t2 n st) (sym (moved_by d2 key t2 slots first items).1) (ends n (ends_seen key d (suc n) e was))
+    ends_step (outs.Restarted block by) (Insert key d) t2 slots first e no_put h n was = tt
+    ends_step outs.Put (Insert key d) t2 slots first e no_put h n was = absurd (no_put refl)
 
     -- and at most one inner tuple is made
     pub makes_step : (out : InsertOut) (slot : Slot O Key Recon Cond) (t2 : pages.Table) (slots : List (Slot O Key Recon Cond)) → StepsFrom m s.table t2 s.slots.items slots seat out slot → MakesAtMostOne seen.table t2

@@ -279,7 +279,7 @@ makes_below t t1 (Some (p, i)) z makes = makes.0
 
 -- a node was followed
 pub down_makes : {Key Recon Cond : Type 0} (m : Meaning Key Recon Cond) (t t1 t2 : Table) (d d2 : Descending Recon) (seat node : ℕ) (rest : List ℕ) (out : Entered) → FollowsNode m t t1 d d2 seat node rest out → SamePages t1 t2 → MakesAtMostOne t t2
-down_makes {Key} {Recon} m t t1 t2 d d2 seat node rest In (open, et, ed) same =
+down_makes {Key} {Recon} m t t1 t2 d d2 seat node rest In (unheld, et, ed) same =
     let s1 : SamePages t t1 = subst (λ (z : Table). SamePages t z) (sym et) (below_same t d (tuple_place d.stand) (stand_below (link_of t (tuple_place d.stand) node)) seat) in
     makes_none t t t2 (same_trans t t1 t2 s1 same) (λ x i. i)
 down_makes {Key} {Recon} m t t1 t2 d d2 seat node rest (Busy block by) (eb, held, other, et, ed) same =

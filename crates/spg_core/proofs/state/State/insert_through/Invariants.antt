@@ -9,5 +9,5 @@ abbrev pub invariant-loop-turn : goal.invariant-loop-turn
 invariant-loop-turn g l = record {
   goes : StillInserts l.initial.self l.self l.seat;
   inserting : IsInserting (stage_at l.self l.seat);
-  ends : (k : ℕ) × (k + l.turn < 2 ^ 64) × SeatEnds g.O.OpClass.meaning l.self l.seat k;
+  ends : (k : ℕ) × (k + l._turn < 2 ^ 64) × SeatEnds g.O.OpClass.meaning l.self l.seat k;
 }
