@@ -15,7 +15,7 @@ returns-in_ok-split_tuple-in-Split-clause-ok g c =
 
 pub returns-in_ok-split_tuple-in-Split-clause-ends : goal.returns-in_ok-split_tuple-in-Split-clause-ends
 returns-in_ok-split_tuple-in-Split-clause-ends g c =
-    let (main, answered) = subst (λ (q : Chosen). IsChosen g.O.OpClass.meaning c.args.table.now c.args.descent.now q) c.in-Split.is c.in_ok-node.ensures in
+    let (main, answered) = subst (λ (q : Chosen _ _ _ _). IsChosen g.O.OpClass.meaning c.args.table.now c.args.descent.now q) c.in-Split.is c.in_ok-node.ensures in
     split_ends g.O.OpClass.meaning g.O.OpClass.splits c.args.table.now c.split_tuple.new.table c.args.descent.now c.split_tuple.new.descent c.in-Split.upper_prefix c.in-Split.upper_labels c.in-Split.child c.in-Split.lower_prefix c.requires.shape c.requires.of_key c.requires.stands
     c.requires.inner main answered c.in_ok-split_tuple-in-Split.ensures.ok
 

@@ -1,9 +1,10 @@
-use Rattle.std.proofs.Common.{◌≡◌, ℕ, ◌<◌, List, length, sym, ap, ap₂, ◌∙◌, subst, inr}
+use Rattle.std.proofs.Common.{◌≡◌, ℕ, ◌<◌, List, length, sym, ap, ap₂, ◌∙◌, subst, inr, Option, Some}
 use Rattle.spg_opclass.specs.declared.view.Choice.TheVariants.{Match}
 use Rattle.spg_forest.specs.View.{Place}
 use Rattle.spg_forest.specs.Spot.{Frame}
 use Rattle.spg_forest.specs.Pages.{tuple_on}
 use Rattle.spg_forest.specs.Sheets.{Sheet, links}
+use Rattle.spg_forest.specs.Classes.{down_of}
 use Rattle.spg_forest.specs.Follows.{GoesBelow}
 use Rattle.spg_core.specs.Stepping.{named}
 use Rattle.spg_page.specs.Reads.{frame_in}
@@ -18,8 +19,8 @@ view_at-requires-clause-offset g c =
     let e = c.tuple_place-at.ensures ∙ ap tuple_place c.stand.ensures in
     rw (c.page.ensures, e) (is_within c.args.table.now c.args.descent.now.stand c.requires.inner)
 
-pub returns-in-Match : goal.returns-in-Match
-returns-in-Match g c =
+pub returns-in_ok-below-in-Match : goal.returns-in_ok-below-in-Match
+returns-in_ok-below-in-Match g c =
     let t = c.args.table.now in
     let d = c.args.descent.now in
     let m = g.O.OpClass.meaning in
@@ -37,4 +38,5 @@ returns-in-Match g c =
       (λ other D. subst (λ (n : ℕ). GoesBelow m d.recon (frame_in (tuple_at t (tuple_place d.stand))) n c.in-Match.rest other) (sym en)
           (goes m g.O.OpClass.matches t d c.requires.shape c.requires.inner c.requires.stands c.args.recon.now c.requires.recon c.requires.main other D c.in-Match.node c.in-Match.rest c.counter.result low eq)),
       inr (c.in-Match.node, (c.args.recon.now, c.requires.recon, eq), en ∙ ap (λ (n : ℕ). named n (frame_in (tuple_at t (tuple_place d.stand))) c.in-Match.node) c.counter.ensures.value),
+      ap Some (c.in_ok-below-in-Match.ensures ∙ ap (λ (v : Frame). m.down c.args.recon.now v c.named-node.result) ew) ∙ ap (λ (r : Option _). down_of m r (frame_in (tuple_at t (tuple_place d.stand))) c.named-node.result) (sym c.requires.recon),
     )
