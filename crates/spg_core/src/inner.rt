@@ -66,7 +66,7 @@ fn choose_for<O: OpClass>(
     requires stands { Stands table.now descent.now }
     requires recon { descent.now.recon ≡ Just recon.now }
     requires main { in_nulls descent.now ≡ false }
-    ensures { IfOk result (λ chosen. IsChosen O.meaning table.now descent.now chosen) }
+    ensures { IfOk result (λ chosen. IsChosen {O = O} O.meaning table.now descent.now chosen) }
 {
     let at = tuple_place(descent.stand());
     let view = table.page(at.block).view_at(alloc, at.offset)?;
@@ -109,7 +109,7 @@ fn choose<O: OpClass>(
     requires inner { IsAtInner table.now descent.now.stand }
     requires of_key { (key : Option O.Key) × IsCarried O.meaning (sheets_of table.now) descent.now key }
     requires stands { Stands table.now descent.now }
-    ensures { IfOk result (λ chosen. IsChosen O.meaning table.now descent.now chosen) }
+    ensures { IfOk result (λ chosen. IsChosen {O = O} O.meaning table.now descent.now chosen) }
 {
     match descent.recon() {
         None => Ok(Chosen::Node {
@@ -136,7 +136,7 @@ fn go_down<O: OpClass>(
     requires inner { IsAtInner table.old descent.old.stand }
     requires of_key { (key : Option O.Key) × IsCarried O.meaning (sheets_of table.old) descent.old key }
     requires stands { Stands table.old descent.old }
-    requires chosen { IsChosen O.meaning table.old descent.old (Node node rest by_turn below) }
+    requires chosen { IsChosen {O = O} O.meaning table.old descent.old (Node node rest by_turn below) }
     ensures ok { IsStepOut O.meaning table.old table.new descent.old descent.new seat result }
     ensures latches { InsertHolds table.old seat descent.old → HoldsAfter table.new seat descent.new result }
     ensures ends { TakesOne O.meaning table.old table.new descent.old descent.new result }
@@ -166,7 +166,7 @@ fn widen<O: OpClass>(
     requires inner { IsAtInner table.old descent.old.stand }
     requires of_key { (key : Option O.Key) × IsCarried O.meaning (sheets_of table.old) descent.old key }
     requires stands { Stands table.old descent.old }
-    requires chosen { IsChosen O.meaning table.old descent.old (Add at label) }
+    requires chosen { IsChosen {O = O} O.meaning table.old descent.old (Add at label) }
     ensures ok { IfOk result (λ out. IsStepOut O.meaning table.old table.new descent.old descent.new seat out) }
     ensures latches { IfOk result (λ out. InsertHolds table.old seat descent.old → HoldsAfter table.new seat descent.new out) }
     ensures ends { IfOk result (λ out. TakesOne O.meaning table.old table.new descent.old descent.new out) }
