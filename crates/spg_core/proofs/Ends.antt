@@ -1,13 +1,13 @@
 -- An insert comes to its end: each section takes one of those that may come yet.
-use Rattle.std.proofs.Common.{◌≡◌, ℕ, zero, suc, ◌+◌, ◌*◌, ◌≤◌, ◌<◌, Bool, true, false, List, ◌⊎◌, ⊎_elim, Option, Some, None, get_or, length, refl, sym, ap, ap₂, ◌∙◌, subst, inl, inr, arith}
+use Rattle.std.proofs.Common.{◌≡◌, ℕ, zero, suc, ◌+◌, ◌≤◌, ◌<◌, Bool, true, false, List, ◌⊎◌, ⊎_elim, Option, Some, None, get_or, length, refl, sym, ap, ap₂, ◌∙◌, subst, inl, inr, arith}
 use Rattle.std.specs.Prelude.{ℤ}
-use Rattle.spg_opclass.specs.Meaning.{Meaning, is_tuple, longer, upper}
+use Rattle.spg_opclass.specs.Meaning.{Meaning, is_tuple, upper}
 use Rattle.spg_opclass.specs.Laws.{AddLaw, SplitLaw, GoesOn}
 use Rattle.spg_opclass.specs.declared.view.Choice.{Choice}
 use Rattle.spg_opclass.specs.declared.view.Choice.TheVariants.{Match, Add, Split}
 use Rattle.spg_forest.specs.View.{Place, Leaf}
 use Rattle.spg_forest.specs.Spot.{Frame, Spot, Branch, Bucket, leaves_of}
-use Rattle.spg_forest.specs.Tuples.{Tuple, Inner}
+use Rattle.spg_forest.specs.Tuples.{Tuple}
 use Rattle.spg_forest.specs.Pages.{place, tuple_on, moved}
 use Rattle.spg_forest.specs.Sheets.{Sheet, Sheets, sheet_at, links}
 use Rattle.spg_forest.specs.Shape.{Shape, spots, IsKindOf, IsTupleOf}
@@ -24,7 +24,7 @@ use Rattle.spg_tree.specs.Descents.{Descending, in_nulls, placed}
 use Rattle.spg_tree.specs.declared.stand.Stand.{Stand}
 use Rattle.spg_tree.specs.declared.stand.Stand.TheVariants.{Start, Root, At, Empty}
 use Rattle.spg_descend.specs.declared.enter.Entered.TheVariants.{In}
-use Rattle.spg_descend.specs.Answers.{IsAnswered, LeadsNowhere}
+use Rattle.spg_descend.specs.Answers.{IsAnswered}
 use Rattle.spg_descend.specs.Below.{IsChainBelow}
 use Rattle.spg_descend.specs.Carried.{IsCarried, root_of}
 use Rattle.spg_descend.specs.Follows.{IsAtPlace, IsAtInner, tuple_place, link_of, stand_below, FollowsNode}
@@ -37,8 +37,8 @@ use Rattle.spg_split.specs.declared.split.SplitOut.TheVariants.{LeftOut}
 use Rattle.spg_move.specs.Nodes.{Widens, IsNodeAdded}
 use Rattle.spg_move.specs.Splits.{PartsTuple}
 use Rattle.spg_core.specs.declared.answer.InsertOut.TheVariants as outs
-use Rattle.spg_core.specs.Stepping.{Stands, SamePages, IsNamed, named}
-use Rattle.spg_core.specs.Ends.{LeadsElsewhere, IsNearEnd, EndsAt, EndsWithin, TakesOne}
+use Rattle.spg_core.specs.Stepping.{Stands, SamePages, IsNamed}
+use Rattle.spg_core.specs.Ends.{IsNearEnd, EndsAt, EndsWithin, TakesOne}
 use Rattle.spg_core.proofs.Stands.{inner_of, same_trans}
 use Rattle.spg_core.proofs.Moves.{below_same}
 use Rattle.spg_core.proofs.Chooses.{framed, key_given}

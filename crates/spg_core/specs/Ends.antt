@@ -1,5 +1,5 @@
 -- How many sections of an open insert may come yet.
-use Rattle.std.specs.Prelude.{◌≡◌, ◌≤◌, ◌⊎◌, ℕ, suc, Option, Some, None, false}
+use Rattle.std.specs.Prelude.{◌≡◌, ◌≤◌, ◌⊎◌, ℕ, suc, Some, None, false}
 use Rattle.spg_opclass.specs.Meaning.{Meaning}
 use Rattle.spg_opclass.specs.Laws.{GoesOn}
 use Rattle.spg_forest.specs.Pages.{place}
@@ -22,7 +22,7 @@ use Rattle.spg_core.specs.declared.answer.InsertOut.TheVariants.{Descended, Rest
 abbrev pub LeadsElsewhere : {Key Recon Cond : Type 0} → Meaning Key Recon Cond → Table → Descending Recon → Type 0
 LeadsElsewhere {Key} {Recon} m t d =
     (recon : Recon) × (child : ℕ) × (d.recon ≡ Some recon) × GoesOn child (m.answer recon (frame_in (tuple_at t (tuple_place d.stand))) d.rest)
-        × ((i : ℕ) → (i ≡ child → ⊥) → link_of t (tuple_place d.stand) i ≡ None) × ((frame_in (tuple_at t (tuple_place d.stand))).all_same ≡ false)
+    × ((i : ℕ) → (i ≡ child → ⊥) → link_of t (tuple_place d.stand) i ≡ None) × ((frame_in (tuple_at t (tuple_place d.stand))).all_same ≡ false)
 
 -- at the inner tuple the class answers with a node that leads nowhere, at once or once it is put in
 abbrev pub IsNearEnd : {Key Recon Cond : Type 0} → Meaning Key Recon Cond → Table → Descending Recon → ℕ → Type 0

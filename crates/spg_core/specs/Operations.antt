@@ -33,7 +33,7 @@ abbrev pub StepsFrom : {O Key Recon Cond : Type 0} → Meaning Key Recon Cond �
 StepsFrom m t t2 old new seat out Free = ⊥
 StepsFrom {O} {Key} {Recon} m t t2 old new seat out (Insert key d) =
     (d2 : Descending Recon) × (new ≡ slice_set old seat (Insert key d2)) × IsStepOut m t t2 d d2 seat out × (InsertHolds t seat d → HoldsAfter t2 seat d2 out)
-        × TakesOne m t t2 d d2 out × MakesAtMostOne t t2
+    × TakesOne m t t2 d d2 out × MakesAtMostOne t t2
 StepsFrom m t t2 old new seat out (Scan s) = ⊥
 
 abbrev pub StepsSlot : {O Key Recon Cond : Type 0} → Meaning Key Recon Cond → Table → Table → List (Slot O Key Recon Cond) → List (Slot O Key Recon Cond) → ℕ → InsertOut → Type 0

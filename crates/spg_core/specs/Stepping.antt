@@ -96,6 +96,6 @@ abbrev pub IsChosen : {O Key Recon Cond : Type 0} → Meaning Key Recon Cond →
 IsChosen {O} {Key} m t d (Node node rest by_turn below) =
     let x : Place = tuple_place d.stand in
     (node < length (links (tuple_at t x))) × IsRestOf m (in_nulls d) rest × ((key : Option Key) → IsCarried m (sheets_of t) d key → GoesBelow m d.recon (frame_in (tuple_at t x)) node rest key) × IsNamed m t d node rest
-        × (below ≡ down_of m d.recon (frame_in (tuple_at t x)) node)
+    × (below ≡ down_of m d.recon (frame_in (tuple_at t x)) node)
 IsChosen m t d (Add at label) = (in_nulls d ≡ false) × IsAnswered m t d (choice.Add at label)
 IsChosen m t d (Split up labels child low) = (in_nulls d ≡ false) × IsAnswered m t d (choice.Split up labels child low)
