@@ -17,7 +17,7 @@ use Rattle.spg_forest.specs.Ranks.{leaf_rank, IsRanked, most_sections, EachIsRan
 use Rattle.spg_forest.proofs.Writes.{inner_at, high_spot, low_spot}
 use Rattle.spg_forest.proofs.Sections.{shape_shown}
 use Rattle.spg_forest.proofs.Edits.{page_is}
-use Rattle.spg_core.proofs.RanksTmp.{ranked_branch, branch_ranked, ranked_leaves, leaves_ranked}
+use Rattle.spg_forest.proofs.Ranks.{ranked_branch, branch_ranked, ranked_leaves, leaves_ranked}
 use Rattle.spg_page.specs.Reads.{frame_in}
 use Rattle.spg_tree.specs.Table.{Table, sheets_of, tuple_at}
 use Rattle.spg_tree.specs.Descents.{Descending, in_nulls, placed}

@@ -5,7 +5,6 @@ pub mod Weights
 pub mod Trees
 pub mod Limits
 pub mod Holding
-pub mod RanksTmp
 pub mod Ends
 pub mod Inners
 pub mod Founds

@@ -1,5 +1,5 @@
 use Rattle.std.proofs.Common.{ℕ, ◌≡◌, ◌^◌, rules, subst, arith}
-use Rattle.spg_core.proofs.RanksTmp.{each_is_ranked}
+use Rattle.spg_forest.proofs.Ranks.{each_is_ranked}
 use Rattle.spg_core.specs.declared.answer.InsertOut.{InsertOut}
 use Rattle.spg_core.specs.declared.answer.InsertOut.TheVariants.{Put}
 use Rattle.spg_core.specs.Latches.{LatchesAfter}
