@@ -1,15 +1,25 @@
 -- A section of an insert, and what the sections before it have left of the state.
-use Rattle.std.proofs.Common.{◌≡◌, ℕ, List, ◌++◌, [], ◌∷◌, Option, refl, sym, ap, ◌∙◌, subst}
+use Rattle.std.proofs.Common.{◌≡◌, ℕ, zero, suc, ◌+◌, ◌^◌, ◌≤◌, ◌<◌, List, ◌++◌, [], ◌∷◌, Option, refl, sym, ap, ◌∙◌, subst, arith}
 use Rattle.spg_base.specs.Row.{RowAt}
+use Rattle.spg_opclass.specs.Meaning.{Meaning}
+use Rattle.spg_forest.specs.Ranks.{most_sections, EachIsRanked}
+use Rattle.spg_forest.specs.Shape.{Shape}
 use Rattle.spg_rows.specs.declared.event.Event.{Event}
 use Rattle.spg_rows.specs.declared.event.Event.TheVariants as event
+use Rattle.spg_tree.specs.Table.{Table, IsSound, sheets_of}
 use Rattle.spg_tree.specs.Descents.{Descending}
 use Rattle.spg_core.specs.declared.answer.InsertOut.{InsertOut}
 use Rattle.spg_core.specs.declared.answer.InsertOut.TheVariants.{Descended, Restructured, Restarted, Put}
 use Rattle.spg_core.specs.Stage.{Stage, free, descending, reading, IsInserting}
 use Rattle.spg_core.specs.Seen.{Seen, stage_at, moved}
-use Rattle.spg_core.specs.Sections.{IsAfterSection, IsOutOf, IsInsertOut}
+use Rattle.spg_core.specs.Sections.{IsAfterSection, IsOutOf, IsInsertOut, IsNoRestart}
+use Rattle.spg_core.specs.Ends.{StageEnds, SeatEnds, SeatThenEnds}
 use Rattle.spg_core.specs.Through.{IsInsertOf, StillInserts, PutsRow}
+use Rattle.spg_core.proofs.Ends.{ends_somewhere, none_left}
+
+-- a table has at most 131,072 pages
+pub few_sections : (t : Table) (k : ℕ) → IsSound t → k ≤ most_sections (sheets_of t) + 1 → k + 0 < 2 ^ 64
+few_sections t k sound most = omega arith
 
 module _ {O Key Recon Cond : Type 0} where
   pub still_there : (s : Seen O Key Recon Cond) (seat : ℕ) → StillInserts s s seat
@@ -78,3 +88,33 @@ module _ {O Key Recon Cond : Type 0} where
         origin = P.origin ∙ G.origin;
         stage = P.stage;
       }
+
+  -- ---- the insert comes to its end
+
+  pub ends_from : (m : Meaning Key Recon Cond) → EachIsRanked m → (seen : Seen O Key Recon Cond) (seat : ℕ) → Shape m (sheets_of seen.table) → IsInserting (stage_at seen seat) → (k : ℕ) × (k ≤ most_sections (sheets_of seen.table) + 1) × SeatEnds m seen seat k
+  ends_from m ranks seen seat H is = go (stage_at seen seat) is
+    where
+      go : (stage : Stage O Key Recon Cond) → IsInserting stage → (k : ℕ) × (k ≤ most_sections (sheets_of seen.table) + 1) × StageEnds m seen.table k stage
+      go free is = absurd is
+      go (descending key d) is = ends_somewhere m ranks seen.table d H
+      go (reading s) is = absurd is
+
+  pub one_comes : (m : Meaning Key Recon Cond) (seen : Seen O Key Recon Cond) (seat : ℕ) → SeatEnds m seen seat 0 → ⊥
+  one_comes m seen seat h = go (stage_at seen seat) h
+    where
+      go : (stage : Stage O Key Recon Cond) → StageEnds m seen.table 0 stage → ⊥
+      go free a = a
+      go (descending key d) a = none_left m seen.table d d.stand a
+      go (reading s) a = a
+
+  open_still : (m : Meaning Key Recon Cond) (seen : Seen O Key Recon Cond) (seat n : ℕ) (out : InsertOut) → SeatThenEnds m seen seat n out → (out ≡ Put → ⊥) → IsNoRestart out → SeatEnds m seen seat n
+  open_still m seen seat n Descended h no_put on = h
+  open_still m seen seat n Restructured h no_put on = h
+  open_still m seen seat n (Restarted block by) h no_put on = absurd on
+  open_still m seen seat n Put h no_put on = absurd (no_put refl)
+
+  -- a section takes one of those that may come
+  pub fewer_come : (m : Meaning Key Recon Cond) (s1 s2 : Seen O Key Recon Cond) (seat k turn top : ℕ) (out : InsertOut) → k + turn < top → SeatEnds m s1 seat k → ((n : ℕ) → SeatEnds m s1 seat (suc n) → SeatThenEnds m s2 seat n out) → (out ≡ Put → ⊥) → IsNoRestart out →
+      (j : ℕ) × (j + (turn + 1) < top) × SeatEnds m s2 seat j
+  fewer_come m s1 s2 seat zero turn top out few h takes no_put on = absurd (one_comes m s1 seat h)
+  fewer_come m s1 s2 seat (suc n) turn top out few h takes no_put on = (n, omega arith, open_still m s2 seat n out (takes n h) no_put on)

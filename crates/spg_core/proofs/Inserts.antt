@@ -1,5 +1,5 @@
 -- What a section of an insert leaves of a state.
-use Rattle.std.proofs.Common.{◌≡◌, ◌<◌, ◌+◌, inr, ⊎_elim, ℕ, Bool, true, false, cond, Some, None, List, [], ◌∷◌, ◌++◌, length, get_or, set, reverse, Option, Vec, refl, sym, ap, ◌∙◌, subst, get_or-set_same, length-set, arith, map}
+use Rattle.std.proofs.Common.{◌≡◌, ◌<◌, ◌+◌, inr, ⊎_elim, ℕ, suc, Bool, true, false, cond, Some, None, List, [], ◌∷◌, ◌++◌, length, get_or, set, reverse, Option, Vec, refl, sym, ap, ◌∙◌, subst, get_or-set_same, length-set, arith, map}
 use Rattle.std.specs.Prelude.{is_none}
 use Rattle.spg_forest.specs.Section.{Adds}
 use Rattle.std.specs.declared.alloc.Global.{Global}
@@ -20,7 +20,8 @@ use Rattle.spg_core.specs.declared.answer.InsertOut.TheVariants as outs
 use Rattle.spg_core.specs.declared.slot.Slot.{Slot}
 use Rattle.spg_core.specs.declared.slot.Slot.TheVariants.{Free, Insert, Scan}
 use Rattle.spg_core.specs.declared.state.State.TheInside.{Inside}
-use Rattle.spg_core.specs.Stepping.{HasInnerRoot, SamePages, GoesOn, RootsGrow, IsOutgrown}
+use Rattle.spg_core.specs.Stepping.{HasInnerRoot, SamePages, MakesAtMostOne, GoesOn, RootsGrow, IsOutgrown}
+use Rattle.spg_core.specs.Ends.{EndsWithin, StageEnds, SeatEnds, SeatThenEnds}
 use Rattle.spg_core.specs.Operations.{CanStep, IsOutgrownBy, StepsFrom, IsRowOf}
 use Rattle.spg_core.specs.Sections.{IsOutOf, IsNoRestart, IsHeavyFor, StoodFor}
 use Rattle.spg_core.specs.Latches.{NoLatches, StageHolds, SlotHolds, InsertHolds, LatchesAfter, ChangesHeld, holds_block}
@@ -74,13 +75,13 @@ module _ {O Key Recon Cond : Type 0} (m : Meaning Key Recon Cond) (codes : CodeL
       StepsFrom m s.table t2 s.slots.items slots.items seat out slot → IsKept m (with_fields m s t2 s.rows slots s.journal)
   kept_step out Free t2 slots first e n h = absurd h
   kept_step out (Scan x) t2 slots first e n h = absurd h
-  kept_step outs.Descended (Insert key d) t2 slots first e n (d2, items, (stood, same, goes), holds) =
+  kept_step outs.Descended (Insert key d) t2 slots first e n (d2, items, (stood, same, goes), holds, ends, makes) =
       let fits = subst (λ (x : Slot O Key Recon Cond). SlotFits m s.table before seat x) e (kept.slots seat) in
       kept_moved m s kept seat (Insert key d2) t2 slots first items (rw e refl) (goes_fits key d d2 t2 fits goes) (pages_moved m s.table t2 before same (pages_are m s kept)) (holds (insert_holds key d first e)) same.1
-  kept_step outs.Restructured (Insert key d) t2 slots first e n (d2, items, (off, (cost, f, L), lim, grow, goes), holds) =
+  kept_step outs.Restructured (Insert key d) t2 slots first e n (d2, items, (off, (cost, f, L), lim, grow, goes), holds, ends, makes) =
       let fits = subst (λ (x : Slot O Key Recon Cond). SlotFits m s.table before seat x) e (kept.slots seat) in
       kept_moved m s kept seat (Insert key d2) t2 slots first items (rw e refl) (goes_fits key d d2 t2 fits goes) (pages_left m s.table t2 before t2.touched cost f L (grown key d t2 fits grow) (pages_are m s kept)) (holds (insert_holds key d first e)) lim
-  kept_step (outs.Restarted block by) (Insert key d) t2 slots first e n (d2, items, (held, other, start, same, goes), holds) =
+  kept_step (outs.Restarted block by) (Insert key d) t2 slots first e n (d2, items, (held, other, start, same, goes), holds, ends, makes) =
       let fits = subst (λ (x : Slot O Key Recon Cond). SlotFits m s.table before seat x) e (kept.slots seat) in
       kept_moved m s kept seat (Insert key d2) t2 slots first items (rw e refl) (goes_fits key d d2 t2 fits goes) (pages_moved m s.table t2 before same (pages_are m s kept)) (holds (insert_holds key d first e)).1 same.1
   kept_step outs.Put (Insert key d) t2 slots first e n h = absurd (n refl)
@@ -88,7 +89,7 @@ module _ {O Key Recon Cond : Type 0} (m : Meaning Key Recon Cond) (codes : CodeL
   -- the row that is put, and the slots then
   pub put_row : (slot : Slot O Key Recon Cond) (t2 : pages.Table) (slots : List (Slot O Key Recon Cond)) (row : RowAt) → seat < length s.slots.items → StepsFrom m s.table t2 s.slots.items slots seat outs.Put slot → IsRowOf (get_or slots seat Free) row → IsRowOf slot row
   put_row Free t2 slots row within h r = absurd h
-  put_row (Insert key d) t2 slots row within (d2, items, (off, adds, lim, grow, er), holds) r =
+  put_row (Insert key d) t2 slots row within (d2, items, (off, adds, lim, grow, er), holds, ends, makes) r =
       let e : get_or slots seat Free ≡ Insert key d2 = ap (λ l. get_or l seat Free) items ∙ get_or-set_same s.slots.items seat (Insert key d2) Free within in
       subst (λ (x : Slot O Key Recon Cond). IsRowOf x row) e r ∙ er
   put_row (Scan x) t2 slots row within h r = absurd h
@@ -97,7 +98,7 @@ module _ {O Key Recon Cond : Type 0} (m : Meaning Key Recon Cond) (codes : CodeL
       StepsFrom m s.table t2 s.slots.items between.items seat outs.Put slot → IsRowOf slot row → slots.items ≡ set between.items seat Free → SetsState s.rows rows row row_state.Live → SameKeys s.rows rows →
       journal.events ≡ s.journal.events ++ Put seat row ∷ [] → journal.spare + 1 ≡ s.journal.spare → IsKept m (with_fields m s t2 rows slots journal)
   kept_put Free t2 rows between slots journal row first e h r items states keys events spare = absurd h
-  kept_put (Insert key d) t2 rows between slots journal row first e (d2, made, (off, adds, lim, grow, er), holds) r items states keys events spare =
+  kept_put (Insert key d) t2 rows between slots journal row first e (d2, made, (off, adds, lim, grow, er), holds, ends, makes) r items states keys events spare =
       let fits = subst (λ (x : Slot O Key Recon Cond). SlotFits m s.table before seat x) e (kept.slots seat) in
       let here : open_of seat before ≡ inserting row key = fits.0 ∙ ap (λ (x : RowAt). inserting x key) (sym r) in
       let (cost, f, A) = adds key fits.1 in
@@ -116,7 +117,7 @@ module _ {O Key Recon Cond : Type 0} (m : Meaning Key Recon Cond) (codes : CodeL
 
   pub steps_length : (slot : Slot O Key Recon Cond) (t2 : pages.Table) (slots : List (Slot O Key Recon Cond)) (out : InsertOut) → StepsFrom m s.table t2 s.slots.items slots seat out slot → length slots ≡ 64
   steps_length Free t2 slots out h = absurd h
-  steps_length (Insert key d) t2 slots out (d2, items, o, holds) = ap (λ l. length l) items ∙ length-set s.slots.items seat (Insert key d2) ∙ kept.seats
+  steps_length (Insert key d) t2 slots out (d2, items, o, holds, ends, makes) = ap (λ l. length l) items ∙ length-set s.slots.items seat (Insert key d2) ∙ kept.seats
   steps_length (Scan x) t2 slots out h = absurd h
 
   -- it is not sent back, since it alone has latched anything
@@ -125,7 +126,7 @@ module _ {O Key Recon Cond : Type 0} (m : Meaning Key Recon Cond) (codes : CodeL
   no_restart out (Scan x) t2 slots first e h = absurd h
   no_restart outs.Descended (Insert key d) t2 slots first e h = tt
   no_restart outs.Restructured (Insert key d) t2 slots first e h = tt
-  no_restart (outs.Restarted block by) (Insert key d) t2 slots first e (d2, items, (held, other, start, same, goes), holds) = held_alone (holds_block d block) by seat (sym (insert_holds key d first e block) ∙ held) other
+  no_restart (outs.Restarted block by) (Insert key d) t2 slots first e (d2, items, (held, other, start, same, goes), holds, ends, makes) = held_alone (holds_block d block) by seat (sym (insert_holds key d first e block) ∙ held) other
   no_restart outs.Put (Insert key d) t2 slots first e h = tt
 
   -- ---- what the callers see of it
@@ -139,13 +140,13 @@ module _ {O Key Recon Cond : Type 0} (m : Meaning Key Recon Cond) (codes : CodeL
         StepsFrom m s.table t2 s.slots.items slots seat out slot → IsOutOf seen (seen_as s.journal.events (map stage_of slots) t2 s.origin) seat out (stage_of slot)
     seen_step out Free t2 slots first e n h = absurd h
     seen_step out (Scan x) t2 slots first e n h = absurd h
-    seen_step outs.Descended (Insert key d) t2 slots first e n (d2, items, (stood, same, goes), holds) =
+    seen_step outs.Descended (Insert key d) t2 slots first e n (d2, items, (stood, same, goes), holds, ends, makes) =
         let (a, b) = moved_by d2 key t2 slots first items in
         (subst (λ (t : pages.Table). StoodFor t d outs.Descended) (sym (table_is s seen view 0)) stood, (d2, goes.0, subst (λ (t : pages.Table). SamePages t t2) (sym (table_is s seen view 0)) same, a, b))
-    seen_step outs.Restructured (Insert key d) t2 slots first e n (d2, items, (off, L, lim, grow, goes), holds) =
+    seen_step outs.Restructured (Insert key d) t2 slots first e n (d2, items, (off, L, lim, grow, goes), holds, ends, makes) =
         let (a, b) = moved_by d2 key t2 slots first items in
         (subst (λ (t : pages.Table). StoodFor t d outs.Restructured) (sym (table_is s seen view 0)) off, (d2, goes.0, a, b))
-    seen_step (outs.Restarted block by) (Insert key d) t2 slots first e n (d2, items, (held, other, start, same, goes), holds) =
+    seen_step (outs.Restarted block by) (Insert key d) t2 slots first e n (d2, items, (held, other, start, same, goes), holds, ends, makes) =
         let (a, b) = moved_by d2 key t2 slots first items in
         (tt, (d2, goes.0, subst (λ (t : pages.Table). SamePages t t2) (sym (table_is s seen view 0)) same, a, b))
     seen_step outs.Put (Insert key d) t2 slots first e n h = absurd (n refl)
@@ -153,7 +154,7 @@ module _ {O Key Recon Cond : Type 0} (m : Meaning Key Recon Cond) (codes : CodeL
     pub seen_put : (slot : Slot O Key Recon Cond) (t2 : pages.Table) (between slots : List (Slot O Key Recon Cond)) (row : RowAt) (events : List _) → seat ≡ 0 → get_or s.slots.items seat Free ≡ slot → StepsFrom m s.table t2 s.slots.items between seat outs.Put slot → IsRowOf slot row →
         slots ≡ set between seat Free → events ≡ s.journal.events ++ Put seat row ∷ [] → IsOutOf seen (seen_as events (map stage_of slots) t2 s.origin) seat outs.Put (stage_of slot)
     seen_put Free t2 between slots row events first e h r items ev = absurd h
-    seen_put (Insert key d) t2 between slots row events first e (d2, made, (off, adds, lim, grow, er), holds) r items ev =
+    seen_put (Insert key d) t2 between slots row events first e (d2, made, (off, adds, lim, grow, er), holds, ends, makes) r items ev =
         let all = set_twice s.slots.items between slots seat (Insert key d2) Free made items in (
           subst (λ (t : pages.Table). StoodFor t d outs.Put) (sym (table_is s seen view 0)) off,
           (
@@ -168,15 +169,34 @@ module _ {O Key Recon Cond : Type 0} (m : Meaning Key Recon Cond) (codes : CodeL
         StepsFrom m s.table t2 s.slots.items slots seat out slot → LatchesAfter (seen_as s.journal.events (map stage_of slots) t2 s.origin) seat out
     latches_step out Free t2 slots first e n h = absurd h
     latches_step out (Scan x) t2 slots first e n h = absurd h
-    latches_step outs.Descended (Insert key d) t2 slots first e n (d2, items, o, holds) = subst (λ st. StageHolds t2 seat st) (sym (moved_by d2 key t2 slots first items).1) (holds (insert_holds key d first e))
-    latches_step outs.Restructured (Insert key d) t2 slots first e n (d2, items, o, holds) = subst (λ st. StageHolds t2 seat st) (sym (moved_by d2 key t2 slots first items).1) (holds (insert_holds key d first e))
-    latches_step (outs.Restarted block by) (Insert key d) t2 slots first e n (d2, items, o, holds) = (holds (insert_holds key d first e)).0
+    latches_step outs.Descended (Insert key d) t2 slots first e n (d2, items, o, holds, ends, makes) = subst (λ st. StageHolds t2 seat st) (sym (moved_by d2 key t2 slots first items).1) (holds (insert_holds key d first e))
+    latches_step outs.Restructured (Insert key d) t2 slots first e n (d2, items, o, holds, ends, makes) = subst (λ st. StageHolds t2 seat st) (sym (moved_by d2 key t2 slots first items).1) (holds (insert_holds key d first e))
+    latches_step (outs.Restarted block by) (Insert key d) t2 slots first e n (d2, items, o, holds, ends, makes) = (holds (insert_holds key d first e)).0
     latches_step outs.Put (Insert key d) t2 slots first e n h = absurd (n refl)
 
     pub latches_put : (slot : Slot O Key Recon Cond) (t2 : pages.Table) (slots : List (Slot O Key Recon Cond)) → seat ≡ 0 → get_or s.slots.items seat Free ≡ slot → StepsFrom m s.table t2 s.slots.items slots seat outs.Put slot → NoLatches t2
     latches_put Free t2 slots first e h = absurd h
-    latches_put (Insert key d) t2 slots first e (d2, items, o, holds) = holds (insert_holds key d first e)
+    latches_put (Insert key d) t2 slots first e (d2, items, o, holds, ends, makes) = holds (insert_holds key d first e)
     latches_put (Scan x) t2 slots first e h = absurd h
+
+    -- one of the sections that may come is taken
+    ends_seen : (key : Option Key) (d : Descending Recon) (n : ℕ) → get_or s.slots.items seat Free ≡ Insert key d → SeatEnds m seen seat n → EndsWithin m s.table d n
+    ends_seen key d n e h = subst (λ (t : pages.Table). StageEnds {O = O} m t n (descending key d)) (table_is s seen view 0) (subst (λ (st : Stage O Key Recon Cond). StageEnds m seen.table n st) (stage_is s seen view seat ∙ ap stage_of e) h)
+
+    pub ends_step : (out : InsertOut) (slot : Slot O Key Recon Cond) (t2 : pages.Table) (slots : List (Slot O Key Recon Cond)) → seat ≡ 0 → get_or s.slots.items seat Free ≡ slot → (out ≡ outs.Put → ⊥) →
+        StepsFrom m s.table t2 s.slots.items slots seat out slot → (n : ℕ) → SeatEnds m seen seat (suc n) → SeatThenEnds m (seen_as s.journal.events (map stage_of slots) t2 s.origin) seat n out
+    ends_step out Free t2 slots first e no_put h n was = absurd h
+    ends_step out (Scan x) t2 slots first e no_put h n was = absurd h
+    ends_step outs.Descended (Insert key d) t2 slots first e no_put (d2, items, o, holds, ends, makes) n was = subst (λ (st : Stage O Key Recon Cond). StageEnds m t2 n st) (sym (moved_by d2 key t2 slots first items).1) (ends n (ends_seen key d (suc n) e was))
+    ends_step outs.Restructured (Insert key d) t2 slots first e no_put (d2, items, o, holds, ends, makes) n was = subst (λ (st : Stage O Key Recon Cond). StageEnds m t2 n st) (sym (moved_by d2 key t2 slots first items).1) (ends n (ends_seen key d (suc n) e was))
+    ends_step (outs.Restarted block by) (Insert key d) t2 slots first e no_put h n was = tt
+    ends_step outs.Put (Insert key d) t2 slots first e no_put h n was = absurd (no_put refl)
+
+    -- and at most one inner tuple is made
+    pub makes_step : (out : InsertOut) (slot : Slot O Key Recon Cond) (t2 : pages.Table) (slots : List (Slot O Key Recon Cond)) → StepsFrom m s.table t2 s.slots.items slots seat out slot → MakesAtMostOne seen.table t2
+    makes_step out Free t2 slots h = absurd h
+    makes_step out (Scan x) t2 slots h = absurd h
+    makes_step out (Insert key d) t2 slots (d2, items, o, holds, ends, makes) = subst (λ (t : pages.Table). MakesAtMostOne t t2) (sym (table_is s seen view 0)) makes
 
 -- what a state has latched, as its callers see it
 pub seen_holds : {O Key Recon Cond : Type 0} (m : Meaning Key Recon Cond) (s : Inside O Key Recon Cond) → IsKept m s → (seen : Seen O Key Recon Cond) → seen_of s ≡ seen → StageHolds seen.table 0 (stage_at seen 0)

@@ -5,6 +5,7 @@ pub mod Weights
 pub mod Trees
 pub mod Limits
 pub mod Holding
+pub mod Ends
 pub mod Inners
 pub mod Founds
 pub mod Slots

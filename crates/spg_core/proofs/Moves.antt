@@ -3,11 +3,12 @@ use Rattle.std.proofs.Common.{◌≡◌, ℕ, ◌<◌, Bool, true, false, List, 
 use Rattle.spg_opclass.specs.Meaning.{Meaning}
 use Rattle.spg_forest.specs.View.{Place}
 use Rattle.spg_forest.specs.Tuples.{Live}
-use Rattle.spg_forest.specs.Pages.{moved}
-use Rattle.spg_forest.specs.Sheets.{Sheets, sheet_at, links}
+use Rattle.spg_forest.specs.Pages.{place, moved}
+use Rattle.spg_forest.specs.Sheets.{Sheet, Sheets, sheet_at, links}
 use Rattle.spg_forest.specs.Shape.{Shape, IsRestOf}
 use Rattle.spg_forest.specs.Section.{Adds, Leaves, Cost}
 use Rattle.spg_forest.specs.Follows.{GoesBelow}
+use Rattle.spg_page.specs.Kinds.{IsInner}
 use Rattle.spg_page.specs.Reads.{frame_in}
 use Rattle.spg_tree.specs.Table.{Table, sheets_of, tuple_at, latch_at, with_latch}
 use Rattle.spg_tree.specs.Descents.{Descending, in_nulls}
@@ -17,15 +18,17 @@ use Rattle.spg_descend.specs.Carried.{carried, root_of, IsCarried}
 use Rattle.spg_descend.specs.Leaves.{released, stand_block, parent_block, is_held}
 use Rattle.spg_descend.specs.Follows.{IsAtInner, tuple_place, link_of, stand_below, latched, left_behind, table_below, FollowsNode, CarriesBelow}
 use Rattle.spg_descend.specs.Below.{IsChainBelow, IsAtChain, IsTicked}
+use Rattle.spg_descend.specs.Makes.{MakesNone, MakesOne}
 use Rattle.spg_descend.specs.Puts.{IsAtLeaves, IsAtEmpty, Fits}
 use Rattle.spg_descend.specs.Rules.{IsThere, IsAtNoInner, MayMove}
+use Rattle.spg_descend.specs.declared.enter.Entered.{Entered}
 use Rattle.spg_descend.specs.declared.enter.Entered.TheVariants.{In, Busy}
 use Rattle.spg_descend.proofs.Starts.{spots_are_there}
 use Rattle.spg_split.specs.Splits.{IsAtRoot, IsCalm, split_cost}
-use Rattle.spg_split.specs.Below.{IsLedTo, SplitsWithout, IsChainSplit}
+use Rattle.spg_split.specs.Below.{IsLedTo, MakesBelow, SplitsWithout, IsChainSplit}
 use Rattle.spg_split.specs.declared.split.SplitOut.TheVariants.{LeftOut}
 use Rattle.spg_core.specs.declared.answer.InsertOut.TheVariants as outs
-use Rattle.spg_core.specs.Stepping.{HasInnerRoot, StandsAt, Stands, SamePages, GoesOn, IsRootFull, RootsGrow, IsStepOut}
+use Rattle.spg_core.specs.Stepping.{HasInnerRoot, StandsAt, Stands, SamePages, MakesAtMostOne, GoesOn, IsRootFull, RootsGrow, IsStepOut}
 use Rattle.spg_core.proofs.Stands.{root_range, stand_put, stands_same, child_stands, released_same, latched_same, same_trans, root_leaf}
 use Rattle.spg_core.proofs.Trees.{place_tree}
 
@@ -38,7 +41,7 @@ pub goes_same : {Key Recon Cond : Type 0} (m : Meaning Key Recon Cond) (t t2 : T
 goes_same {Key} m t t2 d d2 same e at = subst (λ (z : Descending _). GoesOn m t t2 d z) (sym e)
     (refl, refl, stands_same t t2 (in_nulls d) d.stand d.parent same at, λ key C. subst (λ (S : Sheets). IsCarried m S d key) (sym same.0) C)
 
-below_same : {Recon : Type 0} (t : Table) (d : Descending Recon) (x : Place) (st : Stand) (seat : ℕ) → SamePages t (table_below t d x st seat)
+pub below_same : {Recon : Type 0} (t : Table) (d : Descending Recon) (x : Place) (st : Stand) (seat : ℕ) → SamePages t (table_below t d x st seat)
 below_same t d x st seat = same_trans t (latched t (stand_block st) seat) (table_below t d x st seat) (latched_same t (stand_block st) seat)
     (released_same (latched t (stand_block st) seat) (left_behind (parent_block d.parent) x.block (stand_block st)) seat)
 
@@ -245,7 +248,7 @@ led_goes {Key} {Recon} m t t1 d d2 z (key, C) root ticked row nulls stand parent
 -- a chain was divided without the leaf of the insert
 pub chain_out : {Key Recon Cond : Type 0} (m : Meaning Key Recon Cond) (t t1 t2 : Table) (d d2 : Descending Recon) (seat : ℕ) → ((key : Option Key) × IsCarried m (sheets_of t) d key) → IsAtNoInner t d.stand → HasInnerRoot t (in_nulls d) → IsTicked t t1 →
     IsChainSplit m t t1 d d2 LeftOut → SamePages t1 t2 → t2.touched ≡ t1.touched → IsStepOut m t t2 d d2 seat outs.Restructured
-chain_out {Key} {Recon} m t t1 t2 d d2 seat of_key off root ticked (z, ways) same et = ⊎_elim
+chain_out {Key} {Recon} m t t1 t2 d d2 seat of_key off root ticked (z, makes, ways) same et = ⊎_elim
     (λ (e, W). one 0 (ap (λ (x : Descending Recon). x.row) e) (ap (λ (x : Descending Recon). in_nulls x) e) (ap (λ (x : Descending Recon). x.stand) e) (ap (λ (x : Descending Recon). x.parent) e) W)
     (λ (e, W). one 1 (ap (λ (x : Descending Recon). x.row) e) (ap (λ (x : Descending Recon). in_nulls x) e) (ap (λ (x : Descending Recon). x.stand) e) (ap (λ (x : Descending Recon). x.parent) e) W)
     ways
@@ -253,3 +256,32 @@ chain_out {Key} {Recon} m t t1 t2 d d2 seat of_key off root ticked (z, ways) sam
     one : (spread : ℕ) → d2.row ≡ d.row → in_nulls d2 ≡ in_nulls d → d2.stand ≡ At z → d2.parent ≡ d.parent → SplitsWithout m t t1 d d2 z spread → IsStepOut m t t2 d d2 seat outs.Restructured
     one spread row nulls stand parent W = left_out m t t1 t2 d d2 seat (split_cost d.stand spread) (moved (tuple_place d.stand) z) off.0 W.leaves ticked.limit (kinds_grow t t1 d ticked.roots)
         (led_goes m t t1 d d2 z of_key root ticked row nulls stand parent W.leaves.section.shape W.inner W.link W.carries) same et
+
+-- ---- which inner tuples a section makes
+
+-- then latches alone are changed
+pub makes_same : (t t1 t2 : Table) (z : Place) → SamePages t1 t2 → MakesOne t t1 z → MakesAtMostOne t t2
+makes_same t t1 t2 z (e, l) makes =
+    let ep : t2.pages ≡ t1.pages = ap (λ (S : Sheets). S.sheets) e in
+    (z, λ x off inner. makes x off (subst (λ (ps : List Sheet). IsInner (tuple_at (record t1 { pages = ps }) x)) ep inner))
+
+pub makes_none : (t t1 t2 : Table) → SamePages t1 t2 → MakesNone t t1 → MakesAtMostOne t t2
+makes_none t t1 t2 same none = makes_same t t1 t2 (place 0 0) same (λ x off inner. none x inner)
+
+-- then the latches of the insert are given free
+pub freed_pages : {Recon : Type 0} (t1 t2 : Table) (d : Descending Recon) (seat : ℕ) → t2 ≡ released (released t1 (stand_block d.stand) seat) (parent_block d.parent) seat → SamePages t1 t2
+freed_pages t1 t2 d seat freed = subst (λ (z : Table). SamePages t1 z) (sym freed) (freed_same t1 (stand_block d.stand) (parent_block d.parent) seat)
+
+-- the node of the tuple above leads to the one that is made
+pub makes_below : (t t1 : Table) (parent : Option (Place × ℕ)) (z : Place) → MakesBelow t t1 parent z → MakesOne t t1 z
+makes_below t t1 None z makes = absurd makes
+makes_below t t1 (Some (p, i)) z makes = makes.0
+
+-- a node was followed
+pub down_makes : {Key Recon Cond : Type 0} (m : Meaning Key Recon Cond) (t t1 t2 : Table) (d d2 : Descending Recon) (seat node : ℕ) (rest : List ℕ) (out : Entered) → FollowsNode m t t1 d d2 seat node rest out → SamePages t1 t2 → MakesAtMostOne t t2
+down_makes {Key} {Recon} m t t1 t2 d d2 seat node rest In (unheld, et, ed) same =
+    let s1 : SamePages t t1 = subst (λ (z : Table). SamePages t z) (sym et) (below_same t d (tuple_place d.stand) (stand_below (link_of t (tuple_place d.stand) node)) seat) in
+    makes_none t t t2 (same_trans t t1 t2 s1 same) (λ x i. i)
+down_makes {Key} {Recon} m t t1 t2 d d2 seat node rest (Busy block by) (eb, held, other, et, ed) same =
+    let s1 : SamePages t t1 = subst (λ (z : Table). SamePages t z) (sym et) (freed_same t (stand_block d.stand) (parent_block d.parent) seat) in
+    makes_none t t t2 (same_trans t t1 t2 s1 same) (λ x i. i)

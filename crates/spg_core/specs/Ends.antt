@@ -1,5 +1,5 @@
 -- How many sections of an open insert may come yet.
-use Rattle.std.specs.Prelude.{◌≡◌, ◌≤◌, ◌⊎◌, ℕ, suc, Option, Some, None, false}
+use Rattle.std.specs.Prelude.{◌≡◌, ◌≤◌, ◌⊎◌, ℕ, suc, Some, None, false}
 use Rattle.spg_opclass.specs.Meaning.{Meaning}
 use Rattle.spg_opclass.specs.Laws.{GoesOn}
 use Rattle.spg_forest.specs.Pages.{place}
@@ -11,7 +11,7 @@ use Rattle.spg_tree.specs.Descents.{Descending, in_nulls}
 use Rattle.spg_tree.specs.declared.stand.Stand.{Stand}
 use Rattle.spg_tree.specs.declared.stand.Stand.TheVariants.{Start, Root, At, Empty}
 use Rattle.spg_descend.specs.Carried.{root_of}
-use Rattle.spg_descend.specs.Follows.{tuple_place, link_of}
+use Rattle.spg_descend.specs.Follows.{IsAtInner, tuple_place, link_of}
 use Rattle.spg_descend.specs.Answers.{LeadsNowhere}
 use Rattle.spg_core.specs.Stage.{Stage, free, descending, reading}
 use Rattle.spg_core.specs.Seen.{Seen, stage_at}
@@ -22,11 +22,11 @@ use Rattle.spg_core.specs.declared.answer.InsertOut.TheVariants.{Descended, Rest
 abbrev pub LeadsElsewhere : {Key Recon Cond : Type 0} → Meaning Key Recon Cond → Table → Descending Recon → Type 0
 LeadsElsewhere {Key} {Recon} m t d =
     (recon : Recon) × (child : ℕ) × (d.recon ≡ Some recon) × GoesOn child (m.answer recon (frame_in (tuple_at t (tuple_place d.stand))) d.rest)
-        × ((i : ℕ) → (i ≡ child → ⊥) → link_of t (tuple_place d.stand) i ≡ None) × ((frame_in (tuple_at t (tuple_place d.stand))).all_same ≡ false)
+    × ((i : ℕ) → (i ≡ child → ⊥) → link_of t (tuple_place d.stand) i ≡ None) × ((frame_in (tuple_at t (tuple_place d.stand))).all_same ≡ false)
 
--- at the tuple the class answers with a node that leads nowhere, at once or once it is put in
+-- at the inner tuple the class answers with a node that leads nowhere, at once or once it is put in
 abbrev pub IsNearEnd : {Key Recon Cond : Type 0} → Meaning Key Recon Cond → Table → Descending Recon → ℕ → Type 0
-IsNearEnd m t d n = ((2 ≤ n) × LeadsNowhere m t d) ⊎ ((3 ≤ n) × LeadsElsewhere m t d)
+IsNearEnd m t d n = IsAtInner t d.stand × (((2 ≤ n) × LeadsNowhere m t d) ⊎ ((3 ≤ n) × LeadsElsewhere m t d))
 
 -- at most n sections of an insert that stands there come yet
 abbrev pub EndsAt : {Key Recon Cond : Type 0} → Meaning Key Recon Cond → Table → Descending Recon → ℕ → Stand → Type 0

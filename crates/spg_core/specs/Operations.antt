@@ -14,7 +14,8 @@ use Rattle.spg_scan.specs.declared.walk.Closed.{Closed}
 use Rattle.spg_core.specs.declared.answer.InsertOut.{InsertOut}
 use Rattle.spg_core.specs.declared.slot.Slot.{Slot}
 use Rattle.spg_core.specs.declared.slot.Slot.TheVariants.{Free, Insert, Scan}
-use Rattle.spg_core.specs.Stepping.{Stands, IsOutgrown, IsStepOut}
+use Rattle.spg_core.specs.Stepping.{Stands, IsOutgrown, IsStepOut, MakesAtMostOne}
+use Rattle.spg_core.specs.Ends.{TakesOne}
 use Rattle.spg_core.specs.Latches.{InsertHolds, HoldsAfter}
 
 abbrev pub CanStep : {O Key Recon Cond : Type 0} → Meaning Key Recon Cond → Table → Slot O Key Recon Cond → Type 0
@@ -30,7 +31,9 @@ IsOutgrownBy t (Scan s) = ⊥
 -- the insert in a slot does a section, and is in the slot then
 abbrev pub StepsFrom : {O Key Recon Cond : Type 0} → Meaning Key Recon Cond → Table → Table → List (Slot O Key Recon Cond) → List (Slot O Key Recon Cond) → ℕ → InsertOut → Slot O Key Recon Cond → Type 0
 StepsFrom m t t2 old new seat out Free = ⊥
-StepsFrom {O} {Key} {Recon} m t t2 old new seat out (Insert key d) = (d2 : Descending Recon) × (new ≡ slice_set old seat (Insert key d2)) × IsStepOut m t t2 d d2 seat out × (InsertHolds t seat d → HoldsAfter t2 seat d2 out)
+StepsFrom {O} {Key} {Recon} m t t2 old new seat out (Insert key d) =
+    (d2 : Descending Recon) × (new ≡ slice_set old seat (Insert key d2)) × IsStepOut m t t2 d d2 seat out × (InsertHolds t seat d → HoldsAfter t2 seat d2 out)
+    × TakesOne m t t2 d d2 out × MakesAtMostOne t t2
 StepsFrom m t t2 old new seat out (Scan s) = ⊥
 
 abbrev pub StepsSlot : {O Key Recon Cond : Type 0} → Meaning Key Recon Cond → Table → Table → List (Slot O Key Recon Cond) → List (Slot O Key Recon Cond) → ℕ → InsertOut → Type 0

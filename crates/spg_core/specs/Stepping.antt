@@ -1,5 +1,5 @@
 -- Where an open insert stands in a table, and what a section of it does.
-use Rattle.std.specs.Prelude.{◌≡◌, ◌⊎◌, ◌<◌, ◌+◌, ℕ, Bool, true, false, length, Option, Some, None, if◌then◌else◌}
+use Rattle.std.specs.Prelude.{◌≡◌, ◌⊎◌, ◌<◌, ◌+◌, ℕ, Bool, true, false, List, length, Option, Some, None, if◌then◌else◌}
 use Rattle.spg_opclass.specs.Meaning.{Meaning}
 use Rattle.spg_forest.specs.View.{Place}
 use Rattle.spg_forest.specs.Spot.{Frame}
@@ -17,11 +17,13 @@ use Rattle.spg_descend.specs.Puts.{IsAtLeaves, IsAtEmpty, Fits}
 use Rattle.spg_descend.specs.Rules.{IsAtNoInner}
 use Rattle.spg_forest.specs.Shape.{IsRestOf}
 use Rattle.spg_forest.specs.Sheets.{links}
+use Rattle.spg_forest.specs.Classes.{down_of}
 use Rattle.spg_forest.specs.Follows.{GoesBelow}
 use Rattle.spg_page.specs.Reads.{frame_in}
 use Rattle.spg_opclass.specs.declared.view.Choice.TheVariants as choice
 use Rattle.spg_descend.specs.Follows.{tuple_place}
 use Rattle.spg_descend.specs.Answers.{IsAnswered}
+use Rattle.spg_descend.specs.Makes.{MakesOne}
 use Rattle.spg_core.specs.declared.inner.Chosen.{Chosen}
 use Rattle.spg_core.specs.declared.inner.Chosen.TheVariants.{Node, Add, Split}
 use Rattle.spg_core.specs.declared.answer.InsertOut.{InsertOut}
@@ -63,6 +65,10 @@ IsOutgrown t d = HasInnerRoot t (in_nulls d) ⊎ IsRootFull t d
 abbrev pub IsNearLimit : Table → Type 0
 IsNearLimit t = t.limit < length t.pages + 4
 
+-- at most one inner tuple is made: but at some place, one stands only where one stood
+abbrev pub MakesAtMostOne : Table → Table → Type 0
+MakesAtMostOne t t2 = (z : Place) × MakesOne t t2 z
+
 -- a root is an inner tuple only where it was one, or where the insert has outgrown it
 abbrev pub RootsGrow : {Recon : Type 0} → Table → Table → Descending Recon → Type 0
 RootsGrow t t2 d = (nulls : Bool) → HasInnerRoot t2 nulls → HasInnerRoot t nulls ⊎ ((nulls ≡ in_nulls d) × IsRootFull t d)
@@ -80,10 +86,16 @@ IsStepOut {Key} m t t2 d d2 seat Put =
 abbrev pub named : ℕ → Frame → ℕ → ℕ
 named turn w node = if w.all_same then turn else node
 
--- What an insert does at an inner tuple: it goes down a node that is there, below which it carries what it carried; or what the class answers
-abbrev pub IsChosen : {Key Recon Cond : Type 0} → Meaning Key Recon Cond → Table → Descending Recon → Chosen → Type 0
-IsChosen {Key} m t d (Node node rest by_turn) =
+-- the class answers a match with this rest, and the node is the one that is followed then; in the nulls tree it is the one that the counter names
+abbrev pub IsNamed : {Key Recon Cond : Type 0} → Meaning Key Recon Cond → Table → Descending Recon → ℕ → List ℕ → Type 0
+IsNamed m t d node rest =
+    ((d.recon ≡ None) × (node ≡ t.counter)) ⊎ ((answer : ℕ) × IsAnswered m t d (choice.Match answer rest) × (node ≡ named t.counter (frame_in (tuple_at t (tuple_place d.stand))) answer))
+
+-- What an insert does at an inner tuple: it goes down a node that is there, below which it carries what it carried, by what the class answers, with the rebuilt value there; or the class asks for a node or a split
+abbrev pub IsChosen : {O Key Recon Cond : Type 0} → Meaning Key Recon Cond → Table → Descending Recon → Chosen O Key Recon Cond → Type 0
+IsChosen {O} {Key} m t d (Node node rest by_turn below) =
     let x : Place = tuple_place d.stand in
-    (node < length (links (tuple_at t x))) × IsRestOf m (in_nulls d) rest × ((key : Option Key) → IsCarried m (sheets_of t) d key → GoesBelow m d.recon (frame_in (tuple_at t x)) node rest key)
+    (node < length (links (tuple_at t x))) × IsRestOf m (in_nulls d) rest × ((key : Option Key) → IsCarried m (sheets_of t) d key → GoesBelow m d.recon (frame_in (tuple_at t x)) node rest key) × IsNamed m t d node rest
+    × (below ≡ down_of m d.recon (frame_in (tuple_at t x)) node)
 IsChosen m t d (Add at label) = (in_nulls d ≡ false) × IsAnswered m t d (choice.Add at label)
 IsChosen m t d (Split up labels child low) = (in_nulls d ≡ false) × IsAnswered m t d (choice.Split up labels child low)

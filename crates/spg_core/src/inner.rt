@@ -4,29 +4,31 @@ ghost use Rattle.spg_tree.specs.Table.{sheets_of};
 ghost use Rattle.spg_tree.specs.Descents.{in_nulls};
 ghost use Rattle.spg_tree.specs.declared.stand.StepRefused.TheVariants.{IndexFull, ClockFull};
 ghost use Rattle.spg_descend.specs.Carried.{IsCarried};
-ghost use Rattle.spg_descend.specs.Follows.{IsAtInner, tuple_place};
+ghost use Rattle.spg_descend.specs.Follows.{IsAtInner};
 ghost use Rattle.spg_core.specs.declared.inner.Chosen.TheVariants.{Node, Add};
-ghost use Rattle.spg_core.specs.Stepping.{Stands, IsOutgrown, IsNearLimit, IsStepOut, IsChosen, named};
+ghost use Rattle.spg_core.specs.Stepping.{Stands, IsOutgrown, IsNearLimit, IsStepOut, IsChosen, MakesAtMostOne, named};
+ghost use Rattle.spg_core.specs.Ends.{TakesOne};
 ghost use Rattle.spg_core.specs.Latches.{InsertHolds, HoldsAfter};
 
 use crate::answer::InsertOut;
 use crate::latches::{hold_anew, stand_block};
-use spg_base::{Block, Bytes, Labels, Memory, Offset, Place, SeatNo};
-use spg_descend::{Entered, follow};
+use spg_base::{Bytes, Labels, Memory, SeatNo};
+use spg_descend::{Entered, enter_node, tuple_place};
 use spg_move::{add_node, split_tuple};
 use spg_opclass::{Choice, InnerView, OpClass};
-use spg_tree::{Descent, PageTable, Stand, StepRefused};
+use spg_tree::{Descent, PageTable, StepRefused};
 use std::alloc::Global;
 
 /// What an insert does at an inner tuple.
 #[derive(Drop)]
-enum Chosen {
-    /// It goes down a node, with what is left of its rest there. The rotating counter may have named
-    /// the node.
+enum Chosen<O: OpClass> {
+    /// It goes down a node, with what is left of its rest there, and the rebuilt value below. The
+    /// rotating counter may have named the node.
     Node {
         node: u16,
         rest: Bytes,
         by_turn: bool,
+        below: Option<O::Recon>,
     },
     /// A node with this label is put in at this position.
     Add {
@@ -40,23 +42,6 @@ enum Chosen {
         child: u16,
         lower_prefix: Bytes,
     },
-}
-
-/// Where the inner tuple stands at which the insert is.
-fn tuple_place(stand: Stand) -> Place
-    ensures { result ≡ tuple_place stand }
-{
-    match stand {
-        Stand::Root(block) => Place {
-            block,
-            offset: Offset(1),
-        },
-        Stand::At(place) => place,
-        Stand::Start | Stand::Empty => Place {
-            block: Block(0),
-            offset: Offset(0),
-        },
-    }
 }
 
 /// The node that is followed where the class answers this one: at an all-the-same tuple it is the
@@ -74,14 +59,14 @@ fn choose_for<O: OpClass>(
     table: &PageTable,
     descent: &Descent<O>,
     recon: &O::Recon,
-) -> Result<Chosen, Memory>
+) -> Result<Chosen<O>, Memory>
     requires shape { Shape O.meaning (sheets_of table.now) }
     requires inner { IsAtInner table.now descent.now.stand }
     requires of_key { (key : Option O.Key) × IsCarried O.meaning (sheets_of table.now) descent.now key }
     requires stands { Stands table.now descent.now }
     requires recon { descent.now.recon ≡ Just recon.now }
     requires main { in_nulls descent.now ≡ false }
-    ensures { IfOk result (λ chosen. IsChosen O.meaning table.now descent.now chosen) }
+    ensures { IfOk result (λ chosen. IsChosen {O = O} O.meaning table.now descent.now chosen) }
 {
     let at = tuple_place(descent.stand());
     let view = table.page(at.block).view_at(alloc, at.offset)?;
@@ -89,10 +74,12 @@ fn choose_for<O: OpClass>(
         Choice::Match { node, rest } => {
             let node = named(table.counter(), &view, node);
             let by_turn = view.all_same;
+            let below = class.down(alloc, recon, &view, node)?;
             Ok(Chosen::Node {
                 node,
                 rest,
                 by_turn,
+                below: Some(below),
             })
         }
         Choice::Add { at, label } => Ok(Chosen::Add { at, label }),
@@ -117,52 +104,52 @@ fn choose<O: OpClass>(
     class: &O,
     table: &PageTable,
     descent: &Descent<O>,
-) -> Result<Chosen, Memory>
+) -> Result<Chosen<O>, Memory>
     requires shape { Shape O.meaning (sheets_of table.now) }
     requires inner { IsAtInner table.now descent.now.stand }
     requires of_key { (key : Option O.Key) × IsCarried O.meaning (sheets_of table.now) descent.now key }
     requires stands { Stands table.now descent.now }
-    ensures { IfOk result (λ chosen. IsChosen O.meaning table.now descent.now chosen) }
+    ensures { IfOk result (λ chosen. IsChosen {O = O} O.meaning table.now descent.now chosen) }
 {
     match descent.recon() {
         None => Ok(Chosen::Node {
             node: u16::from(table.counter()),
             rest: Bytes::new(alloc),
             by_turn: true,
+            below: None,
         }),
         Some(recon) => choose_for(alloc, class, table, descent, recon),
     }
 }
 
-/// Goes down a node of the inner tuple at which an insert is.
+/// Goes down a node of the inner tuple at which an insert is. It takes no memory.
 fn go_down<O: OpClass>(
-    alloc: Global,
-    class: &O,
     table: &mut PageTable,
     descent: &mut Descent<O>,
     seat: SeatNo,
     node: u16,
     rest: Bytes,
     by_turn: bool,
-) -> Result<InsertOut, Memory>
+    below: Option<O::Recon>,
+) -> InsertOut
     requires shape { Shape O.meaning (sheets_of table.old) }
     requires inner { IsAtInner table.old descent.old.stand }
     requires of_key { (key : Option O.Key) × IsCarried O.meaning (sheets_of table.old) descent.old key }
     requires stands { Stands table.old descent.old }
-    requires chosen { IsChosen O.meaning table.old descent.old (Node node rest by_turn) }
-    ensures ok { IfOk result (λ out. IsStepOut O.meaning table.old table.new descent.old descent.new seat out) }
-    ensures latches { IfOk result (λ out. InsertHolds table.old seat descent.old → HoldsAfter table.new seat descent.new out) }
-    ensures err { OnErr result (table.new ≡ table.old) }
-    ensures err_descent { OnErr result (descent.new ≡ descent.old) }
+    requires chosen { IsChosen {O = O} O.meaning table.old descent.old (Node node rest by_turn below) }
+    ensures ok { IsStepOut O.meaning table.old table.new descent.old descent.new seat result }
+    ensures latches { InsertHolds table.old seat descent.old → HoldsAfter table.new seat descent.new result }
+    ensures ends { TakesOne O.meaning table.old table.new descent.old descent.new result }
+    ensures makes { MakesAtMostOne table.old table.new }
 {
     let _count = table.page_count();
-    let entered = follow(alloc, class, table, descent, seat, node, rest)?;
+    let entered = enter_node(table, descent, seat, node, rest, below);
     if by_turn {
         table.turn_counter();
     }
     match entered {
-        Entered::In => Ok(InsertOut::Descended),
-        Entered::Busy { block, by } => Ok(InsertOut::Restarted { block, by }),
+        Entered::In => InsertOut::Descended,
+        Entered::Busy { block, by } => InsertOut::Restarted { block, by },
     }
 }
 
@@ -179,9 +166,11 @@ fn widen<O: OpClass>(
     requires inner { IsAtInner table.old descent.old.stand }
     requires of_key { (key : Option O.Key) × IsCarried O.meaning (sheets_of table.old) descent.old key }
     requires stands { Stands table.old descent.old }
-    requires chosen { IsChosen O.meaning table.old descent.old (Add at label) }
+    requires chosen { IsChosen {O = O} O.meaning table.old descent.old (Add at label) }
     ensures ok { IfOk result (λ out. IsStepOut O.meaning table.old table.new descent.old descent.new seat out) }
     ensures latches { IfOk result (λ out. InsertHolds table.old seat descent.old → HoldsAfter table.new seat descent.new out) }
+    ensures ends { IfOk result (λ out. TakesOne O.meaning table.old table.new descent.old descent.new out) }
+    ensures makes { IfOk result (λ _. MakesAtMostOne table.old table.new) }
     ensures full { IsErrOf result IndexFull → IsOutgrown table.old descent.old × IsNearLimit table.old }
     ensures clock { IsErrOf result ClockFull → IsOutgrown table.old descent.old × (table.old.clock + 1 ≡ 2 ^ 48) }
     ensures err { OnErr result (table.new ≡ table.old) }
@@ -208,6 +197,8 @@ pub(crate) fn at_inner<O: OpClass>(
     requires stands { Stands table.old descent.old }
     ensures ok { IfOk result (λ out. IsStepOut O.meaning table.old table.new descent.old descent.new seat out) }
     ensures latches { IfOk result (λ out. InsertHolds table.old seat descent.old → HoldsAfter table.new seat descent.new out) }
+    ensures ends { IfOk result (λ out. TakesOne O.meaning table.old table.new descent.old descent.new out) }
+    ensures makes { IfOk result (λ _. MakesAtMostOne table.old table.new) }
     ensures full { IsErrOf result IndexFull → IsOutgrown table.old descent.old × IsNearLimit table.old }
     ensures clock { IsErrOf result ClockFull → IsOutgrown table.old descent.old × (table.old.clock + 1 ≡ 2 ^ 48) }
     ensures err { OnErr result (table.new ≡ table.old) }
@@ -218,7 +209,8 @@ pub(crate) fn at_inner<O: OpClass>(
             node,
             rest,
             by_turn,
-        } => Ok(go_down(alloc, class, table, descent, seat, node, rest, by_turn)?),
+            below,
+        } => Ok(go_down(table, descent, seat, node, rest, by_turn, below)),
         Chosen::Add { at, label } => widen(alloc, table, descent, seat, at, label),
         Chosen::Split {
             upper_prefix,

@@ -8,7 +8,8 @@ ghost use Rattle.spg_descend.specs.Carried.{carried, IsCarried};
 ghost use Rattle.spg_descend.specs.Puts.{Fits};
 ghost use Rattle.spg_descend.specs.Rules.{IsAtNoInner, MayMove};
 ghost use Rattle.spg_split.specs.Splits.{IsAtRoot};
-ghost use Rattle.spg_core.specs.Stepping.{Stands, IsOutgrown, IsNearLimit, IsStepOut};
+ghost use Rattle.spg_core.specs.Stepping.{Stands, IsOutgrown, IsNearLimit, IsStepOut, MakesAtMostOne};
+ghost use Rattle.spg_core.specs.Ends.{TakesOne};
 ghost use Rattle.spg_core.specs.Latches.{InsertHolds, HoldsAfter};
 
 use crate::answer::InsertOut;
@@ -29,6 +30,8 @@ fn begin<O: OpClass>(table: &mut PageTable, descent: &mut Descent<O>, seat: Seat
     requires stands { Stands table.old descent.old }
     ensures ok { IsStepOut O.meaning table.old table.new descent.old descent.new seat result }
     ensures latches { InsertHolds table.old seat descent.old → HoldsAfter table.new seat descent.new result }
+    ensures ends { TakesOne O.meaning table.old table.new descent.old descent.new result }
+    ensures makes { MakesAtMostOne table.old table.new }
 {
     let _count = table.page_count();
     match enter_root(table, descent, seat) {
@@ -51,6 +54,8 @@ fn put<O: OpClass>(
     requires stands { Stands table.old descent.old }
     ensures ok { IfOk result (λ out. IsStepOut O.meaning table.old table.new descent.old descent.new seat out) }
     ensures latches { IfOk result (λ out. InsertHolds table.old seat descent.old → HoldsAfter table.new seat descent.new out) }
+    ensures ends { IfOk result (λ out. TakesOne O.meaning table.old table.new descent.old descent.new out) }
+    ensures makes { IfOk result (λ _. MakesAtMostOne table.old table.new) }
     ensures full { IsErrOf result IndexFull → IsOutgrown table.old descent.old × IsNearLimit table.old }
     ensures clock { IsErrOf result ClockFull → ⊥ }
     ensures err { OnErr result (table.new ≡ table.old) }
@@ -81,6 +86,8 @@ fn divide_root<O: OpClass>(
     requires stands { Stands table.old descent.old }
     ensures ok { IfOk result (λ out. IsStepOut O.meaning table.old table.new descent.old descent.new seat out) }
     ensures latches { IfOk result (λ out. InsertHolds table.old seat descent.old → HoldsAfter table.new seat descent.new out) }
+    ensures ends { IfOk result (λ out. TakesOne O.meaning table.old table.new descent.old descent.new out) }
+    ensures makes { IfOk result (λ _. MakesAtMostOne table.old table.new) }
     ensures full { IsErrOf result IndexFull → IsOutgrown table.old descent.old × IsNearLimit table.old }
     ensures clock { IsErrOf result ClockFull → ⊥ }
     ensures err { OnErr result (table.new ≡ table.old) }
@@ -112,6 +119,8 @@ fn divide_chain<O: OpClass>(
     requires stands { Stands table.old descent.old }
     ensures ok { IfOk result (λ out. IsStepOut O.meaning table.old table.new descent.old descent.new seat out) }
     ensures latches { IfOk result (λ out. InsertHolds table.old seat descent.old → HoldsAfter table.new seat descent.new out) }
+    ensures ends { IfOk result (λ out. TakesOne O.meaning table.old table.new descent.old descent.new out) }
+    ensures makes { IfOk result (λ _. MakesAtMostOne table.old table.new) }
     ensures full { IsErrOf result IndexFull → IsOutgrown table.old descent.old × IsNearLimit table.old }
     ensures clock { IsErrOf result ClockFull → IsOutgrown table.old descent.old × (table.old.clock + 1 ≡ 2 ^ 48) }
     ensures err { OnErr result (table.new ≡ table.old) }
@@ -146,6 +155,8 @@ fn move_away<O: OpClass>(
     requires stands { Stands table.old descent.now }
     ensures ok { IfOk result (λ out. IsStepOut O.meaning table.old table.new descent.now descent.now seat out) }
     ensures latches { IfOk result (λ out. InsertHolds table.old seat descent.now → HoldsAfter table.new seat descent.now out) }
+    ensures ends { IfOk result (λ out. TakesOne O.meaning table.old table.new descent.now descent.now out) }
+    ensures makes { IfOk result (λ _. MakesAtMostOne table.old table.new) }
     ensures full { IsErrOf result IndexFull → IsOutgrown table.old descent.now × IsNearLimit table.old }
     ensures clock { IsErrOf result ClockFull → IsOutgrown table.old descent.now × (table.old.clock + 1 ≡ 2 ^ 48) }
     ensures err { OnErr result (table.new ≡ table.old) }
@@ -155,7 +166,8 @@ fn move_away<O: OpClass>(
     Ok(InsertOut::Put)
 }
 
-/// The next section of an open insert. After a refusal table and insert are as they were.
+/// The next section of an open insert, which is one of those that may come yet. After a refusal table
+/// and insert are as they were.
 pub(crate) fn step<O: OpClass>(
     alloc: Global,
     class: &O,
@@ -168,6 +180,8 @@ pub(crate) fn step<O: OpClass>(
     requires stands { Stands table.old descent.old }
     ensures ok { IfOk result (λ out. IsStepOut O.meaning table.old table.new descent.old descent.new seat out) }
     ensures latches { IfOk result (λ out. InsertHolds table.old seat descent.old → HoldsAfter table.new seat descent.new out) }
+    ensures ends { IfOk result (λ out. TakesOne O.meaning table.old table.new descent.old descent.new out) }
+    ensures makes { IfOk result (λ _. MakesAtMostOne table.old table.new) }
     ensures full { IsErrOf result IndexFull → IsOutgrown table.old descent.old × IsNearLimit table.old }
     ensures clock { IsErrOf result ClockFull → IsOutgrown table.old descent.old × (table.old.clock + 1 ≡ 2 ^ 48) }
     ensures err { OnErr result (table.new ≡ table.old) }

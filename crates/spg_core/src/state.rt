@@ -1,4 +1,4 @@
-ghost use Rattle.std.specs.Prelude.{◌≡◌, ◌≢◌, ◌<◌, ◌≤◌, ◌+◌, ◌^◌, ◌↔◌, ◌⊎◌, [], ℕ, true, false, Option, Some, None, IfOk, OnOk, OnErr, IsErrOf, IsTrue};
+ghost use Rattle.std.specs.Prelude.{◌≡◌, ◌≢◌, ◌<◌, ◌≤◌, ◌+◌, ◌^◌, ◌↔◌, ◌⊎◌, [], ℕ, suc, true, false, Option, Some, None, IfOk, OnOk, OnErr, IsErrOf, IsTrue};
 ghost use Rattle.spg_base.specs.declared.recorded.Origin.{Origin};
 ghost use Rattle.spg_forest.specs.Shape.{Represents};
 ghost use Rattle.spg_forest.specs.Walk.{weight_of};
@@ -10,7 +10,8 @@ ghost use Rattle.spg_rows.specs.History.{open_of};
 ghost use Rattle.spg_tree.specs.Table.{Table, sheets_of, start_table};
 ghost use Rattle.spg_core.specs.Stage.{free, IsInserting, IsRead, IsStageOf, held_count, given_up, kind_of};
 ghost use Rattle.spg_core.specs.Seen.{stage_at, past_of, IsPresentWith};
-ghost use Rattle.spg_core.specs.Stepping.{IsNearLimit};
+ghost use Rattle.spg_core.specs.Stepping.{IsNearLimit, MakesAtMostOne};
+ghost use Rattle.spg_core.specs.Ends.{SeatEnds, SeatThenEnds};
 ghost use Rattle.spg_core.specs.Latches.{StageHolds, LatchesAfter, ChangesHeld};
 ghost use Rattle.spg_core.specs.Kept.{RootsAreHeavy};
 ghost use Rattle.spg_core.specs.Counts.{IsStat};
@@ -180,8 +181,9 @@ impl<O: OpClass> State<O> {
     /// only where a chain below a root moves or is divided, or an inner tuple moves that has one more
     /// node, and the clock is 2^48 - 1. Both only where the keys of its tree that were ever inserted
     /// take more than 8,160 bytes. It changes only blocks that the seat had latched or that nobody
-    /// had; at its start, and once its row is put, it has latched none. `Restarted` does not come
-    /// about so far, since seat 0 alone may have something open.
+    /// had; at its start, and once its row is put, it has latched none. It makes one inner tuple at
+    /// most, and takes one of the sections that may come yet. `Restarted` does not come about so far,
+    /// since seat 0 alone may have something open.
     pub fn insert_step(&mut self, seat: SeatNo) -> Result<InsertOut, StepRefused>
         requires first { seat ≡ 0 }
         requires inserting { IsInserting (stage_at self.old seat) }
@@ -189,6 +191,8 @@ impl<O: OpClass> State<O> {
         ensures latches { IfOk result (λ out. LatchesAfter self.new seat out) }
         ensures alone { IfOk result (λ out. IsNoRestart out) }
         ensures within { ChangesHeld self.old.table self.new.table seat }
+        ensures makes { IfOk result (λ _. MakesAtMostOne self.old.table self.new.table) }
+        ensures ends { IfOk result (λ out. (n : ℕ) → SeatEnds O.meaning self.old seat (suc n) → SeatThenEnds O.meaning self.new seat n out) }
         ensures full { IsErrOf result StepRefused.IndexFull → IsHeavy O.meaning self.old seat × IsNearLimit self.old.table }
         ensures clock { IsErrOf result StepRefused.ClockFull → IsHeavy O.meaning self.old seat × (self.old.table.clock + 1 ≡ 2 ^ 48) }
         ensures err { OnErr result (self.new ≡ self.old) }

@@ -14,8 +14,9 @@ use spg_tree::StepRefused;
 
 impl<O: OpClass> State<O> {
     /// The sections of an insert one after another, until its row is put, another seat holds the block
-    /// to be visited, or a section is refused. After a refusal the sections before it stand, and the
-    /// insert is open as they left it. `IndexFull` only where fewer than 4 blocks are left below the
+    /// to be visited, or a section is refused. It returns, since each section takes one of those that
+    /// may come yet. After a refusal the sections before it stand, and the insert is open as they left
+    /// it. `IndexFull` only where fewer than 4 blocks are left below the
     /// limit, `ClockFull` only where the clock is 2^48 - 1, and both only where the keys of its tree
     /// that were ever inserted take more than 8,160 bytes. `Restarted` does not come about so far,
     /// since seat 0 alone may have something open.
@@ -28,15 +29,16 @@ impl<O: OpClass> State<O> {
         ensures clock { IsErrOf result ClockFull → IsHeavy O.meaning self.new seat × (self.new.table.clock + 1 ≡ 2 ^ 48) }
         ensures err { OnErr result (StillInserts self.old self.new seat) }
     {
-        // No clause of a section says that an insert comes to its end, so the loop has a bound, which
-        // no run reaches.
-        for _ in 0..u64::MAX {
+        // Each section takes one of those that may come yet, and these are fewer than 2^64, so a return
+        // leaves the loop.
+        let _count = self.pages().page_count();
+        for _turn in 0..u64::MAX {
             match self.insert_step(seat)? {
                 InsertOut::Descended | InsertOut::Restructured => {}
                 InsertOut::Restarted { block, by } => return Ok(InsertRan::Restarted { block, by }),
                 InsertOut::Put => return Ok(InsertRan::Put),
             }
         }
-        Err(StepRefused::Memory)
+        unreachable!()
     }
 }

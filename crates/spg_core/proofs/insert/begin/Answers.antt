@@ -7,7 +7,8 @@ use Rattle.spg_tree.specs.Descents.{in_nulls}
 use Rattle.spg_core.specs.Stepping.{SamePages, StandsAt}
 use Rattle.spg_core.specs.Latches.{NoLatches, InsertHolds}
 use Rattle.spg_core.proofs.Stands.{root_range}
-use Rattle.spg_core.proofs.Moves.{goes_same}
+use Rattle.spg_core.proofs.Moves.{goes_same, makes_none}
+use Rattle.spg_core.proofs.Ends.{enters_ends}
 use Rattle.spg_core.proofs.Holding.{enter_holds, start_free}
 use Rattle.spg_core.proofs.insert.begin.Goals as goal
 
@@ -38,3 +39,22 @@ returns-in-Busy-clause-latches g c = λ h.
       subst (λ (z : Table). NoLatches z) (sym et) (start_free t c.args.seat d c.requires.start parent h),
       subst (λ (z : Descending _). InsertHolds t2 c.args.seat z) (sym ed) (subst (λ (z : Table). InsertHolds z c.args.seat d) (sym et) h),
     )
+
+pub returns-in-In-clause-ends : goal.returns-in-In-clause-ends
+returns-in-In-clause-ends g c =
+    let t = c.args.table.now in
+    let d = c.args.descent.now in
+    let (unheld, et, ed) = c.in-In.ensures.entered in
+    enters_ends g.O.OpClass.meaning t c.enter_root.new.table d c.enter_root.new.descent c.requires.start (ap sheets_of et, ap (λ (z : Table). z.limit) et) ed
+
+pub returns-in-In-clause-makes : goal.returns-in-In-clause-makes
+returns-in-In-clause-makes g c =
+    let t = c.args.table.now in
+    let (unheld, et, ed) = c.in-In.ensures.entered in
+    makes_none t t c.enter_root.new.table (ap sheets_of et, ap (λ (z : Table). z.limit) et) (λ x i. i)
+
+pub returns-in-Busy-clause-makes : goal.returns-in-Busy-clause-makes
+returns-in-Busy-clause-makes g c =
+    let t = c.args.table.now in
+    let (eb, held, other, et, ed) = c.in-Busy.ensures.entered in
+    makes_none t t c.enter_root.new.table (ap sheets_of et, ap (λ (z : Table). z.limit) et) (λ x i. i)

@@ -3,7 +3,7 @@ use Rattle.spg_forest.specs.Pages.{moved}
 use Rattle.spg_descend.specs.Below.{IsTicked}
 use Rattle.spg_descend.specs.Follows.{tuple_place}
 use Rattle.spg_move.specs.Moves.{move_cost}
-use Rattle.spg_core.proofs.Moves.{put_out, kinds_grow, at_chain, not_empty, moves_below, below_root}
+use Rattle.spg_core.proofs.Moves.{put_out, kinds_grow, at_chain, not_empty, moves_below, below_root, makes_none, freed_pages}
 use Rattle.spg_core.proofs.Holding.{put_free}
 use Rattle.spg_core.proofs.insert.move_away.Goals as goal
 
@@ -36,3 +36,9 @@ returns-clause-latches g c = λ h.
     let t1 = c.move_chain.new.table in
     let ticked : IsTicked t t1 = c.in_ok-move_chain.ensures.ticked in
     put_free t t1 c.release_latches.new.table c.args.seat d d ticked.latches refl refl c.release_latches.ensures.table h
+
+pub returns-clause-makes : goal.returns-clause-makes
+returns-clause-makes g c =
+    let t1 = c.move_chain.new.table in
+    let t2 = c.release_latches.new.table in
+    makes_none c.args.table.now t1 t2 (freed_pages t1 t2 c.args.descent.now c.args.seat c.release_latches.ensures.table) c.in_ok-move_chain.ensures.makes

@@ -1,4 +1,4 @@
-use Rattle.std.proofs.Common.{rules, ◌≡◌, ◌<◌, ◌+◌, ◌^◌, sym, refl, ◌∙◌, subst, get_or, arith, length}
+use Rattle.std.proofs.Common.{rules, ℕ, suc, ◌≡◌, ◌<◌, ◌+◌, ◌^◌, sym, refl, ◌∙◌, subst, get_or, arith, length}
 use Rattle.std.proofs.lemmas.Bool.{false≢true}
 use Rattle.spg_core.specs.declared.answer.InsertOut.{InsertOut}
 use Rattle.spg_core.specs.declared.answer.InsertOut.TheVariants as outs
@@ -8,12 +8,13 @@ use Rattle.spg_core.specs.Stage.{Stage, IsInserting}
 use Rattle.spg_core.specs.Seen.{Seen}
 use Rattle.spg_core.specs.Operations.{StepsFrom, IsOutgrownBy}
 use Rattle.spg_core.specs.Sections.{IsOutOf, IsHeavyFor}
-use Rattle.spg_core.specs.Stepping.{IsNearLimit}
+use Rattle.spg_core.specs.Stepping.{IsNearLimit, MakesAtMostOne}
+use Rattle.spg_core.specs.Ends.{SeatEnds, SeatThenEnds}
 use Rattle.spg_core.specs.Latches.{NoLatches, LatchesAfter}
 use Rattle.spg_tree.specs.Table.{Table}
 use Rattle.spg_core.proofs.Slots.{stage_is, table_is, inserting_open}
 use Rattle.spg_core.proofs.Steps.{kept_still, room_left}
-use Rattle.spg_core.proofs.Inserts.{can_step, heavy_for, kept_step, put_row, kept_put, row_claimed, steps_length, seen_step, seen_put, seen_changes, no_restart, latches_step, latches_put}
+use Rattle.spg_core.proofs.Inserts.{can_step, heavy_for, kept_step, put_row, kept_put, row_claimed, steps_length, seen_step, seen_put, seen_changes, no_restart, latches_step, latches_put, ends_step, makes_step}
 use Rattle.spg_core.proofs.state.State.insert_step.Goals as goal
 use Rattle.spg_core.proofs.state.State.insert_step.Goals.{then-has_ended, else-has_ended}
 
@@ -142,3 +143,33 @@ returns-clause-within g c = seen_changes g.O.OpClass.meaning c.self.inside c.sel
 
 pub returns-clause-alone : goal.returns-clause-alone
 returns-clause-alone g c = no_restart g.O.OpClass.meaning g.O.OpClass.codes c.self.inside c.self.invariant c.args.seat c.in_ok-out.out (get_or c.self.inside.slots.items c.args.seat Free) c.step_slot.new.table c.step_slot.new.slots.items c.requires.first refl c.in_ok-out.ensures.ok
+
+pub returns-clause-makes : goal.returns-clause-makes
+returns-clause-makes g c =
+    let m = g.O.OpClass.meaning in
+    let s = c.self.inside in
+    let seen = c.args.self.now in
+    let seat = c.args.seat in
+    let slot = get_or s.slots.items seat Free in
+    let made = makes_step m g.O.OpClass.codes s c.self.invariant seat seen c.self.view_is c.in_ok-out.out slot c.step_slot.new.table c.step_slot.new.slots.items c.in_ok-out.ensures.ok in
+    elim c.if-has_ended.branch [
+      | then-has_ended w ↦ subst (λ (v : Seen _ _ _ _). MakesAtMostOne seen.table v.table) (sym w.self-is) made
+      | else-has_ended w ↦ subst (λ (v : Seen _ _ _ _). MakesAtMostOne seen.table v.table) (sym w.self-is) made
+    ]
+
+pub returns-clause-ends : goal.returns-clause-ends
+returns-clause-ends g c =
+    let m = g.O.OpClass.meaning in
+    let s = c.self.inside in
+    let seen = c.args.self.now in
+    let seat = c.args.seat in
+    let slot = get_or s.slots.items seat Free in
+    elim c.if-has_ended.branch [
+      | then-has_ended w ↦
+          let put : c.in_ok-out.out ≡ outs.Put = c.has_ended.ensures.0 w.if-has_ended.true in
+          subst (λ (o : InsertOut). (n : ℕ) → SeatEnds m seen seat (suc n) → SeatThenEnds m c.if-has_ended.self seat n o) (sym put) (λ n h. tt)
+      | else-has_ended w ↦
+          let other : c.in_ok-out.out ≡ outs.Put → ⊥ = λ e. false≢true (sym w.if-has_ended.false ∙ c.has_ended.ensures.1 e) in
+          subst (λ (v : Seen _ _ _ _). (n : ℕ) → SeatEnds m seen seat (suc n) → SeatThenEnds m v seat n c.in_ok-out.out) (sym w.self-is)
+          (ends_step m g.O.OpClass.codes s c.self.invariant seat seen c.self.view_is c.in_ok-out.out slot c.step_slot.new.table c.step_slot.new.slots.items c.requires.first refl other c.in_ok-out.ensures.ok)
+    ]

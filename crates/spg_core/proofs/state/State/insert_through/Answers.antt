@@ -1,20 +1,43 @@
-use Rattle.std.proofs.Common.{◌≡◌, rules, subst}
+use Rattle.std.proofs.Common.{ℕ, ◌≡◌, ◌^◌, rules, subst, arith}
+use Rattle.spg_forest.proofs.Ranks.{each_is_ranked}
 use Rattle.spg_core.specs.declared.answer.InsertOut.{InsertOut}
 use Rattle.spg_core.specs.declared.answer.InsertOut.TheVariants.{Put}
 use Rattle.spg_core.specs.Latches.{LatchesAfter}
-use Rattle.spg_core.proofs.Going.{goes_further, goes_inserting, puts}
+use Rattle.spg_core.specs.Ends.{SeatEnds}
+use Rattle.spg_tree.specs.Table.{Table, IsSound}
+use Rattle.spg_core.proofs.Going.{still_there, goes_further, goes_inserting, puts, ends_from, few_sections, one_comes, fewer_come}
 use Rattle.spg_core.proofs.state.State.insert_through.Goals as goal
 
 pub returns-in-Put-clause-ok : goal.returns-in-Put-clause-ok
 returns-in-Put-clause-ok g c = (
-  puts c.args.self.now c.loop.self c.insert_step.new.self c.args.seat c.in_ok-insert_step.field-0 c.loop.invariant.goes c.in_ok-insert_step.ensures.ok c.in-Put.is,
+  puts c.args.self.now c.loop-turn.self c.insert_step.new.self c.args.seat c.in_ok-insert_step.field-0 c.loop-turn.invariant.goes c.in_ok-insert_step.ensures.ok c.in-Put.is,
   subst (λ (o : InsertOut). LatchesAfter c.insert_step.new.self c.args.seat o) c.in-Put.is c.in_ok-insert_step.ensures.latches,
 )
 
-pub loop-preserved : goal.loop-preserved
-loop-preserved g c =
+pub loop-turn-preserved : goal.loop-turn-preserved
+loop-turn-preserved g c =
     let no_put : c.in_ok-insert_step.field-0 ≡ Put → ⊥ = search rules in
     record {
-      goes = goes_further c.args.self.now c.loop.self c.insert_step.new.self c.args.seat c.in_ok-insert_step.field-0 c.loop.invariant.goes c.in_ok-insert_step.ensures.ok no_put;
-      inserting = goes_inserting c.loop.self c.insert_step.new.self c.args.seat c.in_ok-insert_step.field-0 c.in_ok-insert_step.ensures.ok no_put;
+      goes = goes_further c.args.self.now c.loop-turn.self c.insert_step.new.self c.args.seat c.in_ok-insert_step.field-0 c.loop-turn.invariant.goes c.in_ok-insert_step.ensures.ok no_put;
+      inserting = goes_inserting c.loop-turn.self c.insert_step.new.self c.args.seat c.in_ok-insert_step.field-0 c.in_ok-insert_step.ensures.ok no_put;
+      ends =
+          let (k, few, now) = c.loop-turn.invariant.ends in
+          fewer_come g.O.OpClass.meaning c.loop-turn.self c.insert_step.new.self c.args.seat k c.loop-turn._turn (2 ^ 64) c.in_ok-insert_step.field-0 few now c.in_ok-insert_step.ensures.ends no_put c.in_ok-insert_step.ensures.alone;
     }
+
+pub loop-turn-init : goal.loop-turn-init
+loop-turn-init g c =
+    let t = c.args.self.now.table in
+    let (k, most, now) = ends_from g.O.OpClass.meaning (each_is_ranked g.O.OpClass.meaning) c.args.self.now c.args.seat c.pages.ensures.represents.shape c.requires.inserting in
+    let sound : IsSound t = subst (λ (z : Table). IsSound z) c.pages.ensures.value c.page_count-count.ensures.sound in
+    record {
+      goes = still_there c.args.self.now c.args.seat;
+      inserting = c.requires.inserting;
+      ends = (k, few_sections t k sound most, now);
+    }
+
+pub unreachable-requires : goal.unreachable-requires
+unreachable-requires g c =
+    let (k, few, now) = c.loop-turn.invariant.ends in
+    let none : k ≡ 0 = omega arith in
+    one_comes g.O.OpClass.meaning c.loop-turn.self c.args.seat (subst (λ (n : ℕ). SeatEnds g.O.OpClass.meaning c.loop-turn.self c.args.seat n) none now)
