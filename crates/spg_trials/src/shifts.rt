@@ -131,6 +131,20 @@ fn nodes_at(alloc: Global, pages: &List<Page>, block: usize, offset: u16) -> Res
     }
 }
 
+/// Where a redirect leads, and its stamp.
+fn redirect_at(
+    alloc: Global,
+    pages: &List<Page>,
+    block: usize,
+    offset: u16,
+) -> Result<(Place, u64), Memory> {
+    let tuple = tuple_at(alloc, pages, block, offset)?;
+    match &tuple {
+        Tuple::Redirect { to, stamp } => Ok((*to, stamp.moment())),
+        _ => Err(Memory),
+    }
+}
+
 /// The nodes with the new one.
 fn longer(alloc: Global, nodes: &Nodes) -> Result<Nodes, Memory> {
     let mut longer = Nodes::new(alloc);
@@ -165,40 +179,64 @@ fn compare_old<R: AllocGlobal + Abort>(rt: &R, old: &List<Page>) -> Result<(), F
     Ok(())
 }
 
-/// The pages after: the tuple is on the next page of the same parity, its old place leads there, and
-/// so does the node of the root. All else is as it was.
-fn compare_new<R: AllocGlobal + Abort>(
+/// Whether the inner tuple at an offset of the full page has the same nodes before and after.
+fn has_same_nodes(
+    alloc: Global,
+    old: &List<Page>,
+    new: &List<Page>,
+    offset: u16,
+) -> Result<bool, Memory> {
+    let before = nodes_at(alloc, old, 5, offset)?;
+    let after = nodes_at(alloc, new, 5, offset)?;
+    Ok(after.as_slice() == before.as_slice())
+}
+
+/// Where the tuple stood: a redirect, beside the tuples that were there.
+fn compare_left<R: AllocGlobal + Abort>(
     rt: &R,
     old: &List<Page>,
     new: &List<Page>,
 ) -> Result<(), Fail> {
-    let alloc = rt.alloc();
+    assert_eq!(rt; sums(new, 5), Some((PageKind::Inner, 4, 1936)));
+    for offset in 1..4 {
+        let same = has_same_nodes(rt.alloc(), old, new, offset)?;
+        assert_eq!(rt; same, true);
+    }
+    let left = redirect_at(rt.alloc(), new, 5, 4)?;
+    assert_eq!(rt; left, (place(8, 1), 0));
+    Ok(())
+}
+
+/// The next page of the same parity has the tuple with the new node, and the root leads there.
+fn compare_moved<R: AllocGlobal + Abort>(
+    rt: &R,
+    old: &List<Page>,
+    new: &List<Page>,
+) -> Result<(), Fail> {
+    let before = nodes_at(rt.alloc(), old, 5, 4)?;
+    let wanted = longer(rt.alloc(), &before)?;
+    let nodes = nodes_at(rt.alloc(), new, 8, 1)?;
+    assert_eq!(rt; nodes.as_slice(), wanted.as_slice());
+    let root = nodes_at(rt.alloc(), new, 1, 1)?;
+    let link = Some(place(8, 1));
+    assert_eq!(rt; root.as_slice(), [Node { label: 97, link }].as_slice());
+    Ok(())
+}
+
+/// The other pages are as they were, and two more are empty.
+fn compare_others<R: AllocGlobal + Abort>(
+    rt: &R,
+    old: &List<Page>,
+    new: &List<Page>,
+) -> Result<(), Fail> {
     assert_eq!(rt; new.len(), 9);
     for block in [0, 2, 3, 4] {
         assert_eq!(rt; is_same(old, new, block), true);
     }
     assert_eq!(rt; sums(new, 1), sums(old, 1));
-    let root = nodes_at(alloc, new, 1, 1)?;
-    let link = Some(place(8, 1));
-    assert_eq!(rt; root.as_slice(), [Node { label: 97, link }].as_slice());
-    assert_eq!(rt; sums(new, 5), Some((PageKind::Inner, 4, 1936)));
-    for offset in 1..4 {
-        let wanted = nodes_at(alloc, old, 5, offset)?;
-        let nodes = nodes_at(alloc, new, 5, offset)?;
-        assert_eq!(rt; nodes.as_slice(), wanted.as_slice());
+    for (block, count, free) in [(6, 0, 8160), (7, 0, 8160), (8, 1, 6196)] {
+        assert_eq!(rt; sums(new, block), Some((PageKind::Inner, count, free)));
     }
-    let left = match tuple_at(alloc, new, 5, 4)? {
-        Tuple::Redirect { to, stamp } => Some((to, stamp.moment())),
-        _ => None,
-    };
-    assert_eq!(rt; left, Some((place(8, 1), 0)));
-    assert_eq!(rt; sums(new, 6), Some((PageKind::Inner, 0, 8160)));
-    assert_eq!(rt; sums(new, 7), Some((PageKind::Inner, 0, 8160)));
-    assert_eq!(rt; sums(new, 8), Some((PageKind::Inner, 1, 6196)));
-    let before = nodes_at(alloc, old, 5, 4)?;
-    let wanted = longer(alloc, &before)?;
-    let nodes = nodes_at(alloc, new, 8, 1)?;
-    assert_eq!(rt; nodes.as_slice(), wanted.as_slice());
     Ok(())
 }
 
@@ -218,7 +256,9 @@ fn moves_an_inner_tuple_without_room(rt: HostRuntime) -> Result<(), Fail> {
         };
         assert_eq!(rt; tried.outcome, expected);
         if !stays {
-            compare_new(&rt, &tried.old, &tried.new)?;
+            compare_left(&rt, &tried.old, &tried.new)?;
+            compare_moved(&rt, &tried.old, &tried.new)?;
+            compare_others(&rt, &tried.old, &tried.new)?;
         }
     }
     Ok(())
