@@ -71,15 +71,7 @@ fn follow_to<O: Spoken>(
     ensures stands { OnOk result (Stands table.new descent.new) }
     ensures of_key { OnOk result ((key : Option O.Key) × IsCarried O.meaning (sheets_of table.new) descent.new key) }
 {
-    match follow(
-        alloc,
-        class,
-        table,
-        descent,
-        SeatNo::first(),
-        node,
-        rest,
-    )? {
+    match follow(alloc, class, table, descent, SeatNo::first(), node, rest)? {
         Entered::In => Ok(()),
         Entered::Busy { .. } => Err(Memory),
     }

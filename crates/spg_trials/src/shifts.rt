@@ -90,12 +90,7 @@ fn tried<O: Spoken>(
 }
 
 /// What comes of the node at a limit and a moment.
-fn tried_at<O: Spoken>(
-    alloc: Global,
-    class: O,
-    limit: u32,
-    moment: u64,
-) -> Result<Trial, Memory> {
+fn tried_at<O: Spoken>(alloc: Global, class: O, limit: u32, moment: u64) -> Result<Trial, Memory> {
     let Some(clock) = Stamp::new(moment) else {
         return Err(Memory);
     };

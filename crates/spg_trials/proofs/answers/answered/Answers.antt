@@ -1,4 +1,4 @@
-use Rattle.std.proofs.Common.{◌≡◌, ap, ◌∙◌}
+use Rattle.std.proofs.Common.{ap, ◌∙◌}
 use Rattle.spg_descend.specs.Follows.{tuple_place}
 use Rattle.spg_descend.proofs.FollowLaw.{is_within}
 use Rattle.spg_trials.proofs.answers.answered.Goals as goal

@@ -1,4 +1,4 @@
-use Rattle.std.proofs.Common.{◌≡◌, Option, None, subst, ap, ◌∙◌}
+use Rattle.std.proofs.Common.{Option, subst, ap, ◌∙◌}
 use Rattle.spg_tree.specs.Table.{sheets_of}
 use Rattle.spg_tree.specs.Descents.{in_nulls}
 use Rattle.spg_descend.specs.Carried.{IsCarried}

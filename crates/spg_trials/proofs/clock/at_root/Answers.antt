@@ -1,11 +1,11 @@
-use Rattle.std.proofs.Common.{◌≡◌, Option, subst, sym, ap, ◌∙◌}
+use Rattle.std.proofs.Common.{◌≡◌, subst, sym, ap, ◌∙◌}
 use Rattle.std.specs.Prelude.{option_copied}
 use Rattle.spg_base.specs.Row.{RowAt}
 use Rattle.spg_forest.specs.Pages.{IsFresh}
 use Rattle.spg_forest.specs.Shape.{spots}
 use Rattle.spg_forest.specs.Sheets.{Sheets}
 use Rattle.spg_tree.specs.Table.{sheets_of}
-use Rattle.spg_tree.specs.Descents.{Descending, in_nulls}
+use Rattle.spg_tree.specs.Descents.{Descending}
 use Rattle.spg_descend.specs.Carried.{IsCarried}
 use Rattle.spg_trials.proofs.LaterPages.{opened_row}
 use Rattle.spg_trials.proofs.clock.at_root.Goals as goal
