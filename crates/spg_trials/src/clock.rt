@@ -1,10 +1,11 @@
-ghost use Rattle.std.specs.Prelude.{◌≡◌, IsTrue, None as Nil, true, false, IfOk, OnOk};
+ghost use Rattle.std.specs.Prelude.{◌≡◌, IsTrue, Option, None as Nil, true, false, option_copied, IfOk, OnOk};
 ghost use Rattle.spg_forest.specs.Pages.{IsFresh};
 ghost use Rattle.spg_forest.specs.Shape.{Shape, spots};
 ghost use Rattle.spg_forest.specs.Sheets.{blank};
 ghost use Rattle.spg_tree.specs.Table.{sheets_of};
 ghost use Rattle.spg_tree.specs.Descents.{in_nulls};
 ghost use Rattle.spg_descend.specs.Carried.{IsCarried};
+ghost use Rattle.spg_descend.specs.Enters.{opened_for};
 ghost use Rattle.spg_descend.specs.Follows.{IsAtInner};
 ghost use Rattle.spg_core.specs.Stepping.{Stands};
 ghost use Rattle.spg_core.specs.Stage.{free};
@@ -85,22 +86,22 @@ pub(crate) fn parted<O: Spoken>(
     }
 }
 
-/// An insert of a null that stands at the root of the nulls tree.
-fn at_root<O: Spoken>(
+/// An insert that stands at the root of its tree.
+pub(crate) fn at_root<O: Spoken>(
     alloc: Global,
     class: &O,
     table: &mut PageTable,
     row: Row,
+    key: Option<&O::Key>,
 ) -> Result<Descent<O>, Memory>
     requires shape { Shape O.meaning (sheets_of table.old) }
     requires fresh { IsFresh (spots (sheets_of table.old)) row }
     ensures shape { OnOk result (Shape O.meaning (sheets_of table.new)) }
     ensures stands { IfOk result (λ d. Stands table.new d) }
-    ensures carries { IfOk result (λ d. IsCarried O.meaning (sheets_of table.new) d Nil) }
-    ensures nulls { IfOk result (λ d. (in_nulls d ≡ true) × (d.recon ≡ Nil)) }
+    ensures carries { IfOk result (λ d. IsCarried O.meaning (sheets_of table.new) d (option_copied key.entry)) }
+    ensures opened { IfOk result (λ d. (in_nulls d ≡ in_nulls (opened_for O.meaning row (option_copied key.entry))) × (d.recon ≡ (opened_for O.meaning row (option_copied key.entry)).recon)) }
 {
-    let key: Option<O::Key> = None;
-    let mut descent = open_descent(alloc, class, row, key.as_ref())?;
+    let mut descent = open_descent(alloc, class, row, key)?;
     match enter_root(table, &mut descent, SeatNo::first()) {
         Entered::In => Ok(descent),
         Entered::Busy { .. } => Err(Memory),
@@ -108,10 +109,10 @@ fn at_root<O: Spoken>(
 }
 
 /// Whether an insert stands at an inner tuple.
-fn is_at_inner<O: Spoken>(table: &PageTable, descent: &Descent<O>) -> bool
+pub(crate) fn is_at_inner<O: Spoken>(table: &PageTable, descent: &Descent<O>) -> bool
     requires shape { Shape O.meaning (sheets_of table.now) }
     requires stands { Stands table.now descent.now }
-    requires carries { IsCarried O.meaning (sheets_of table.now) descent.now Nil }
+    requires of_key { (key : Option O.Key) × IsCarried O.meaning (sheets_of table.now) descent.now key }
     ensures { IsTrue result → IsAtInner table.now descent.now.stand }
 {
     matches!(rule_at(table, descent), Rule::Choose)
@@ -162,7 +163,8 @@ pub(crate) fn at_chain<O: Spoken>(
     ensures stands { IfOk result (λ d. Stands table.new d) }
     ensures carries { IfOk result (λ d. IsCarried O.meaning (sheets_of table.new) d Nil) }
 {
-    let mut descent = at_root(alloc, class, table, row)?;
+    let key: Option<O::Key> = None;
+    let mut descent = at_root(alloc, class, table, row, key.as_ref())?;
     go_down(alloc, class, table, &mut descent)?;
     Ok(descent)
 }

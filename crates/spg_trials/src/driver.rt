@@ -3,9 +3,10 @@ ghost use Rattle.spg_core.specs.Stage.{free, IsInserting};
 ghost use Rattle.spg_core.specs.Seen.{stage_at};
 
 use spg_app::{AnyCond, AnyKey, Spoken};
-use spg_base::{List, Memory, Point, PointCond, Row, SeatNo};
+use spg_base::{Bytes, List, Memory, Point, PointCond, Row, SeatNo};
 use spg_core::{Closed, InsertOut, OpenKind, OpenRefused, State, StepRefused};
 use spg_opclass::Query;
+use spg_radix::ByteText;
 use spg_rows::Why;
 use std::alloc::Global;
 
@@ -52,8 +53,47 @@ fn key_in<O: Spoken>(class: &O, key: Option<Point>) -> Result<Option<O::Key>, Me
     }
 }
 
-/// Does an insert as seat 0, and notes a letter for each of its sections, or `U` where the row is
-/// used.
+/// The key for a text of a class that has texts.
+pub(crate) fn text_in<O: Spoken>(class: &O, text: Bytes) -> Result<O::Key, Memory> {
+    let Some(text) = ByteText::new(text) else {
+        return Err(Memory);
+    };
+    match class.key_in(&AnyKey::Text(text))? {
+        Some(key) => Ok(key),
+        None => Err(Memory),
+    }
+}
+
+/// Begins an insert as seat 0, and does at most so many of its sections, each of which is noted with
+/// a letter, or `U` where the row is used. What has not ended then is given up.
+pub(crate) fn begin<O: Spoken>(
+    state: &mut State<O>,
+    row: Row,
+    key: Option<O::Key>,
+    sections: u8,
+    log: &mut Vec<u8>,
+) -> Result<(), Memory>
+    requires { stage_at state.old 0 ≡ free }
+    ensures { OnOk result (stage_at state.new 0 ≡ free) }
+{
+    match state.open_insert(SeatNo::first(), row, key) {
+        Ok(()) => {}
+        Err(OpenRefused::RowUsed) => {
+            log.push(b'U')?;
+            return Ok(());
+        }
+        Err(OpenRefused::Memory) => return Err(Memory),
+    }
+    for _ in 0..sections {
+        if ends(state, log)? {
+            return Ok(());
+        }
+    }
+    state.abandon(SeatNo::first(), Why::Given);
+    Ok(())
+}
+
+/// Does an insert of a point or a null.
 pub(crate) fn insert<O: Spoken>(
     state: &mut State<O>,
     row: Row,
@@ -64,20 +104,7 @@ pub(crate) fn insert<O: Spoken>(
     ensures { OnOk result (stage_at state.new 0 ≡ free) }
 {
     let key = key_in(state.class(), key)?;
-    match state.open_insert(SeatNo::first(), row, key) {
-        Ok(()) => {}
-        Err(OpenRefused::RowUsed) => {
-            log.push(b'U')?;
-            return Ok(());
-        }
-        Err(OpenRefused::Memory) => return Err(Memory),
-    }
-    for _ in 0..8 {
-        if ends(state, log)? {
-            return Ok(());
-        }
-    }
-    Err(Memory)
+    begin(state, row, key, 8, log)
 }
 
 /// What a test asks for.

@@ -1,7 +1,9 @@
-//! Tests that cross crates: runs of the whole program for each class of points, and calls of the
-//! lower crates that the program does not make.
+//! Tests that cross crates: whole indexes by the sections of a state, sections over pages that
+//! stand already, and calls of the lower crates that the program does not make.
 #![tactic(auto)]
 
+#[cfg(test)]
+mod answers;
 #[cfg(test)]
 mod calls;
 #[cfg(test)]
@@ -13,4 +15,6 @@ mod driver;
 #[cfg(test)]
 mod moments;
 #[cfg(test)]
-mod tests;
+mod shifts;
+#[cfg(test)]
+mod wide;

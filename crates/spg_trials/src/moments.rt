@@ -15,7 +15,7 @@ use std::alloc::Global;
 use std::test::Fail;
 
 /// The last moment of the clock.
-const LAST: u64 = (1 << 48) - 1;
+pub(crate) const LAST: u64 = (1 << 48) - 1;
 
 /// Limits, moments of the clock, and what comes of the move of a chain. A full clock is told before a
 /// full index.
@@ -27,7 +27,7 @@ const MOVES: [(u32, u64, Result<(), StepRefused>); 4] = [
 ];
 
 /// Whether the pages of a table are these.
-fn are_pages(table: &PageTable, pages: &List<Page>) -> bool {
+pub(crate) fn are_pages(table: &PageTable, pages: &List<Page>) -> bool {
     if table.page_count() as usize != pages.len() {
         return false;
     }
@@ -40,13 +40,14 @@ fn are_pages(table: &PageTable, pages: &List<Page>) -> bool {
     true
 }
 
-/// What came of the move of a chain.
+/// What came of a section, if it was done: whether the pages and where the insert stands are as
+/// before, and the clock.
 #[derive(Clone, Copy, Debug, PartialEq, Eq)]
-struct Outcome {
-    answer: Option<Result<(), StepRefused>>,
-    same_pages: bool,
-    same_insert: bool,
-    clock: u64,
+pub(crate) struct Outcome {
+    pub(crate) answer: Option<Result<(), StepRefused>>,
+    pub(crate) same_pages: bool,
+    pub(crate) same_insert: bool,
+    pub(crate) clock: u64,
 }
 
 /// The pages of an index whose nulls tree was just divided, so that its lists fill the last page, at

@@ -1,7 +1,7 @@
 use Rattle.std.proofs.Common.{rules, subst}
 use Rattle.spg_descend.specs.declared.enter.Entered.{Entered}
 use Rattle.spg_descend.specs.Follows.{IsAtInner, FollowsNode}
-use Rattle.spg_trials.proofs.LaterPages.{below}
+use Rattle.spg_trials.proofs.LaterPages.{below, first_node}
 use Rattle.spg_trials.proofs.clock.go_down.Goals as goal
 
 pub returns-in-In-clause-shape : goal.returns-in-In-clause-shape
@@ -10,7 +10,8 @@ returns-in-In-clause-shape g c =
     let t = c.args.table.now in
     let d = c.args.descent.now in
     let inner : IsAtInner t d.stand = search rules in
-    (below m t c.follow.new.table d c.follow.new.descent c.first.result c.new.result c.requires.shape c.requires.stands inner (subst (λ (e : Entered). FollowsNode m t c.follow.new.table d c.follow.new.descent c.first.result 0 c.new.result e) c.in-In.is c.in_ok-follow.ensures.ok)).0
+    (below m t c.follow.new.table d c.follow.new.descent c.first.result 0 c.new.result c.requires.shape c.requires.stands inner (first_node m t d c.requires.shape c.requires.stands inner)
+    (subst (λ (e : Entered). FollowsNode m t c.follow.new.table d c.follow.new.descent c.first.result 0 c.new.result e) c.in-In.is c.in_ok-follow.ensures.ok)).0
 
 pub returns-in-In-clause-stands : goal.returns-in-In-clause-stands
 returns-in-In-clause-stands g c =
@@ -18,4 +19,5 @@ returns-in-In-clause-stands g c =
     let t = c.args.table.now in
     let d = c.args.descent.now in
     let inner : IsAtInner t d.stand = search rules in
-    (below m t c.follow.new.table d c.follow.new.descent c.first.result c.new.result c.requires.shape c.requires.stands inner (subst (λ (e : Entered). FollowsNode m t c.follow.new.table d c.follow.new.descent c.first.result 0 c.new.result e) c.in-In.is c.in_ok-follow.ensures.ok)).1
+    (below m t c.follow.new.table d c.follow.new.descent c.first.result 0 c.new.result c.requires.shape c.requires.stands inner (first_node m t d c.requires.shape c.requires.stands inner)
+    (subst (λ (e : Entered). FollowsNode m t c.follow.new.table d c.follow.new.descent c.first.result 0 c.new.result e) c.in-In.is c.in_ok-follow.ensures.ok)).1

@@ -1,0 +1,5 @@
+//! Tests of whole runs of the program: scripts in, their printed texts out.
+#![tactic(auto)]
+
+#[cfg(test)]
+mod tests;
