@@ -3,10 +3,8 @@ ghost use Rattle.std.specs.List.{AllByRecursion};
 ghost use Rattle.spg_forest.specs.Pages.{tuple_on};
 ghost use Rattle.spg_page.specs.Kinds.{IsLive, IsInner};
 
-use crate::page::Page;
-use crate::tuple::{InnerTuple, LeafTuple, Node, Nodes, PageKind, Tuple, TupleKind};
-use crate::tuple_bytes::TupleBytes;
 use spg_base::{Block, Bytes, Memory, Offset, Place, Row, Stamp};
+use spg_page::{InnerTuple, LeafTuple, Node, Nodes, Page, PageKind, Tuple, TupleBytes, TupleKind};
 use std::alloc::Global;
 use std::process::Abort;
 use std::test::Fail;

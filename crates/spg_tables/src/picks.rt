@@ -1,10 +1,8 @@
 ghost use Rattle.std.specs.Prelude.{◌≡◌, ◌<◌, ◌≤◌};
 
-use crate::table::PageTable;
-use crate::touched::Touched;
-use crate::want::{PickRefused, Want};
 use spg_base::{Block, Memory, SeatNo};
 use spg_page::{PageKind, TupleBytes};
+use spg_tree::{PageTable, PickRefused, Touched, Want};
 use std::alloc::Global;
 use std::process::Abort;
 use std::test::Fail;
