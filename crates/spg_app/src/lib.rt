@@ -26,6 +26,3 @@ pub use program::run;
 pub use record::{Outcome, Record, Records};
 pub use speech::Spoken;
 pub use status::Status;
-
-#[cfg(test)]
-mod tests;

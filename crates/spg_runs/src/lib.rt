@@ -2,4 +2,6 @@
 #![tactic(auto)]
 
 #[cfg(test)]
+mod scripts;
+#[cfg(test)]
 mod tests;

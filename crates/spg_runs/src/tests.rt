@@ -23,7 +23,7 @@ const RUNS: [(&str, &[u8]); 3] = [
 ];
 
 /// The one word of the command line.
-fn one_word<R: AllocGlobal>(rt: &R) -> Result<Vec<String>, AllocError> {
+pub(crate) fn one_word<R: AllocGlobal>(rt: &R) -> Result<Vec<String>, AllocError> {
     let mut words = Vec::new(rt.alloc());
     words.push(String::from_str(rt.alloc(), "run")?)?;
     Ok(words)

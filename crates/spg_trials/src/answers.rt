@@ -4,35 +4,18 @@ ghost use Rattle.spg_forest.specs.Shape.{Shape};
 ghost use Rattle.spg_tree.specs.Table.{sheets_of};
 ghost use Rattle.spg_tree.specs.Descents.{in_nulls};
 ghost use Rattle.spg_descend.specs.Carried.{IsCarried};
-ghost use Rattle.spg_descend.specs.Follows.{IsAtInner, tuple_place};
+ghost use Rattle.spg_descend.specs.Follows.{IsAtInner};
 ghost use Rattle.spg_descend.specs.Answers.{IsAnswered};
 ghost use Rattle.spg_core.specs.Stepping.{Stands};
 
 use crate::clock::is_at_inner;
 use spg_app::Spoken;
-use spg_base::{Block, Bytes, Memory, Offset, Place, SeatNo};
-use spg_descend::{Entered, follow};
+use spg_base::{Bytes, Memory, SeatNo};
+use spg_descend::{Entered, follow, tuple_place};
 use spg_move::add_node;
 use spg_opclass::Choice;
-use spg_tree::{Descent, PageTable, Stand, StepRefused};
+use spg_tree::{Descent, PageTable, StepRefused};
 use std::alloc::Global;
-
-/// Where the inner tuple stands at which an insert is.
-fn tuple_place(stand: Stand) -> Place
-    ensures { result ≡ tuple_place stand }
-{
-    match stand {
-        Stand::Root(block) => Place {
-            block,
-            offset: Offset(1),
-        },
-        Stand::At(place) => place,
-        Stand::Start | Stand::Empty => Place {
-            block: Block(0),
-            offset: Offset(0),
-        },
-    }
-}
 
 /// What the class answers for an insert of a key at an inner tuple.
 fn answered<O: Spoken>(

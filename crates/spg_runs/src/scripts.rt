@@ -1,23 +1,17 @@
 ghost use Rattle.std.specs.Prelude.{Some};
 
-use crate::{Status, run};
+use crate::tests::one_word;
+use spg_app::{Status, run};
 use spg_base::{Bytes, List};
 use spg_io::{FaultySink, FaultySource, IoRefused, PlainSink, PlainSource, Sink};
 use std::alloc::{AllocError, Global};
 use std::test::Fail;
 
-/// The one word of the command line.
-fn one_word(alloc: Global) -> Result<Vec<String>, AllocError> {
-    let mut words = Vec::new(alloc);
-    words.push(String::from_str(alloc, "run")?)?;
-    Ok(words)
-}
-
 /// What the program answers and writes for a script, which comes seven bytes at a time.
 fn ran(rt: &HostRuntime, script: &[u8]) -> Result<(Status, Vec<u8>), Fail> {
     let mut source = PlainSource::new(Bytes::copy(rt.alloc(), script)?, 7);
     let mut sink = PlainSink::new(rt.alloc());
-    let words = one_word(rt.alloc())?;
+    let words = one_word(rt)?;
     let (status, _state) = run(rt, &words, &mut source, &mut sink);
     Ok((status, sink.taken().to_vec(rt.alloc())?))
 }
@@ -233,7 +227,7 @@ fn ran_from(rt: &HostRuntime, most: usize, call: u64) -> Result<(Status, Vec<u8>
     let bytes = Bytes::copy(rt.alloc(), SCRIPT)?;
     let mut source = FaultySource::new(bytes, most.max(1), fails);
     let mut sink = PlainSink::new(rt.alloc());
-    let words = one_word(rt.alloc())?;
+    let words = one_word(rt)?;
     let (status, _state) = run(rt, &words, &mut source, &mut sink);
     Ok((status, sink.taken().to_vec(rt.alloc())?))
 }
@@ -244,7 +238,7 @@ fn ran_into(rt: &HostRuntime, call: u64) -> Result<(Status, Vec<u8>), Fail> {
     fails.push(call)?;
     let mut source = PlainSource::new(Bytes::copy(rt.alloc(), SCRIPT)?, 4096);
     let mut sink = FaultySink::new(rt.alloc(), fails);
-    let words = one_word(rt.alloc())?;
+    let words = one_word(rt)?;
     let (status, _state) = run(rt, &words, &mut source, &mut sink);
     Ok((status, sink.taken().to_vec(rt.alloc())?))
 }
@@ -284,7 +278,7 @@ fn offers_again_what_was_not_taken(rt: HostRuntime) -> Result<(), Fail> {
     let mut sink = OneByteSink {
         inner: PlainSink::new(rt.alloc()),
     };
-    let words = one_word(rt.alloc())?;
+    let words = one_word(&rt)?;
     let (status, _state) = run(&rt, &words, &mut source, &mut sink);
     assert_eq!(rt; status, Status::Done);
     assert_eq!(rt; sink.inner.taken(), TEXT);
@@ -293,7 +287,7 @@ fn offers_again_what_was_not_taken(rt: HostRuntime) -> Result<(), Fail> {
 
 #[test]
 fn refuses_other_words(rt: HostRuntime) -> Result<(), Fail> {
-    let mut words = one_word(rt.alloc())?;
+    let mut words = one_word(&rt)?;
     words.push(String::from_str(rt.alloc(), "fast")?)?;
     let mut source = PlainSource::new(Bytes::copy(rt.alloc(), SCRIPT)?, 7);
     let mut sink = PlainSink::new(rt.alloc());
