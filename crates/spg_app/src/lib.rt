@@ -6,6 +6,7 @@ mod command;
 mod commands;
 mod conditions;
 mod end_state;
+mod line;
 mod numbers;
 mod parse;
 mod perform;
@@ -22,6 +23,7 @@ mod writing;
 
 pub use command::{AnyCond, AnyKey, AnyQuery, ClassName, Command, Script};
 pub use end_state::EndState;
+pub use line::Line;
 pub use program::run;
 pub use record::{Outcome, Record, Records};
 pub use speech::Spoken;

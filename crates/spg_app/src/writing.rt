@@ -4,6 +4,7 @@ ghost use Rattle.spg_io.specs.Causes.{HasCauseIfFailed};
 ghost use Rattle.spg_app.specs.Io.{WroteSome};
 ghost use Rattle.spg_app.specs.Text.{text, result_lines, event_lines};
 
+use crate::line::Line;
 use crate::record::Record;
 use crate::report::{event_line, journal_line, result_line};
 use crate::speech::Spoken;
@@ -12,21 +13,25 @@ use spg_io::{IoRefused, Sink};
 use spg_rows::Event;
 use std::alloc::Global;
 
-fn write_results<K: Sink>(alloc: Global, records: &[Record], sink: &mut K) -> Result<(), IoRefused>
+fn write_results<K: Sink>(
+    line: &mut Line,
+    records: &[Record],
+    sink: &mut K,
+) -> Result<(), IoRefused>
     ensures ok { OnOk result (Appends (K.contents sink.old) (K.contents sink.new) (result_lines 1 records.now)) }
     ensures err { OnErr result (WroteSome (K.contents sink.old) (K.contents sink.new) (result_lines 1 records.now)) }
     ensures cause { HasCauseIfFailed (K.faults sink.old) (K.faults sink.new) result }
 {
     for (index, one) in records.iter().enumerate() {
-        let line = result_line(alloc, index as u64 + 1, one)?;
-        write_all(sink, line.as_bytes())?;
+        result_line(line, index as u64 + 1, one)?;
+        write_all(sink, line.as_slice())?;
     }
     Ok(())
 }
 
 fn write_events<O: Spoken, K: Sink>(
-    alloc: Global,
     class: &O,
+    line: &mut Line,
     journal: &[Event<O>],
     sink: &mut K,
 ) -> Result<(), IoRefused>
@@ -35,7 +40,7 @@ fn write_events<O: Spoken, K: Sink>(
     ensures cause { HasCauseIfFailed (K.faults sink.old) (K.faults sink.new) result }
 {
     for (at, event) in journal.iter().enumerate() {
-        let line = event_line(alloc, class, at as u64, event)?;
+        event_line(class, line, at as u64, event)?;
         write_all(sink, line.as_slice())?;
     }
     Ok(())
@@ -53,8 +58,9 @@ pub fn write_text<O: Spoken, K: Sink>(
     ensures err { OnErr result (WroteSome (K.contents sink.old) (K.contents sink.new) (text O.speech journal.now records.now)) }
     ensures cause { HasCauseIfFailed (K.faults sink.old) (K.faults sink.new) result }
 {
-    write_results(alloc, records, sink)?;
-    let line = journal_line(alloc, journal.len() as u64)?;
-    write_all(sink, line.as_bytes())?;
-    write_events(alloc, class, journal, sink)
+    let mut line = Line::new(alloc);
+    write_results(&mut line, records, sink)?;
+    journal_line(&mut line, journal.len() as u64)?;
+    write_all(sink, line.as_slice())?;
+    write_events(class, &mut line, journal, sink)
 }

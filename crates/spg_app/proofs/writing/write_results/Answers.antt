@@ -6,12 +6,12 @@ use Rattle.spg_app.proofs.writing.write_results.Goals as goal
 pub returns-in_err-write_all-clause-err : goal.returns-in_err-write_all-clause-err
 returns-in_err-write_all-clause-err g c = OnErr-always _ _ (WroteSome-more _ _ _ _ _ _ _ c.loop-index.invariant.wrote c.in_err-write_all.ensures.err
     (result_lines-more (c.loop-index.index + 1) c.args.records.now c.loop-index.index c.index-records-index.result (omega arith) c.index-records-index.is
-    ∙ ap (λ l. l ++ result_lines ((c.loop-index.index + 1) + 1) (drop (c.loop-index.index + 1) c.args.records.now)) (sym (c.as_bytes.ensures.value ∙ c.in_ok-line.ensures))))
+    ∙ ap (λ l. l ++ result_lines ((c.loop-index.index + 1) + 1) (drop (c.loop-index.index + 1) c.args.records.now)) (sym (c.as_slice.ensures ∙ c.in_ok-result_line.ensures))))
 
 pub loop-index-preserved : goal.loop-index-preserved
 loop-index-preserved g c = record {
   wrote = Wrote-more _ _ _ _ _ _ _ c.loop-index.invariant.wrote c.in_ok-write_all.ensures.ok
       (result_lines-more (c.loop-index.index + 1) c.args.records.now c.loop-index.index c.index-records-index.result (omega arith) c.index-records-index.is
-      ∙ ap (λ l. l ++ result_lines ((c.loop-index.index + 1) + 1) (drop (c.loop-index.index + 1) c.args.records.now)) (sym (c.as_bytes.ensures.value ∙ c.in_ok-line.ensures)));
+      ∙ ap (λ l. l ++ result_lines ((c.loop-index.index + 1) + 1) (drop (c.loop-index.index + 1) c.args.records.now)) (sym (c.as_slice.ensures ∙ c.in_ok-result_line.ensures)));
   later = omega (arith, c.loop-index.invariant.later, c.in_ok-write_all.ensures.cause.later);
 }
