@@ -10,7 +10,7 @@ pub returns-in_err-write_results-clause-err : goal.returns-in_err-write_results-
 returns-in_err-write_results-clause-err g c =
     OnErr-always _ _ (WroteSome-more _ _ _ _ _ _ _ (Wrote-none _ (text g.O.Spoken.speech c.args.journal.now c.args.records.now)) c.in_err-write_results.ensures.err (append_assoc (result_lines 1 c.args.records.now) (journal_line (length c.args.journal.now)) (event_lines g.O.Spoken.speech 0 c.args.journal.now)))
 
-pub returns-in_err-journal_line-clause-err : goal.returns-in_err-line-clause-err
+pub returns-in_err-journal_line-clause-err : goal.returns-in_err-journal_line-clause-err
 returns-in_err-journal_line-clause-err g c =
     let some : WroteSome (g.K.Sink.contents c.args.sink.now) (g.K.Sink.contents c.write_results.new.sink) (text g.O.Spoken.speech c.args.journal.now c.args.records.now) =
     (_, wrote_results g.O.Spoken.speech c.args.journal.now c.args.records.now _ _ (g.K.Sink.contents c.args.sink.now) (g.K.Sink.contents c.args.sink.now) c.in_ok-write_results.ensures.ok) in
