@@ -23,7 +23,6 @@ mod writing;
 
 pub use command::{AnyCond, AnyKey, AnyQuery, ClassName, Command, Script};
 pub use end_state::EndState;
-pub use line::Line;
 pub use program::run;
 pub use record::{Outcome, Record, Records};
 pub use speech::Spoken;

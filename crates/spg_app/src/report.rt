@@ -11,6 +11,7 @@ use crate::speech::Spoken;
 use spg_base::{Memory, Row, SeatNo};
 use spg_opclass::Query;
 use spg_rows::Event;
+use std::alloc::Global;
 
 /// Makes the line of a command.
 pub fn result_line(line: &mut Line, number: u64, done: &Record) -> Result<(), Memory>
@@ -58,33 +59,52 @@ pub fn journal_line(line: &mut Line, count: u64) -> Result<(), Memory>
 }
 
 /// Adds the text of conditions: the first behind `where`, each further one behind `and`.
-fn push_conds<O: Spoken>(class: &O, line: &mut Line, conds: &[O::Cond]) -> Result<(), Memory>
+fn push_conds<O: Spoken>(
+    alloc: Global,
+    class: &O,
+    line: &mut Line,
+    conds: &[O::Cond],
+) -> Result<(), Memory>
     ensures { OnOk result (line.new ≡ line.old ++ conds_text O.speech.cond_text (codes "where ") conds.now) }
 {
     let mut word: &[u8] = b"where ";
     for cond in conds {
+        let one = class.cond_text(alloc, cond)?;
         line.extend(word)?;
-        class.push_cond(line, cond)?;
+        line.extend(one.as_slice())?;
         word = b" and ";
     }
     Ok(())
 }
 
-fn push_query<O: Spoken>(class: &O, line: &mut Line, query: &Query<O>) -> Result<(), Memory>
+fn push_query<O: Spoken>(
+    alloc: Global,
+    class: &O,
+    line: &mut Line,
+    query: &Query<O>,
+) -> Result<(), Memory>
     ensures { OnOk result (line.new ≡ line.old ++ query_text O.speech query.now) }
 {
     match query {
         Query::All => line.extend(b"all"),
         Query::Null => line.extend(b"null"),
-        Query::Where(conds) => push_conds(class, line, conds.as_slice()),
+        Query::Where(conds) => push_conds(alloc, class, line, conds.as_slice()),
     }
 }
 
-fn push_key<O: Spoken>(class: &O, line: &mut Line, key: &Option<O::Key>) -> Result<(), Memory>
+fn push_key<O: Spoken>(
+    alloc: Global,
+    class: &O,
+    line: &mut Line,
+    key: &Option<O::Key>,
+) -> Result<(), Memory>
     ensures { OnOk result (line.new ≡ line.old ++ key_or_null_text O.speech key.now) }
 {
     match key {
-        Some(key) => class.push_key(line, key),
+        Some(key) => {
+            let text = class.key_text(alloc, key)?;
+            line.extend(text.as_slice())
+        }
         None => line.extend(b"null"),
     }
 }
@@ -106,17 +126,22 @@ fn seat_of<O: Spoken>(event: &Event<O>) -> SeatNo
     }
 }
 
-fn push_event<O: Spoken>(class: &O, line: &mut Line, event: &Event<O>) -> Result<(), Memory>
+fn push_event<O: Spoken>(
+    alloc: Global,
+    class: &O,
+    line: &mut Line,
+    event: &Event<O>,
+) -> Result<(), Memory>
     ensures { OnOk result (line.new ≡ line.old ++ event_text O.speech event.now) }
 {
     match event {
         Event::OpenInsert { row, key, .. } => {
             write!(line, "open insert {row} ")?;
-            push_key(class, line, key)
+            push_key(alloc, class, line, key)
         }
         Event::OpenScan { query, .. } => {
             line.extend(b"open scan ")?;
-            push_query(class, line, query)
+            push_query(alloc, class, line, query)
         }
         Event::Put { row, .. } => write!(line, "put {row}"),
         Event::Drop { row, .. } => write!(line, "drop {row}"),
@@ -134,6 +159,7 @@ fn push_event<O: Spoken>(class: &O, line: &mut Line, event: &Event<O>) -> Result
 
 /// Makes the line of an event.
 pub fn event_line<O: Spoken>(
+    alloc: Global,
     class: &O,
     line: &mut Line,
     at: u64,
@@ -144,6 +170,6 @@ pub fn event_line<O: Spoken>(
     let seat = seat_of(event).number();
     line.clear();
     write!(line, "{at} {seat} ")?;
-    push_event(class, line, event)?;
+    push_event(alloc, class, line, event)?;
     line.push(b'\n')
 }

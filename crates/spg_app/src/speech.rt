@@ -1,14 +1,14 @@
-ghost use Rattle.std.specs.Prelude.{◌≡◌, ◌++◌, IfOk, OnOk};
+ghost use Rattle.std.specs.Prelude.{◌≡◌, IfOk, string_bytes};
 ghost use Rattle.spg_app.specs.Speech.{Speech, point_in, point_cond_in, text_in, text_cond_in};
 
 use crate::command::{AnyCond, AnyKey};
-use crate::line::Line;
-use crate::spelling::{push_cond, push_quoted, push_text_cond};
-use spg_base::{Memory, Point, PointCond, Same};
+use crate::spelling::{cond_text, quoted, text_cond_text};
+use spg_base::{Bytes, Memory, Point, PointCond, Same};
 use spg_kd::Kd;
 use spg_opclass::OpClass;
 use spg_quad::Quad;
 use spg_radix::{ByteText, Radix, TextCond};
+use std::alloc::Global;
 
 /// A class whose keys and conditions scripts can name, and texts can tell.
 pub trait Spoken: OpClass {
@@ -22,13 +22,13 @@ pub trait Spoken: OpClass {
     fn cond_in(&self, cond: &AnyCond) -> Result<Option<Self::Cond>, Memory>
         ensures { IfOk result (λ found. found ≡ speech.cond_in cond.now) };
 
-    /// Adds the text of a key to a line.
-    fn push_key(&self, line: &mut Line, key: &Self::Key) -> Result<(), Memory>
-        ensures { OnOk result (line.new ≡ line.old ++ speech.key_text key.now) };
+    /// The text of a key.
+    fn key_text(&self, alloc: Global, key: &Self::Key) -> Result<Bytes, Memory>
+        ensures { IfOk result (λ text. text ≡ speech.key_text key.now) };
 
-    /// Adds the text of a condition to a line.
-    fn push_cond(&self, line: &mut Line, cond: &Self::Cond) -> Result<(), Memory>
-        ensures { OnOk result (line.new ≡ line.old ++ speech.cond_text cond.now) };
+    /// The text of a condition.
+    fn cond_text(&self, alloc: Global, cond: &Self::Cond) -> Result<Bytes, Memory>
+        ensures { IfOk result (λ text. text ≡ speech.cond_text cond.now) };
 }
 
 /// The point of a key. None exactly where it is a text.
@@ -64,12 +64,14 @@ impl Spoken for Quad {
         Ok(point_cond_in(cond))
     }
 
-    fn push_key(&self, line: &mut Line, key: &Point) -> Result<(), Memory> {
-        write!(line, "{key}")
+    fn key_text(&self, alloc: Global, key: &Point) -> Result<Bytes, Memory> {
+        let text = format!(in alloc; "{key}")?;
+        Bytes::copy(alloc, text.as_bytes())
     }
 
-    fn push_cond(&self, line: &mut Line, cond: &PointCond) -> Result<(), Memory> {
-        push_cond(line, cond)
+    fn cond_text(&self, alloc: Global, cond: &PointCond) -> Result<Bytes, Memory> {
+        let text = cond_text(alloc, cond)?;
+        Bytes::copy(alloc, text.as_bytes())
     }
 }
 
@@ -86,12 +88,14 @@ impl Spoken for Kd {
         Ok(point_cond_in(cond))
     }
 
-    fn push_key(&self, line: &mut Line, key: &Point) -> Result<(), Memory> {
-        write!(line, "{key}")
+    fn key_text(&self, alloc: Global, key: &Point) -> Result<Bytes, Memory> {
+        let text = format!(in alloc; "{key}")?;
+        Bytes::copy(alloc, text.as_bytes())
     }
 
-    fn push_cond(&self, line: &mut Line, cond: &PointCond) -> Result<(), Memory> {
-        push_cond(line, cond)
+    fn cond_text(&self, alloc: Global, cond: &PointCond) -> Result<Bytes, Memory> {
+        let text = cond_text(alloc, cond)?;
+        Bytes::copy(alloc, text.as_bytes())
     }
 }
 
@@ -114,11 +118,11 @@ impl Spoken for Radix {
         }
     }
 
-    fn push_key(&self, line: &mut Line, key: &ByteText) -> Result<(), Memory> {
-        push_quoted(line, key.as_slice())
+    fn key_text(&self, alloc: Global, key: &ByteText) -> Result<Bytes, Memory> {
+        quoted(alloc, key.as_slice())
     }
 
-    fn push_cond(&self, line: &mut Line, cond: &TextCond) -> Result<(), Memory> {
-        push_text_cond(line, cond)
+    fn cond_text(&self, alloc: Global, cond: &TextCond) -> Result<Bytes, Memory> {
+        text_cond_text(alloc, cond)
     }
 }

@@ -1,25 +1,25 @@
-ghost use Rattle.std.specs.Prelude.{◌≡◌, ◌<◌, ◌++◌, OnOk};
+ghost use Rattle.std.specs.Prelude.{◌≡◌, ◌<◌, ◌++◌, IfOk, OnOk, string_bytes};
 ghost use Rattle.spg_app.specs.Quoted.{hex_digit, byte_text, quoted};
 ghost use Rattle.spg_app.specs.Line.{word_of};
 ghost use Rattle.spg_app.specs.Spelling.{cond_text};
 ghost use Rattle.spg_app.specs.Speech.{text_cond_text};
 
-use crate::line::Line;
 use crate::texts::is_plain;
-use spg_base::{Memory, PointCond};
+use spg_base::{Bytes, Memory, PointCond};
 use spg_radix::TextCond;
+use std::alloc::{AllocError, Global};
 
-/// Adds the text of a condition on points.
-pub fn push_cond(line: &mut Line, cond: &PointCond) -> Result<(), Memory>
-    ensures { OnOk result (line.new ≡ line.old ++ cond_text cond.now) }
+/// The text of a condition on points.
+pub fn cond_text(alloc: Global, cond: &PointCond) -> Result<String, AllocError>
+    ensures { IfOk result (λ text. string_bytes text ≡ cond_text cond.now) }
 {
     match *cond {
-        PointCond::Eq(point) => write!(line, "eq {point}"),
-        PointCond::Left(x) => write!(line, "left {x}"),
-        PointCond::Right(x) => write!(line, "right {x}"),
-        PointCond::Below(y) => write!(line, "below {y}"),
-        PointCond::Above(y) => write!(line, "above {y}"),
-        PointCond::Inside { x1, y1, x2, y2 } => write!(line, "in {x1},{y1},{x2},{y2}"),
+        PointCond::Eq(point) => format!(in alloc; "eq {point}"),
+        PointCond::Left(x) => format!(in alloc; "left {x}"),
+        PointCond::Right(x) => format!(in alloc; "right {x}"),
+        PointCond::Below(y) => format!(in alloc; "below {y}"),
+        PointCond::Above(y) => format!(in alloc; "above {y}"),
+        PointCond::Inside { x1, y1, x2, y2 } => format!(in alloc; "in {x1},{y1},{x2},{y2}"),
     }
 }
 
@@ -32,25 +32,27 @@ fn hex_digit(n: u8) -> u8
 }
 
 /// Adds a byte of a text, by itself where it may be.
-fn push_byte(line: &mut Line, b: u8) -> Result<(), Memory>
-    ensures { OnOk result (line.new ≡ line.old ++ byte_text b) }
+fn push_byte(text: &mut Bytes, b: u8) -> Result<(), Memory>
+    ensures { OnOk result (text.new ≡ text.old ++ byte_text b) }
 {
     if is_plain(b) {
-        line.push(b)
+        text.push(b)
     } else {
-        line.extend(&[b'\\', b'x', hex_digit(b / 16), hex_digit(b % 16)])
+        text.extend(&[b'\\', b'x', hex_digit(b / 16), hex_digit(b % 16)])
     }
 }
 
-/// Adds a text between quotes, as it is printed.
-pub fn push_quoted(line: &mut Line, text: &[u8]) -> Result<(), Memory>
-    ensures { OnOk result (line.new ≡ line.old ++ quoted text.now) }
+/// A text between quotes, as it is printed.
+pub fn quoted(alloc: Global, text: &[u8]) -> Result<Bytes, Memory>
+    ensures { IfOk result (λ printed. printed ≡ quoted text.now) }
 {
-    line.push(b'"')?;
+    let mut printed = Bytes::new(alloc);
+    printed.push(b'"')?;
     for b in text {
-        push_byte(line, *b)?;
+        push_byte(&mut printed, *b)?;
     }
-    line.push(b'"')
+    printed.push(b'"')?;
+    Ok(printed)
 }
 
 /// The word of a condition on texts.
@@ -67,11 +69,13 @@ fn word(cond: &TextCond) -> &[u8]
     }
 }
 
-/// Adds the text of a condition on texts.
-pub fn push_text_cond(line: &mut Line, cond: &TextCond) -> Result<(), Memory>
-    ensures { OnOk result (line.new ≡ line.old ++ text_cond_text cond.now) }
+/// The text of a condition on texts.
+pub fn text_cond_text(alloc: Global, cond: &TextCond) -> Result<Bytes, Memory>
+    ensures { IfOk result (λ text. text ≡ text_cond_text cond.now) }
 {
-    line.extend(word(cond))?;
-    line.push(b' ')?;
-    push_quoted(line, cond.named())
+    let named = quoted(alloc, cond.named())?;
+    let mut text = Bytes::copy(alloc, word(cond))?;
+    text.push(b' ')?;
+    text.extend(named.as_slice())?;
+    Ok(text)
 }

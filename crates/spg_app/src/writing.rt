@@ -30,6 +30,7 @@ fn write_results<K: Sink>(
 }
 
 fn write_events<O: Spoken, K: Sink>(
+    alloc: Global,
     class: &O,
     line: &mut Line,
     journal: &[Event<O>],
@@ -40,7 +41,7 @@ fn write_events<O: Spoken, K: Sink>(
     ensures cause { HasCauseIfFailed (K.faults sink.old) (K.faults sink.new) result }
 {
     for (at, event) in journal.iter().enumerate() {
-        event_line(class, line, at as u64, event)?;
+        event_line(alloc, class, line, at as u64, event)?;
         write_all(sink, line.as_slice())?;
     }
     Ok(())
@@ -62,5 +63,5 @@ pub fn write_text<O: Spoken, K: Sink>(
     write_results(&mut line, records, sink)?;
     journal_line(&mut line, journal.len() as u64)?;
     write_all(sink, line.as_slice())?;
-    write_events(class, &mut line, journal, sink)
+    write_events(alloc, class, &mut line, journal, sink)
 }
