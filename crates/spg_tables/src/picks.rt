@@ -142,126 +142,128 @@ fn is_right(alloc: Global, table: &mut PageTable, step: Step) -> Result<bool, Me
     }
 }
 
+/// Steps on one table with a limit of 9 blocks, one after another.
+const STEPS: [Step; 23] = [
+    // A new page, which is then remembered, also while it is empty.
+    Step::Leaf {
+        need: 28,
+        avoid: 0,
+        gives: Some(3),
+    },
+    Step::Leaf {
+        need: 28,
+        avoid: 0,
+        gives: Some(3),
+    },
+    // No room there; then the remembered page is avoided.
+    Step::Fill(3),
+    Step::Leaf {
+        need: 8160,
+        avoid: 0,
+        gives: Some(4),
+    },
+    Step::Leaf {
+        need: 28,
+        avoid: 4,
+        gives: Some(5),
+    },
+    // The lowest empty page of the parity, for either kind and tree.
+    Step::Inner {
+        seat: 0,
+        nulls: false,
+        parity: 1,
+        need: 60,
+        gives: Some(4),
+    },
+    Step::Inner {
+        seat: 0,
+        nulls: true,
+        parity: 1,
+        need: 60,
+        gives: Some(4),
+    },
+    Step::Fill(4),
+    Step::Fill(5),
+    // A new page of the parity; a block before it stays empty and is not remembered.
+    Step::Inner {
+        seat: 0,
+        nulls: false,
+        parity: 0,
+        need: 60,
+        gives: Some(6),
+    },
+    Step::Fill(6),
+    Step::Inner {
+        seat: 0,
+        nulls: false,
+        parity: 2,
+        need: 60,
+        gives: Some(8),
+    },
+    Step::Leaf {
+        need: 28,
+        avoid: 0,
+        gives: Some(5),
+    },
+    Step::Leaf {
+        need: 8160,
+        avoid: 0,
+        gives: Some(7),
+    },
+    // No page is left.
+    Step::Inner {
+        seat: 0,
+        nulls: false,
+        parity: 0,
+        need: 8160,
+        gives: None,
+    },
+    // Another seat's page is not picked.
+    Step::Latch {
+        seat: 1,
+        block: 8,
+        gives: true,
+    },
+    Step::Latch {
+        seat: 0,
+        block: 8,
+        gives: false,
+    },
+    Step::Inner {
+        seat: 0,
+        nulls: false,
+        parity: 2,
+        need: 60,
+        gives: None,
+    },
+    Step::Inner {
+        seat: 1,
+        nulls: false,
+        parity: 2,
+        need: 60,
+        gives: Some(8),
+    },
+    Step::Release { seat: 0, block: 8 },
+    Step::Latch {
+        seat: 0,
+        block: 8,
+        gives: false,
+    },
+    Step::Release { seat: 1, block: 8 },
+    Step::Inner {
+        seat: 0,
+        nulls: false,
+        parity: 2,
+        need: 60,
+        gives: Some(8),
+    },
+];
+
 #[test]
 fn picks_and_latches(rt: HostRuntime) -> Result<(), Fail> {
     let alloc = rt.alloc();
     let mut table = PageTable::new(alloc, 9)?;
-    let steps = [
-        // A new page, which is then remembered, also while it is empty.
-        Step::Leaf {
-            need: 28,
-            avoid: 0,
-            gives: Some(3),
-        },
-        Step::Leaf {
-            need: 28,
-            avoid: 0,
-            gives: Some(3),
-        },
-        // No room there; then the remembered page is avoided.
-        Step::Fill(3),
-        Step::Leaf {
-            need: 8160,
-            avoid: 0,
-            gives: Some(4),
-        },
-        Step::Leaf {
-            need: 28,
-            avoid: 4,
-            gives: Some(5),
-        },
-        // The lowest empty page of the parity, for either kind and tree.
-        Step::Inner {
-            seat: 0,
-            nulls: false,
-            parity: 1,
-            need: 60,
-            gives: Some(4),
-        },
-        Step::Inner {
-            seat: 0,
-            nulls: true,
-            parity: 1,
-            need: 60,
-            gives: Some(4),
-        },
-        Step::Fill(4),
-        Step::Fill(5),
-        // A new page of the parity; a block before it stays empty and is not remembered.
-        Step::Inner {
-            seat: 0,
-            nulls: false,
-            parity: 0,
-            need: 60,
-            gives: Some(6),
-        },
-        Step::Fill(6),
-        Step::Inner {
-            seat: 0,
-            nulls: false,
-            parity: 2,
-            need: 60,
-            gives: Some(8),
-        },
-        Step::Leaf {
-            need: 28,
-            avoid: 0,
-            gives: Some(5),
-        },
-        Step::Leaf {
-            need: 8160,
-            avoid: 0,
-            gives: Some(7),
-        },
-        // No page is left.
-        Step::Inner {
-            seat: 0,
-            nulls: false,
-            parity: 0,
-            need: 8160,
-            gives: None,
-        },
-        // Another seat's page is not picked.
-        Step::Latch {
-            seat: 1,
-            block: 8,
-            gives: true,
-        },
-        Step::Latch {
-            seat: 0,
-            block: 8,
-            gives: false,
-        },
-        Step::Inner {
-            seat: 0,
-            nulls: false,
-            parity: 2,
-            need: 60,
-            gives: None,
-        },
-        Step::Inner {
-            seat: 1,
-            nulls: false,
-            parity: 2,
-            need: 60,
-            gives: Some(8),
-        },
-        Step::Release { seat: 0, block: 8 },
-        Step::Latch {
-            seat: 0,
-            block: 8,
-            gives: false,
-        },
-        Step::Release { seat: 1, block: 8 },
-        Step::Inner {
-            seat: 0,
-            nulls: false,
-            parity: 2,
-            need: 60,
-            gives: Some(8),
-        },
-    ];
-    for step in steps {
+    for step in STEPS {
         assert!(rt; is_right(alloc, &mut table, step)?, "at {step:?}");
     }
     assert_eq!(rt; table.page_count(), 9);
