@@ -1,5 +1,5 @@
--- Why a division leaves the leaf of the insert out.
-use Rattle.std.specs.Prelude.{ℕ, ◌≤◌, ◌<◌, List, [], ◌∷◌, ◌++◌, Option, length}
+-- Why a division leaves the leaf of the insert out, and when it notes a rise.
+use Rattle.std.specs.Prelude.{ℕ, ◌≤◌, ◌<◌, true, false, List, [], ◌∷◌, ◌++◌, Option, Some, length, take}
 use Rattle.spg_opclass.specs.Meaning.{Meaning}
 use Rattle.spg_forest.specs.View.{Leaf, Place}
 use Rattle.spg_forest.specs.Tuples.{Tuple}
@@ -18,6 +18,7 @@ use Rattle.spg_split.specs.declared.put.Parted.TheVariants.{With, Without}
 use Rattle.spg_split.specs.declared.split.SplitOut.{SplitOut}
 use Rattle.spg_split.specs.declared.split.SplitOut.TheVariants.{Put, LeftOut}
 use Rattle.spg_split.specs.Dividing.{division_of, rows_of}
+use Rattle.spg_split.specs.Nodes.{IsOnlyNode}
 use Rattle.spg_split.specs.Placing.{leaves_with}
 use Rattle.spg_split.specs.Planning.{bytes_away, left_at}
 
@@ -49,3 +50,23 @@ chain_bytes m t d =
     let x : Place = tuple_place d.stand in
     let dv : Division = division_of m d.recon (rests_of (leaves_below t d x)) in
     bytes_away (tuples_divided m d.recon (leaves_below t d x)) dv.node_of (length dv.frame.labels) (left_at (tuples_at t x.block) x.offset)
+
+-- these leaves are all in one node of the division of them and a new one behind them
+abbrev pub AreInOne : {Key Recon Cond : Type 0} → Meaning Key Recon Cond → Option Recon → List Leaf → Leaf → Type 0
+AreInOne m r ls new = (k : ℕ) × IsOnlyNode (take (length ls) (division_of m r (rests_of (ls ++ new ∷ []))).node_of) (Some k)
+
+-- the leaves of a root leaf page are, with that of the insert behind them
+abbrev pub root_in_one : {Key Recon Cond : Type 0} → Meaning Key Recon Cond → Table → Descending Recon → Type 0
+root_in_one m t d = AreInOne m d.recon (leaves_on (tuples_at t (tuple_place d.stand).block)) (carried d)
+
+-- and so are those of a chain
+abbrev pub chain_in_one : {Key Recon Cond : Type 0} → Meaning Key Recon Cond → Table → Descending Recon → Type 0
+chain_in_one m t d =
+    let x : Place = tuple_place d.stand in
+    AreInOne m d.recon (leaves_of (chain_members (tuples_at t x.block) x.offset)) (carried d)
+
+-- a division that will be noted as a rise has this
+abbrev pub RisesOnly : Type 0 → Parted → Type 0
+RisesOnly A With = Unit {0}
+RisesOnly A (Without false) = Unit {0}
+RisesOnly A (Without true) = A

@@ -1,4 +1,4 @@
-ghost use Rattle.std.specs.Prelude.{◌≡◌, ◌+◌, ◌^◌, ◌<◌, Option, Some as Just, IfOk, OnErr, IsErrOf};
+ghost use Rattle.std.specs.Prelude.{◌≡◌, ◌⊎◌, ◌+◌, ◌^◌, ◌<◌, Option, Some as Just, IfOk, OnErr, IsErrOf};
 ghost use Rattle.spg_forest.specs.Tuples.{Live};
 ghost use Rattle.spg_forest.specs.Shape.{Shape};
 ghost use Rattle.spg_tree.specs.Table.{sheets_of};
@@ -8,9 +8,10 @@ ghost use Rattle.spg_descend.specs.Puts.{Fits};
 ghost use Rattle.spg_descend.specs.Rules.{MayMove};
 ghost use Rattle.spg_descend.specs.Below.{IsAtChain, IsTicked};
 ghost use Rattle.spg_tree.specs.declared.stand.Stand.TheVariants.{At};
-ghost use Rattle.spg_split.specs.Below.{IsChainSplit, MakesBelow};
+ghost use Rattle.spg_forest.specs.View.{Place as PlaceAt};
+ghost use Rattle.spg_split.specs.Below.{IsChainSplit, SplitsWithout, MakesBelow};
 ghost use Rattle.spg_split.specs.Ways.{IsChainWay, NotesChain, IsBelowParent};
-ghost use Rattle.spg_split.specs.Causes.{IsCause, IsCauseOf, chain_bytes};
+ghost use Rattle.spg_split.specs.Causes.{IsCause, IsCauseOf, RisesOnly, chain_bytes, chain_in_one};
 ghost use Rattle.spg_split.specs.Splits.{IsSplitFull};
 
 use crate::division::divide;
@@ -44,6 +45,7 @@ fn divide_chain<O: OpClass>(
     requires tick { table.old.clock + 1 < 2 ^ 48 }
     ensures ok { IfOk result (λ done. IsChainWay O.meaning table.old table.new descent.now done.at done.way × IsTicked table.old table.new × MakesBelow table.old table.new descent.now.parent done.at) }
     ensures cause { IfOk result (λ done. IsCauseOf (chain_bytes O.meaning table.old descent.now) done.way) }
+    ensures rise { IfOk result (λ done. RisesOnly (chain_in_one O.meaning table.old descent.now) done.way) }
     ensures full { IsErrOf result IndexFull → IsSplitFull table.old }
     ensures clock { IsErrOf result ClockFull → ⊥ }
     ensures err { OnErr result (table.new ≡ table.old) }
@@ -83,7 +85,9 @@ fn note_chain<O: OpClass>(descent: &mut Descent<O>, done: Parting) -> SplitOut
 /// is raised. Lists stay on the old page, in node order, while each fits there; the first that does not
 /// and all after it go to one other leaf page. `LeftOut` comes exactly where the lists that must go
 /// elsewhere do not fit with the leaf on one page; then it is in none of them, and the insert stands at
-/// the new inner tuple. `ClockFull` comes exactly where the clock is 2^48 - 1, before a page is picked;
+/// the new inner tuple. The spread rises then only where all leaves but the new one are in one
+/// node.
+/// `ClockFull` comes exactly where the clock is 2^48 - 1, before a page is picked;
 /// `IndexFull` only where a pick needs a new page and there may be none. After a refusal table and
 /// insert are as they were. The latches stay as they are.
 pub fn split_chain<O: OpClass>(
@@ -100,6 +104,7 @@ pub fn split_chain<O: OpClass>(
     requires long { MayMove table.old descent.old.stand (Live (carried descent.old) 0) → ⊥ }
     ensures ok { IfOk result (λ out. IsChainSplit O.meaning table.old table.new descent.old descent.new out) }
     ensures cause { IfOk result (λ out. IsCause (chain_bytes O.meaning table.old descent.old) out) }
+    ensures rise { IfOk result (λ out. (out ≡ SplitOut.LeftOut → (z : PlaceAt) × SplitsWithout O.meaning table.old table.new descent.old descent.new z 0) ⊎ chain_in_one O.meaning table.old descent.old) }
     ensures ticked { IfOk result (λ out. IsTicked table.old table.new) }
     ensures full { IsErrOf result IndexFull → IsSplitFull table.old }
     ensures clock { IsErrOf result ClockFull → table.old.clock + 1 ≡ 2 ^ 48 }

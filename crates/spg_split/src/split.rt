@@ -1,4 +1,4 @@
-ghost use Rattle.std.specs.Prelude.{◌≡◌, Option, IfOk, OnErr, IsErrOf};
+ghost use Rattle.std.specs.Prelude.{◌≡◌, ◌⊎◌, Option, IfOk, OnErr, IsErrOf};
 ghost use Rattle.spg_forest.specs.Tuples.{Live};
 ghost use Rattle.spg_forest.specs.Shape.{Shape};
 ghost use Rattle.spg_tree.specs.Table.{sheets_of};
@@ -7,9 +7,9 @@ ghost use Rattle.spg_tree.specs.declared.stand.Stand.TheVariants.{Root};
 ghost use Rattle.spg_tree.specs.declared.stand.StepRefused.TheVariants.{IndexFull, ClockFull};
 ghost use Rattle.spg_descend.specs.Carried.{carried, IsCarried};
 ghost use Rattle.spg_descend.specs.Puts.{IsAtLeaves, Fits};
-ghost use Rattle.spg_split.specs.Splits.{IsAtRoot, IsSplitOut, IsSplitFull};
+ghost use Rattle.spg_split.specs.Splits.{IsAtRoot, IsSplitOut, PartsWithout, IsSplitFull};
 ghost use Rattle.spg_split.specs.Ways.{IsSplitWay, Notes};
-ghost use Rattle.spg_split.specs.Causes.{IsCause, IsCauseOf, root_bytes};
+ghost use Rattle.spg_split.specs.Causes.{IsCause, IsCauseOf, RisesOnly, root_bytes, root_in_one};
 
 use crate::division::divide;
 use crate::parts::Parts;
@@ -46,6 +46,7 @@ fn split_root<O: OpClass>(
     requires no_room { Fits table.old descent.now.stand (Live (carried descent.now) 0) → ⊥ }
     ensures ok { IfOk result (λ way. IsSplitWay O.meaning table.old table.new descent.now way) }
     ensures cause { IfOk result (λ way. IsCauseOf (root_bytes O.meaning table.old descent.now) way) }
+    ensures rise { IfOk result (λ way. RisesOnly (root_in_one O.meaning table.old descent.now) way) }
     ensures full { IsErrOf result IndexFull → IsSplitFull table.old }
     ensures clock { IsErrOf result ClockFull → ⊥ }
     ensures err { OnErr result (table.new ≡ table.old) }
@@ -74,8 +75,9 @@ fn note<O: OpClass>(descent: &mut Descent<O>, way: Parted) -> SplitOut
 /// class. The new inner tuple becomes the root's only tuple, and each list goes as a chain to one
 /// other leaf page. Where the class puts all in one node, the tuple is all-the-same: it has 8 nodes of
 /// that label, which are filled in turn. `LeftOut` comes exactly where the lists do not fit with the
-/// leaf on one page; then it is in none of them. `IndexFull` comes only where a pick needs a new
-/// page and there may be none. After a refusal table and insert are as they were.
+/// leaf on one page; then it is in none of them. The spread rises then only where all leaves but the new
+/// one are in one node. `IndexFull` comes only where a pick needs a new page and there may be none.
+/// After a refusal table and insert are as they were.
 pub fn split_leaf<O: OpClass>(
     alloc: Global,
     class: &O,
@@ -90,6 +92,7 @@ pub fn split_leaf<O: OpClass>(
     requires no_room { Fits table.old descent.old.stand (Live (carried descent.old) 0) → ⊥ }
     ensures ok { IfOk result (λ out. IsSplitOut O.meaning table.old table.new descent.old descent.new out) }
     ensures cause { IfOk result (λ out. IsCause (root_bytes O.meaning table.old descent.old) out) }
+    ensures rise { IfOk result (λ out. (out ≡ SplitOut.LeftOut → PartsWithout O.meaning table.old table.new descent.old descent.new 0) ⊎ root_in_one O.meaning table.old descent.old) }
     ensures full { IsErrOf result IndexFull → IsSplitFull table.old }
     ensures clock { IsErrOf result ClockFull → ⊥ }
     ensures err { OnErr result (table.new ≡ table.old) }

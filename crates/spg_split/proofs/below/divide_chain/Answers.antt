@@ -8,11 +8,12 @@ use Rattle.spg_forest.specs.Divisions.{rests_of}
 use Rattle.spg_split.specs.Dividing.{AreValues, rows_of}
 use Rattle.spg_split.specs.Parting.{IsParted}
 use Rattle.spg_split.specs.Below.{MakesBelow}
-use Rattle.spg_split.specs.Causes.{IsCauseOf, chain_bytes}
+use Rattle.spg_split.specs.Causes.{IsCauseOf, RisesOnly, chain_bytes, chain_in_one}
 use Rattle.spg_split.specs.Ways.{IsChainWay}
 use Rattle.spg_split.proofs.Standing.{rest_fits, tuple_fits, divided_as, keys_as, parts_as, nulls_recon}
 use Rattle.spg_split.proofs.ChainStanding.{several, keys, may_divide, ready, some_leaves, others_fit, inner_fits}
 use Rattle.spg_split.proofs.ChainJoining.{chain_done, chain_cause}
+use Rattle.spg_split.proofs.Causes.{chain_rise}
 use Rattle.spg_split.proofs.Outcome.{if_ok_then}
 use Rattle.spg_split.proofs.below.divide_chain.Goals as goal
 
@@ -92,3 +93,12 @@ returns-clause-cause g c =
     if_ok_then c.part_chain.result (λ done. IsParted c.args.table.now c.part_chain.new.table c.args.head c.args.parent c.args.node c.args.seat c.in_ok-parts.parts done)
     (λ done. IsCauseOf (chain_bytes g.O.OpClass.meaning c.args.table.now c.args.descent.now) done.way)
     (λ done W. chain_cause g.O.OpClass.meaning g.O.OpClass.codes c.args.table.now c.args.descent.now c.args.head c.args.parent c.args.node c.requires.shape c.requires.stands c.requires.above c.requires.spot c.requires.of_key c.requires.long c.requires.tick c.in_ok-division.division D N c.in_ok-parts.parts P c.args.seat c.part_chain.new.table done W) c.part_chain.ensures.ok
+
+pub returns-clause-rise : goal.returns-clause-rise
+returns-clause-rise g c =
+    let V = (subst (λ (s : Sheet). AreValues c.in_ok-values.values (leaves_of (chain_members s.tuples c.args.head.offset) ++ carried c.args.descent.now ∷ [])) c.page.ensures c.in_ok-values.ensures) in
+    let D = divided_as g.O.OpClass.meaning (option_copied c.recon.result) c.args.descent.now.recon c.as_slice.result.now (rests_of (leaves_of (chain_members (tuples_at c.args.table.now c.args.head.block) c.args.head.offset) ++ carried c.args.descent.now ∷ [])) c.in_ok-division.division c.recon.ensures.value (c.as_slice.ensures ∙ V.rests) c.in_ok-division.ensures in
+    let P = parts_as c.as_slice-2.result.now (rows_of (leaves_of (chain_members (tuples_at c.args.table.now c.args.head.block) c.args.head.offset) ++ carried c.args.descent.now ∷ [])) c.in_ok-division.division c.in_ok-parts.parts (c.as_slice-2.ensures ∙ V.rows) c.in_ok-parts.ensures in
+    if_ok_then c.part_chain.result (λ done. IsParted c.args.table.now c.part_chain.new.table c.args.head c.args.parent c.args.node c.args.seat c.in_ok-parts.parts done)
+    (λ done. RisesOnly (chain_in_one g.O.OpClass.meaning c.args.table.now c.args.descent.now) done.way)
+    (λ done W. chain_rise g.O.OpClass.meaning c.args.table.now c.args.descent.now c.args.head c.requires.stands c.in_ok-division.division D c.in_ok-parts.parts P W.plan done.way W.way) c.part_chain.ensures.ok

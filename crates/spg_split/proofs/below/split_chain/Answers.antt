@@ -1,6 +1,6 @@
 use Rattle.spg_split.proofs.Outcome.{chain_split}
-use Rattle.spg_split.proofs.Causes.{noted_chain}
-use Rattle.spg_split.specs.Causes.{chain_bytes}
+use Rattle.spg_split.proofs.Causes.{noted_chain, rise_noted_chain}
+use Rattle.spg_split.specs.Causes.{chain_bytes, chain_in_one}
 use Rattle.spg_split.proofs.below.split_chain.Goals as goal
 
 pub returns-clause-ok : goal.returns-clause-ok
@@ -10,3 +10,7 @@ returns-clause-ok g c = chain_split g.O.OpClass.meaning c.args.table.now c.divid
 pub returns-clause-cause : goal.returns-clause-cause
 returns-clause-cause g c = noted_chain (chain_bytes g.O.OpClass.meaning c.args.table.now c.args.descent.now) c.args.descent.now c.note_chain.new.descent c.in_ok-done-in-At-Some.done.at c.in_ok-done-in-At-Some.done.way c.note_chain.result
     c.in_ok-done-in-At-Some.ensures.cause c.note_chain.ensures
+
+pub returns-clause-rise : goal.returns-clause-rise
+returns-clause-rise g c = rise_noted_chain g.O.OpClass.meaning (chain_in_one g.O.OpClass.meaning c.args.table.now c.args.descent.now) c.args.table.now c.divide_chain.new.table c.args.descent.now c.note_chain.new.descent c.in_ok-done-in-At-Some.done.at c.in_ok-done-in-At-Some.done.way c.note_chain.result
+    c.in_ok-done-in-At-Some.ensures.rise c.in_ok-done-in-At-Some.ensures.ok.0 c.note_chain.ensures
