@@ -1,20 +1,11 @@
 ghost use Rattle.std.specs.Prelude.{Some};
 
-use crate::tests::one_word;
-use spg_app::{Status, run};
+use crate::program::{one_word, ran, status_of};
+use spg_app::Status;
 use spg_base::{Bytes, List};
 use spg_io::{FaultySink, FaultySource, IoRefused, PlainSink, PlainSource, Sink};
 use std::alloc::{AllocError, Global};
 use std::test::Fail;
-
-/// What the program answers and writes for a script, which comes seven bytes at a time.
-fn ran(rt: &HostRuntime, script: &[u8]) -> Result<(Status, Vec<u8>), Fail> {
-    let mut source = PlainSource::new(Bytes::copy(rt.alloc(), script)?, 7);
-    let mut sink = PlainSink::new(rt.alloc());
-    let words = one_word(rt)?;
-    let (status, _state) = run(rt, &words, &mut source, &mut sink);
-    Ok((status, sink.taken().to_vec(rt.alloc())?))
-}
 
 /// Scripts, and the texts of their runs.
 const RUNS: [(&[u8], &[u8]); 9] = [
@@ -228,7 +219,7 @@ fn ran_from(rt: &HostRuntime, most: usize, call: u64) -> Result<(Status, Vec<u8>
     let mut source = FaultySource::new(bytes, most.max(1), fails);
     let mut sink = PlainSink::new(rt.alloc());
     let words = one_word(rt)?;
-    let (status, _state) = run(rt, &words, &mut source, &mut sink);
+    let status = status_of(rt, &words, &mut source, &mut sink);
     Ok((status, sink.taken().to_vec(rt.alloc())?))
 }
 
@@ -239,7 +230,7 @@ fn ran_into(rt: &HostRuntime, call: u64) -> Result<(Status, Vec<u8>), Fail> {
     let mut source = PlainSource::new(Bytes::copy(rt.alloc(), SCRIPT)?, 4096);
     let mut sink = FaultySink::new(rt.alloc(), fails);
     let words = one_word(rt)?;
-    let (status, _state) = run(rt, &words, &mut source, &mut sink);
+    let status = status_of(rt, &words, &mut source, &mut sink);
     Ok((status, sink.taken().to_vec(rt.alloc())?))
 }
 
@@ -279,7 +270,7 @@ fn offers_again_what_was_not_taken(rt: HostRuntime) -> Result<(), Fail> {
         inner: PlainSink::new(rt.alloc()),
     };
     let words = one_word(&rt)?;
-    let (status, _state) = run(&rt, &words, &mut source, &mut sink);
+    let status = status_of(&rt, &words, &mut source, &mut sink);
     assert_eq!(rt; status, Status::Done);
     assert_eq!(rt; sink.inner.taken(), TEXT);
     Ok(())
@@ -291,7 +282,8 @@ fn refuses_other_words(rt: HostRuntime) -> Result<(), Fail> {
     words.push(String::from_str(rt.alloc(), "fast")?)?;
     let mut source = PlainSource::new(Bytes::copy(rt.alloc(), SCRIPT)?, 7);
     let mut sink = PlainSink::new(rt.alloc());
-    assert_eq!(rt; run(&rt, &words, &mut source, &mut sink).0, Status::Usage);
+    let status = status_of(&rt, &words, &mut source, &mut sink);
+    assert_eq!(rt; status, Status::Usage);
     assert_eq!(rt; sink.taken().is_empty(), true);
     assert_eq!(rt; Status::BadScript(7).code(), 3);
     Ok(())

@@ -1,6 +1,5 @@
-use spg_app::{Status, run};
-use spg_base::Bytes;
-use spg_io::{PlainSink, PlainSource};
+use crate::program::ran;
+use spg_app::Status;
 use std::alloc::AllocError;
 use std::test::Fail;
 
@@ -22,29 +21,18 @@ const RUNS: [(&str, &[u8]); 3] = [
     ),
 ];
 
-/// The one word of the command line.
-pub(crate) fn one_word<R: AllocGlobal>(rt: &R) -> Result<Vec<String>, AllocError> {
-    let mut words = Vec::new(rt.alloc());
-    words.push(String::from_str(rt.alloc(), "run")?)?;
-    Ok(words)
-}
-
 /// What the program answers and writes for a class line and commands.
-fn ran(rt: &HostRuntime, class: &str, commands: &str) -> Result<(Status, Vec<u8>), Fail> {
+fn ran_in(rt: &HostRuntime, class: &str, commands: &str) -> Result<(Status, Vec<u8>), Fail> {
     let mut script = String::from_str(rt.alloc(), class)?;
     script.push_str(commands)?;
-    let mut source = PlainSource::new(Bytes::copy(rt.alloc(), script.as_bytes())?, 100);
-    let mut sink = PlainSink::new(rt.alloc());
-    let words = one_word(rt)?;
-    let (status, _state) = run(rt, &words, &mut source, &mut sink);
-    Ok((status, sink.taken().to_vec(rt.alloc())?))
+    ran(rt, script.as_bytes())
 }
 
 #[test]
 fn runs_alike_for_each_class(rt: HostRuntime) -> Result<(), Fail> {
     for class in CLASSES {
         for (commands, text) in RUNS {
-            let (status, taken) = ran(&rt, class, commands)?;
+            let (status, taken) = ran_in(&rt, class, commands)?;
             assert_eq!(rt; status, Status::Done);
             assert_eq!(rt; taken.as_slice(), text);
         }
@@ -95,7 +83,7 @@ fn found<R: AllocGlobal>(
 #[test]
 fn keeps_nulls_and_points_apart(rt: HostRuntime) -> Result<(), Fail> {
     let commands = mixed_commands(&rt)?;
-    let (status, taken) = ran(&rt, "class quad\n", commands.as_str())?;
+    let (status, taken) = ran_in(&rt, "class quad\n", commands.as_str())?;
     assert_eq!(rt; status, Status::Done);
     let mut lines = taken.as_slice().split(|b| *b == b'\n').skip(299);
     assert_eq!(rt; lines.next(), Some(b"300 598 600 added".as_slice()));
@@ -135,7 +123,7 @@ fn texts_alike<R: AllocGlobal>(rt: &R) -> Result<String, AllocError> {
 #[test]
 fn splits_tuples_and_adds_nodes(rt: HostRuntime) -> Result<(), Fail> {
     let commands = texts_alike(&rt)?;
-    let (status, taken) = ran(&rt, "class radix\n", commands.as_str())?;
+    let (status, taken) = ran_in(&rt, "class radix\n", commands.as_str())?;
     assert_eq!(rt; status, Status::Done);
     let mut lines = taken.as_slice().split(|b| *b == b'\n').skip(296);
     assert_eq!(rt; lines.next(), Some(b"297 592 594 added".as_slice()));
@@ -165,7 +153,7 @@ fn divides_long_texts(rt: HostRuntime) -> Result<(), Fail> {
         commands.push_str("\"\n")?;
     }
     commands.push_str("find all\n")?;
-    let (status, taken) = ran(&rt, "class radix\n", commands.as_str())?;
+    let (status, taken) = ran_in(&rt, "class radix\n", commands.as_str())?;
     assert_eq!(rt; status, Status::Done);
     let mut lines = taken.as_slice().split(|b| *b == b'\n').skip(3);
     assert_eq!(rt;
