@@ -29,3 +29,4 @@ pub mod BlocksTouched
 pub mod Outcome
 pub mod Makes
 pub mod Causes
+pub mod Held

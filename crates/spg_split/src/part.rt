@@ -1,5 +1,6 @@
 ghost use Rattle.std.specs.Prelude.{◌≡◌, ◌<◌, ◌≤◌, ◌-◌, ◌+◌, length, take, IfOk, OnErr, IsErrOf};
 ghost use Rattle.spg_forest.specs.Sheets.{weight, size_of};
+ghost use Rattle.spg_tree.specs.Table.{IsSound};
 ghost use Rattle.spg_tree.specs.declared.stand.StepRefused.TheVariants.{IndexFull, ClockFull};
 ghost use Rattle.spg_split.specs.Parts.{AreReady};
 ghost use Rattle.spg_split.specs.Parting.{MayDivide, IsParted};
@@ -42,6 +43,7 @@ pub(crate) fn part_chain(
     ensures full { IsErrOf result IndexFull → IsSplitFull table.old }
     ensures clock { IsErrOf result ClockFull → ⊥ }
     ensures err { OnErr result (table.new ≡ table.old) }
+    ensures sound { IsSound table.old }
 {
     let Place { block, offset } = head;
     let Place {

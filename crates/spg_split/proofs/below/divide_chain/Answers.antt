@@ -4,6 +4,7 @@ use Rattle.spg_chain.specs.Chains.{chain_members, leaves_of}
 use Rattle.spg_tree.specs.Table.{tuples_at}
 use Rattle.spg_descend.specs.Carried.{carried}
 use Rattle.spg_descend.specs.Below.{IsTicked}
+use Rattle.spg_descend.specs.Held.{TouchesFree}
 use Rattle.spg_forest.specs.Divisions.{rests_of}
 use Rattle.spg_split.specs.Dividing.{AreValues, rows_of}
 use Rattle.spg_split.specs.Parting.{IsParted}
@@ -14,6 +15,7 @@ use Rattle.spg_split.proofs.Standing.{rest_fits, tuple_fits, divided_as, keys_as
 use Rattle.spg_split.proofs.ChainStanding.{several, keys, may_divide, ready, some_leaves, others_fit, inner_fits}
 use Rattle.spg_split.proofs.ChainJoining.{chain_done, chain_cause}
 use Rattle.spg_split.proofs.Causes.{chain_rise}
+use Rattle.spg_split.proofs.Held.{on_ok_then, chain_held}
 use Rattle.spg_split.proofs.Outcome.{if_ok_then}
 use Rattle.spg_split.proofs.below.divide_chain.Goals as goal
 
@@ -83,6 +85,10 @@ returns-clause-ok g c =
     if_ok_then c.part_chain.result (λ done. IsParted c.args.table.now c.part_chain.new.table c.args.head c.args.parent c.args.node c.args.seat c.in_ok-parts.parts done)
     (λ done. IsChainWay g.O.OpClass.meaning c.args.table.now c.part_chain.new.table c.args.descent.now done.at done.way × IsTicked c.args.table.now c.part_chain.new.table × MakesBelow c.args.table.now c.part_chain.new.table c.args.descent.now.parent done.at)
     (λ done W. chain_done g.O.OpClass.meaning g.O.OpClass.codes c.args.table.now c.args.descent.now c.args.head c.args.parent c.args.node c.requires.shape c.requires.stands c.requires.above c.requires.spot c.requires.of_key c.requires.long c.requires.tick c.in_ok-division.division D N c.in_ok-parts.parts P c.args.seat c.part_chain.new.table done W) c.part_chain.ensures.ok
+
+pub returns-clause-held : goal.returns-clause-held
+returns-clause-held g c = on_ok_then c.part_chain.result (λ done. IsParted c.args.table.now c.part_chain.new.table c.args.head c.args.parent c.args.node c.args.seat c.in_ok-parts.parts done) (TouchesFree c.args.table.now c.part_chain.new.table c.args.descent.now c.args.seat)
+    (λ done W. chain_held c.args.table.now c.part_chain.new.table c.args.descent.now c.args.head c.args.parent c.args.node c.args.seat c.in_ok-parts.parts done c.requires.stands c.requires.above c.part_chain.ensures.sound.latched W) c.part_chain.ensures.ok
 
 pub returns-clause-cause : goal.returns-clause-cause
 returns-clause-cause g c =

@@ -2,6 +2,7 @@ use Rattle.std.proofs.Common.{[], ◌∷◌, ◌++◌, is_none, option_copied, l
 use Rattle.spg_forest.specs.Links.{leaves_on}
 use Rattle.spg_tree.specs.Table.{tuples_at}
 use Rattle.spg_descend.specs.Carried.{carried}
+use Rattle.spg_descend.specs.Held.{TouchesFree}
 use Rattle.spg_forest.specs.Divisions.{rests_of}
 use Rattle.spg_forest.specs.Sheets.{Sheet}
 use Rattle.spg_split.specs.Dividing.{AreAllLive, rows_of}
@@ -10,6 +11,7 @@ use Rattle.spg_split.specs.Parts.{IsWay, PutsLists, going}
 use Rattle.spg_split.specs.Causes.{IsCauseOf, RisesOnly, root_bytes, root_in_one}
 use Rattle.spg_split.specs.Ways.{IsSplitWay}
 use Rattle.spg_split.proofs.Causes.{root_cause, root_rise}
+use Rattle.spg_split.proofs.Held.{on_ok_then, root_held}
 use Rattle.spg_split.proofs.Outcome.{if_ok_then}
 use Rattle.spg_split.proofs.Standing.{live_there, several, keys, rest_fits, tuple_fits, ready, leaf_count, count_vs, others_fit, values_are, divided_as, keys_as, parts_as, nulls_recon}
 use Rattle.spg_split.proofs.split.split_root.Goals as goal
@@ -78,6 +80,10 @@ returns-clause-ok g c =
     if_ok_both c.put_division.result (λ way. IsWay c.in_ok-parts.parts way) (λ way. PutsLists c.args.table.now c.put_division.new.table c.args.root c.args.seat c.in_ok-parts.parts (going c.in_ok-parts.parts way))
     (λ way. IsSplitWay g.O.OpClass.meaning c.args.table.now c.put_division.new.table c.args.descent.now way)
     (λ way a b. split_law g.O.OpClass.meaning g.O.OpClass.codes c.args.table.now c.args.descent.now c.args.root c.requires.shape c.requires.stands c.requires.spot c.requires.of_key c.requires.no_room c.in_ok-division.division D N c.in_ok-parts.parts P c.args.seat c.put_division.new.table way a b) c.put_division.ensures.way c.put_division.ensures.ok
+
+pub returns-clause-held : goal.returns-clause-held
+returns-clause-held g c = on_ok_then c.put_division.result (λ way. PutsLists c.args.table.now c.put_division.new.table c.args.root c.args.seat c.in_ok-parts.parts (going c.in_ok-parts.parts way)) (TouchesFree c.args.table.now c.put_division.new.table c.args.descent.now c.args.seat)
+    (λ way a. root_held c.args.table.now c.put_division.new.table c.args.descent.now c.args.root c.args.seat c.in_ok-parts.parts (going c.in_ok-parts.parts way) c.requires.stands a) c.put_division.ensures.ok
 
 pub returns-clause-cause : goal.returns-clause-cause
 returns-clause-cause g c =
