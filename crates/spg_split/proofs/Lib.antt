@@ -30,3 +30,4 @@ pub mod Outcome
 pub mod Makes
 pub mod Causes
 pub mod Held
+pub mod Fulls

@@ -8,7 +8,8 @@ ghost use Rattle.spg_tree.specs.declared.stand.StepRefused.TheVariants.{IndexFul
 ghost use Rattle.spg_descend.specs.Carried.{carried, IsCarried};
 ghost use Rattle.spg_descend.specs.Held.{TouchesFree};
 ghost use Rattle.spg_descend.specs.Puts.{IsAtLeaves, Fits};
-ghost use Rattle.spg_split.specs.Splits.{IsAtRoot, IsSplitOut, PartsWithout, IsSplitFull};
+ghost use Rattle.spg_split.specs.Splits.{IsAtRoot, IsSplitOut, PartsWithout};
+ghost use Rattle.spg_split.specs.Fulls.{IsRootFull};
 ghost use Rattle.spg_split.specs.Ways.{IsSplitWay, Notes};
 ghost use Rattle.spg_split.specs.Causes.{IsCause, IsCauseOf, RisesOnly, root_bytes, root_in_one};
 
@@ -49,7 +50,7 @@ fn split_root<O: OpClass>(
     ensures held { OnOk result (TouchesFree table.old table.new descent.now seat) }
     ensures cause { IfOk result (λ way. IsCauseOf (root_bytes O.meaning table.old descent.now) way) }
     ensures rise { IfOk result (λ way. RisesOnly (root_in_one O.meaning table.old descent.now) way) }
-    ensures full { IsErrOf result IndexFull → IsSplitFull table.old }
+    ensures full { IsErrOf result IndexFull → IsRootFull O.meaning table.old descent.now seat }
     ensures clock { IsErrOf result ClockFull → ⊥ }
     ensures err { OnErr result (table.new ≡ table.old) }
 {
@@ -98,7 +99,7 @@ pub fn split_leaf<O: OpClass>(
     ensures held { OnOk result (TouchesFree table.old table.new descent.old seat) }
     ensures cause { IfOk result (λ out. IsCause (root_bytes O.meaning table.old descent.old) out) }
     ensures rise { IfOk result (λ out. (out ≡ SplitOut.LeftOut → PartsWithout O.meaning table.old table.new descent.old descent.new 0) ⊎ root_in_one O.meaning table.old descent.old) }
-    ensures full { IsErrOf result IndexFull → IsSplitFull table.old }
+    ensures full { IsErrOf result IndexFull → IsRootFull O.meaning table.old descent.old seat }
     ensures clock { IsErrOf result ClockFull → ⊥ }
     ensures err { OnErr result (table.new ≡ table.old) }
     ensures err_descent { OnErr result (descent.new ≡ descent.old) }

@@ -11,6 +11,7 @@ use Rattle.spg_split.specs.Parts.{IsWay, PutsLists, going}
 use Rattle.spg_split.specs.Causes.{IsCauseOf, RisesOnly, root_bytes, root_in_one}
 use Rattle.spg_split.specs.Ways.{IsSplitWay}
 use Rattle.spg_split.proofs.Causes.{root_cause, root_rise}
+use Rattle.spg_split.proofs.Fulls.{root_full}
 use Rattle.spg_split.proofs.Held.{on_ok_then, root_held}
 use Rattle.spg_split.proofs.Outcome.{if_ok_then}
 use Rattle.spg_split.proofs.Standing.{live_there, several, keys, rest_fits, tuple_fits, ready, leaf_count, count_vs, others_fit, values_are, divided_as, keys_as, parts_as, nulls_recon}
@@ -100,3 +101,10 @@ returns-clause-rise g c =
     let P = parts_as c.as_slice-2.result.now (rows_of (leaves_on (tuples_at c.args.table.now c.args.root) ++ carried c.args.descent.now ∷ [])) c.in_ok-division.division c.in_ok-parts.parts (c.as_slice-2.ensures ∙ V.rows) c.in_ok-parts.ensures in
     if_ok_then c.put_division.result (λ way. IsWay c.in_ok-parts.parts way) (λ way. RisesOnly (root_in_one g.O.OpClass.meaning c.args.table.now c.args.descent.now) way)
     (λ way a. root_rise g.O.OpClass.meaning c.args.table.now c.args.descent.now c.args.root c.requires.stands c.in_ok-division.division D c.in_ok-parts.parts P way a) c.put_division.ensures.way
+
+pub returns-clause-full : goal.returns-clause-full
+returns-clause-full g c = λ h.
+    let V = values_are c.args.table.now c.args.root c.args.descent.now c.page.result.now c.in_ok-values.values c.page.ensures c.in_ok-values.ensures in
+    let D = divided_as g.O.OpClass.meaning (option_copied c.recon.result) c.args.descent.now.recon c.as_slice.result.now (rests_of (leaves_on (tuples_at c.args.table.now c.args.root) ++ carried c.args.descent.now ∷ [])) c.in_ok-division.division c.recon.ensures.value (c.as_slice.ensures ∙ V.rests) c.in_ok-division.ensures in
+    let P = parts_as c.as_slice-2.result.now (rows_of (leaves_on (tuples_at c.args.table.now c.args.root) ++ carried c.args.descent.now ∷ [])) c.in_ok-division.division c.in_ok-parts.parts (c.as_slice-2.ensures ∙ V.rows) c.in_ok-parts.ensures in
+    root_full g.O.OpClass.meaning c.args.table.now c.args.descent.now c.args.root c.args.seat c.requires.stands c.in_ok-division.division D c.in_ok-parts.parts P (c.put_division.ensures.full h)
