@@ -29,3 +29,5 @@ pub mod BlocksTouched
 pub mod Outcome
 pub mod Makes
 pub mod Causes
+pub mod Held
+pub mod Fulls

@@ -12,3 +12,4 @@ pub mod Homes
 pub mod Parting
 pub mod Shrinks
 pub mod Causes
+pub mod Fulls

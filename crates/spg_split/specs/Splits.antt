@@ -1,13 +1,10 @@
 -- What the division of leaves does.
-use Rattle.std.specs.Prelude.{◌≡◌, ℕ, ◌<◌, ◌⊎◌, Option, None}
+use Rattle.std.specs.Prelude.{◌≡◌, ℕ, ◌<◌, ◌⊎◌, Option}
 use Rattle.spg_opclass.specs.Meaning.{Meaning}
 use Rattle.spg_forest.specs.Sheets.{sheet_at}
 use Rattle.spg_forest.specs.Section.{Adds, Leaves, Cost}
 use Rattle.spg_tree.specs.Table.{Table, sheets_of, latch_at}
 use Rattle.spg_tree.specs.Descents.{Descending, risen}
-use Rattle.spg_tree.specs.Pick.{IsFull}
-use Rattle.spg_tree.specs.Two.{IsTwoFull}
-use Rattle.spg_tree.specs.declared.want.Want.{Want}
 use Rattle.spg_tree.specs.declared.stand.Stand.{Stand}
 use Rattle.spg_tree.specs.declared.stand.Stand.TheVariants.{Start, Root, At, Empty}
 use Rattle.spg_descend.specs.Carried.{IsCarried}
@@ -53,7 +50,3 @@ pub record PartsWithout {Key Recon Cond : Type 0} (m : Meaning Key Recon Cond) (
 abbrev pub IsSplitOut : {Key Recon Cond : Type 0} → Meaning Key Recon Cond → Table → Table → Descending Recon → Descending Recon → SplitOut → Type 0
 IsSplitOut m t t2 d d2 Put = PartsWith m t t2 d × IsCalm t t2 d.stand × MakesOne t t2 (tuple_place d.stand) × (d2 ≡ d)
 IsSplitOut m t t2 d d2 LeftOut = IsCalm t t2 d.stand × MakesOne t t2 (tuple_place d.stand) × (((d2 ≡ d) × PartsWithout m t t2 d d2 0) ⊎ ((d2 ≡ risen d) × PartsWithout m t t2 d d2 1))
-
--- a pick of the section needs a new block that is not below the limit; where two are picked, the second may have any parity
-abbrev pub IsSplitFull : Table → Type 0
-IsSplitFull t = ((w : Want) × IsFull t w) ⊎ ((w v : Want) × (v.parity ≡ None) × IsTwoFull t w v)

@@ -2,7 +2,7 @@ ghost use Rattle.std.specs.Prelude.{◌≡◌, ◌<◌, ◌≤◌, ◌+◌, ◌-
 ghost use Rattle.spg_forest.specs.Sheets.{size_of};
 ghost use Rattle.spg_tree.specs.Table.{tuples_at};
 ghost use Rattle.spg_tree.specs.declared.stand.StepRefused.TheVariants.{IndexFull, ClockFull};
-ghost use Rattle.spg_split.specs.Splits.{IsSplitFull};
+ghost use Rattle.spg_split.specs.Fulls.{AreHomesFull};
 ghost use Rattle.spg_split.specs.Homes as homes;
 ghost use Rattle.spg_split.specs.Homes.{PicksHomes, another, blocks_touched};
 
@@ -78,7 +78,7 @@ pub(crate) fn pick_homes(
     requires bytes { rest.bytes ≤ 8160 }
     requires tuples { rest.tuples ≤ 409 }
     ensures ok { IfOk result (λ homes. PicksHomes table.old table.new old parent (size_of inner.now + 4) rest seat homes) }
-    ensures full { IsErrOf result IndexFull → IsSplitFull table.old }
+    ensures full { IsErrOf result IndexFull → AreHomesFull table.old old parent (size_of inner.now + 4) rest seat }
     ensures clock { IsErrOf result ClockFull → ⊥ }
     ensures err { OnErr result (table.new ≡ table.old) }
 {

@@ -1,9 +1,10 @@
 ghost use Rattle.std.specs.Prelude.{◌≡◌, ◌<◌, ◌≤◌, ◌-◌, ◌+◌, length, take, IfOk, OnErr, IsErrOf};
 ghost use Rattle.spg_forest.specs.Sheets.{weight, size_of};
+ghost use Rattle.spg_tree.specs.Table.{IsSound};
 ghost use Rattle.spg_tree.specs.declared.stand.StepRefused.TheVariants.{IndexFull, ClockFull};
 ghost use Rattle.spg_split.specs.Parts.{AreReady};
 ghost use Rattle.spg_split.specs.Parting.{MayDivide, IsParted};
-ghost use Rattle.spg_split.specs.Splits.{IsSplitFull};
+ghost use Rattle.spg_split.specs.Fulls.{IsPartingFull};
 
 use crate::homes::{pick_homes, touched_by};
 use crate::parts::Parts;
@@ -39,9 +40,10 @@ pub(crate) fn part_chain(
     requires others { weight (take (length parts.leaves - 1) parts.leaves) ≤ 8160 }
     requires inner { size_of parts.inner ≤ 8156 }
     ensures ok { IfOk result (λ done. IsParted table.old table.new head parent node seat parts done) }
-    ensures full { IsErrOf result IndexFull → IsSplitFull table.old }
+    ensures full { IsErrOf result IndexFull → IsPartingFull table.old head parent parts seat }
     ensures clock { IsErrOf result ClockFull → ⊥ }
     ensures err { OnErr result (table.new ≡ table.old) }
+    ensures sound { IsSound table.old }
 {
     let Place { block, offset } = head;
     let Place {

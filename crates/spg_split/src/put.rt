@@ -6,7 +6,7 @@ ghost use Rattle.spg_page.specs.Reads.{frame_in};
 ghost use Rattle.spg_tree.specs.Pick.{IsFull};
 ghost use Rattle.spg_tree.specs.Table.{sheet_at, tuples_at};
 ghost use Rattle.spg_tree.specs.declared.stand.StepRefused.TheVariants.{IndexFull, ClockFull};
-ghost use Rattle.spg_split.specs.Splits.{IsSplitFull};
+ghost use Rattle.spg_split.specs.Fulls.{IsPuttingFull};
 ghost use Rattle.spg_split.specs.Dividing.{AreAllLive};
 ghost use Rattle.spg_split.specs.Placing.{taken_by, leaves_in, HaveRooms};
 ghost use Rattle.spg_split.specs.Parts.{bare, divided_table, lists_want, PutsLists, AreReady, IsWay, going};
@@ -154,7 +154,7 @@ pub(crate) fn put_division(
     requires others { weight (take (length parts.leaves - 1) parts.leaves) ≤ 8160 }
     ensures way { IfOk result (λ way. IsWay parts way) }
     ensures ok { IfOk result (λ way. PutsLists table.old table.new root seat parts (going parts way)) }
-    ensures full { IsErrOf result IndexFull → IsSplitFull table.old }
+    ensures full { IsErrOf result IndexFull → IsPuttingFull table.old root parts seat }
     ensures clock { IsErrOf result ClockFull → ⊥ }
     ensures err { OnErr result (table.new ≡ table.old) }
 {

@@ -1,4 +1,4 @@
-ghost use Rattle.std.specs.Prelude.{◌≡◌, ◌⊎◌, Option, IfOk, OnErr, IsErrOf};
+ghost use Rattle.std.specs.Prelude.{◌≡◌, ◌⊎◌, Option, IfOk, OnOk, OnErr, IsErrOf};
 ghost use Rattle.spg_forest.specs.Tuples.{Live};
 ghost use Rattle.spg_forest.specs.Shape.{Shape};
 ghost use Rattle.spg_tree.specs.Table.{sheets_of};
@@ -6,8 +6,10 @@ ghost use Rattle.spg_tree.specs.Descents.{in_nulls};
 ghost use Rattle.spg_tree.specs.declared.stand.Stand.TheVariants.{Root};
 ghost use Rattle.spg_tree.specs.declared.stand.StepRefused.TheVariants.{IndexFull, ClockFull};
 ghost use Rattle.spg_descend.specs.Carried.{carried, IsCarried};
+ghost use Rattle.spg_descend.specs.Held.{TouchesFree};
 ghost use Rattle.spg_descend.specs.Puts.{IsAtLeaves, Fits};
-ghost use Rattle.spg_split.specs.Splits.{IsAtRoot, IsSplitOut, PartsWithout, IsSplitFull};
+ghost use Rattle.spg_split.specs.Splits.{IsAtRoot, IsSplitOut, PartsWithout};
+ghost use Rattle.spg_split.specs.Fulls.{IsRootFull};
 ghost use Rattle.spg_split.specs.Ways.{IsSplitWay, Notes};
 ghost use Rattle.spg_split.specs.Causes.{IsCause, IsCauseOf, RisesOnly, root_bytes, root_in_one};
 
@@ -45,9 +47,10 @@ fn split_root<O: OpClass>(
     requires of_key { (key : Option O.Key) × IsCarried O.meaning (sheets_of table.old) descent.now key }
     requires no_room { Fits table.old descent.now.stand (Live (carried descent.now) 0) → ⊥ }
     ensures ok { IfOk result (λ way. IsSplitWay O.meaning table.old table.new descent.now way) }
+    ensures held { OnOk result (TouchesFree table.old table.new descent.now seat) }
     ensures cause { IfOk result (λ way. IsCauseOf (root_bytes O.meaning table.old descent.now) way) }
     ensures rise { IfOk result (λ way. RisesOnly (root_in_one O.meaning table.old descent.now) way) }
-    ensures full { IsErrOf result IndexFull → IsSplitFull table.old }
+    ensures full { IsErrOf result IndexFull → IsRootFull O.meaning table.old descent.now seat }
     ensures clock { IsErrOf result ClockFull → ⊥ }
     ensures err { OnErr result (table.new ≡ table.old) }
 {
@@ -73,7 +76,9 @@ fn note<O: OpClass>(descent: &mut Descent<O>, way: Parted) -> SplitOut
 
 /// Divides the leaves of the root leaf page at which an insert stands, and its own leaf, by the
 /// class. The new inner tuple becomes the root's only tuple, and each list goes as a chain to one
-/// other leaf page. Where the class puts all in one node, the tuple is all-the-same: it has 8 nodes of
+/// other leaf page. Of the blocks touched, each but that where the insert stands and that of the tuple
+/// above was latched by no other seat.
+/// Where the class puts all in one node, the tuple is all-the-same: it has 8 nodes of
 /// that label, which are filled in turn. `LeftOut` comes exactly where the lists do not fit with the
 /// leaf on one page; then it is in none of them. The spread rises then only where all leaves but the new
 /// one are in one node. `IndexFull` comes only where a pick needs a new page and there may be none.
@@ -91,9 +96,10 @@ pub fn split_leaf<O: OpClass>(
     requires of_key { (key : Option O.Key) × IsCarried O.meaning (sheets_of table.old) descent.old key }
     requires no_room { Fits table.old descent.old.stand (Live (carried descent.old) 0) → ⊥ }
     ensures ok { IfOk result (λ out. IsSplitOut O.meaning table.old table.new descent.old descent.new out) }
+    ensures held { OnOk result (TouchesFree table.old table.new descent.old seat) }
     ensures cause { IfOk result (λ out. IsCause (root_bytes O.meaning table.old descent.old) out) }
     ensures rise { IfOk result (λ out. (out ≡ SplitOut.LeftOut → PartsWithout O.meaning table.old table.new descent.old descent.new 0) ⊎ root_in_one O.meaning table.old descent.old) }
-    ensures full { IsErrOf result IndexFull → IsSplitFull table.old }
+    ensures full { IsErrOf result IndexFull → IsRootFull O.meaning table.old descent.old seat }
     ensures clock { IsErrOf result ClockFull → ⊥ }
     ensures err { OnErr result (table.new ≡ table.old) }
     ensures err_descent { OnErr result (descent.new ≡ descent.old) }

@@ -4,12 +4,13 @@ use Rattle.spg_tree.specs.Descents.{Descending, in_nulls}
 use Rattle.spg_descend.specs.Below.{IsTicked}
 use Rattle.spg_descend.specs.Leaves.{stand_block}
 use Rattle.spg_descend.specs.Follows.{tuple_place}
-use Rattle.spg_split.specs.Splits.{IsSplitFull, split_cost}
+use Rattle.spg_split.specs.Splits.{split_cost}
+use Rattle.spg_split.specs.Fulls.{IsChainFull}
 use Rattle.spg_split.specs.Below.{IsChainSplit}
 use Rattle.spg_split.specs.declared.split.SplitOut.{SplitOut}
 use Rattle.spg_core.proofs.Moves.{put_out, chain_out, kinds_grow, at_chain, not_empty, below_root, makes_same, makes_below, freed_pages}
 use Rattle.spg_core.proofs.Ends.{chain_leaves, chain_ends}
-use Rattle.spg_core.proofs.Limits.{split_near}
+use Rattle.spg_core.proofs.Limits.{chain_near}
 use Rattle.spg_core.proofs.Holding.{put_free, anew_holds}
 use Rattle.spg_core.proofs.insert.divide_chain.Goals as goal
 
@@ -21,8 +22,8 @@ split_chain-requires-clause-spot g c κs within =
 
 pub returns-in_err-split_chain-clause-full : goal.returns-in_err-split_chain-clause-full
 returns-in_err-split_chain-clause-full g c = λ h.
-    let full : IsSplitFull c.args.table.now = search rules in
-    (inl (below_root c.args.table.now c.args.descent.now c.requires.stands c.requires.elsewhere c.requires.below), split_near c.args.table.now full)
+    let full : IsChainFull g.O.OpClass.meaning c.args.table.now c.args.descent.now c.args.seat = search rules in
+    (inl (below_root c.args.table.now c.args.descent.now c.requires.stands c.requires.elsewhere c.requires.below), chain_near g.O.OpClass.meaning c.args.table.now c.args.descent.now c.args.seat full)
 
 pub returns-in_err-split_chain-clause-clock : goal.returns-in_err-split_chain-clause-clock
 returns-in_err-split_chain-clause-clock g c = λ h.

@@ -1,11 +1,12 @@
 use Rattle.std.proofs.Common.{rules, ⊎_elim, ap, subst, inr}
 use Rattle.spg_tree.specs.Descents.{Descending}
 use Rattle.spg_descend.specs.Follows.{tuple_place}
-use Rattle.spg_split.specs.Splits.{IsSplitOut, IsSplitFull, split_cost}
+use Rattle.spg_split.specs.Splits.{IsSplitOut, split_cost}
+use Rattle.spg_split.specs.Fulls.{IsRootFull}
 use Rattle.spg_split.specs.declared.split.SplitOut.{SplitOut}
 use Rattle.spg_core.proofs.Moves.{put_out, calm_grow, root_full, root_leaves, makes_same, freed_pages}
 use Rattle.spg_core.proofs.Ends.{root_ends}
-use Rattle.spg_core.proofs.Limits.{split_near}
+use Rattle.spg_core.proofs.Limits.{root_near}
 use Rattle.spg_core.proofs.Holding.{put_free, holds_same}
 use Rattle.spg_core.proofs.insert.divide_root.Goals as goal
 
@@ -25,8 +26,8 @@ returns-in-Put-clause-ok g c =
 
 pub returns-in_err-split_leaf-clause-full : goal.returns-in_err-split_leaf-clause-full
 returns-in_err-split_leaf-clause-full g c = λ h.
-    let full : IsSplitFull c.args.table.now = search rules in
-    (inr (root_full g.O.OpClass.meaning c.args.table.now c.args.descent.now c.requires.shape c.requires.stands c.requires.elsewhere c.requires.no_room c.requires.root), split_near c.args.table.now full)
+    let full : IsRootFull g.O.OpClass.meaning c.args.table.now c.args.descent.now c.args.seat = search rules in
+    (inr (root_full g.O.OpClass.meaning c.args.table.now c.args.descent.now c.requires.shape c.requires.stands c.requires.elsewhere c.requires.no_room c.requires.root), root_near g.O.OpClass.meaning c.args.table.now c.args.descent.now c.args.seat full)
 
 pub returns-in-Put-clause-latches : goal.returns-in-Put-clause-latches
 returns-in-Put-clause-latches g c = λ h.

@@ -4,6 +4,7 @@ use Rattle.spg_chain.specs.Chains.{chain_members, leaves_of}
 use Rattle.spg_tree.specs.Table.{tuples_at}
 use Rattle.spg_descend.specs.Carried.{carried}
 use Rattle.spg_descend.specs.Below.{IsTicked}
+use Rattle.spg_descend.specs.Held.{TouchesFree}
 use Rattle.spg_forest.specs.Divisions.{rests_of}
 use Rattle.spg_split.specs.Dividing.{AreValues, rows_of}
 use Rattle.spg_split.specs.Parting.{IsParted}
@@ -14,6 +15,8 @@ use Rattle.spg_split.proofs.Standing.{rest_fits, tuple_fits, divided_as, keys_as
 use Rattle.spg_split.proofs.ChainStanding.{several, keys, may_divide, ready, some_leaves, others_fit, inner_fits}
 use Rattle.spg_split.proofs.ChainJoining.{chain_done, chain_cause}
 use Rattle.spg_split.proofs.Causes.{chain_rise}
+use Rattle.spg_split.proofs.Fulls.{chain_full}
+use Rattle.spg_split.proofs.Held.{on_ok_then, chain_held}
 use Rattle.spg_split.proofs.Outcome.{if_ok_then}
 use Rattle.spg_split.proofs.below.divide_chain.Goals as goal
 
@@ -84,6 +87,10 @@ returns-clause-ok g c =
     (λ done. IsChainWay g.O.OpClass.meaning c.args.table.now c.part_chain.new.table c.args.descent.now done.at done.way × IsTicked c.args.table.now c.part_chain.new.table × MakesBelow c.args.table.now c.part_chain.new.table c.args.descent.now.parent done.at)
     (λ done W. chain_done g.O.OpClass.meaning g.O.OpClass.codes c.args.table.now c.args.descent.now c.args.head c.args.parent c.args.node c.requires.shape c.requires.stands c.requires.above c.requires.spot c.requires.of_key c.requires.long c.requires.tick c.in_ok-division.division D N c.in_ok-parts.parts P c.args.seat c.part_chain.new.table done W) c.part_chain.ensures.ok
 
+pub returns-clause-held : goal.returns-clause-held
+returns-clause-held g c = on_ok_then c.part_chain.result (λ done. IsParted c.args.table.now c.part_chain.new.table c.args.head c.args.parent c.args.node c.args.seat c.in_ok-parts.parts done) (TouchesFree c.args.table.now c.part_chain.new.table c.args.descent.now c.args.seat)
+    (λ done W. chain_held c.args.table.now c.part_chain.new.table c.args.descent.now c.args.head c.args.parent c.args.node c.args.seat c.in_ok-parts.parts done c.requires.stands c.requires.above c.part_chain.ensures.sound.latched W) c.part_chain.ensures.ok
+
 pub returns-clause-cause : goal.returns-clause-cause
 returns-clause-cause g c =
     let V = (subst (λ (s : Sheet). AreValues c.in_ok-values.values (leaves_of (chain_members s.tuples c.args.head.offset) ++ carried c.args.descent.now ∷ [])) c.page.ensures c.in_ok-values.ensures) in
@@ -102,3 +109,10 @@ returns-clause-rise g c =
     if_ok_then c.part_chain.result (λ done. IsParted c.args.table.now c.part_chain.new.table c.args.head c.args.parent c.args.node c.args.seat c.in_ok-parts.parts done)
     (λ done. RisesOnly (chain_in_one g.O.OpClass.meaning c.args.table.now c.args.descent.now) done.way)
     (λ done W. chain_rise g.O.OpClass.meaning c.args.table.now c.args.descent.now c.args.head c.requires.stands c.in_ok-division.division D c.in_ok-parts.parts P W.plan done.way W.way) c.part_chain.ensures.ok
+
+pub returns-clause-full : goal.returns-clause-full
+returns-clause-full g c = λ h.
+    let V = (subst (λ (s : Sheet). AreValues c.in_ok-values.values (leaves_of (chain_members s.tuples c.args.head.offset) ++ carried c.args.descent.now ∷ [])) c.page.ensures c.in_ok-values.ensures) in
+    let D = divided_as g.O.OpClass.meaning (option_copied c.recon.result) c.args.descent.now.recon c.as_slice.result.now (rests_of (leaves_of (chain_members (tuples_at c.args.table.now c.args.head.block) c.args.head.offset) ++ carried c.args.descent.now ∷ [])) c.in_ok-division.division c.recon.ensures.value (c.as_slice.ensures ∙ V.rests) c.in_ok-division.ensures in
+    let P = parts_as c.as_slice-2.result.now (rows_of (leaves_of (chain_members (tuples_at c.args.table.now c.args.head.block) c.args.head.offset) ++ carried c.args.descent.now ∷ [])) c.in_ok-division.division c.in_ok-parts.parts (c.as_slice-2.ensures ∙ V.rows) c.in_ok-parts.ensures in
+    chain_full g.O.OpClass.meaning c.args.table.now c.args.descent.now c.args.head c.args.parent c.args.node c.args.seat c.requires.stands c.requires.above c.in_ok-division.division D c.in_ok-parts.parts P (c.part_chain.ensures.full h)

@@ -1,9 +1,10 @@
-use Rattle.std.proofs.Common.{ℕ, List, length, take, sym, ap₂, ◌∙◌, subst, arith}
+use Rattle.std.proofs.Common.{rules, ℕ, ◌+◌, List, length, take, sym, ap₂, ◌∙◌, subst, arith}
 use Rattle.spg_forest.specs.Tuples.{Tuple}
-use Rattle.spg_forest.specs.Sheets.{Sheet}
+use Rattle.spg_forest.specs.Sheets.{Sheet, size_of}
 use Rattle.spg_chain.specs.Chains.{IsChainedPage}
 use Rattle.spg_tree.specs.Table.{Table, with_touched}
 use Rattle.spg_split.specs.Placing.{taken_by}
+use Rattle.spg_split.specs.Fulls.{AreHomesFull}
 use Rattle.spg_split.specs.Homes.{blocks_touched}
 use Rattle.spg_split.specs.Planning.{IsLeft}
 use Rattle.spg_split.specs.Writing.{parted_table, MayPart}
@@ -45,3 +46,8 @@ returns-clause-ok c = record {
       (c.write_chain-at.ensures.table ∙ ap₂ (λ (ts : List Tuple) (ns : List ℕ). parted_table c.pick_homes.new.table c.args.head c.args.parent c.args.node c.in_ok-homes.homes.inner c.in_ok-homes.homes.rest c.args.parts.inner (λ j. taken_by j (take c.plan_lists-plan.result.count ts) ns) c.plan_lists-plan.result.cut (length c.args.parts.links)) c.as_slice.ensures c.as_slice-2.ensures)
       (c.touched_by-touched.ensures ∙ ap₂ (λ a b. blocks_touched c.args.head.block c.args.parent.block c.in_ok-homes.homes a b) c.page_count-before.ensures.value c.page_count.ensures.value);
 }
+
+pub returns-in_err-homes-clause-full : goal.returns-in_err-homes-clause-full
+returns-in_err-homes-clause-full c = λ h.
+    let full : AreHomesFull c.args.table.now c.args.head.block c.args.parent.block (size_of c.args.parts.inner + 4) c.plan_lists-plan.result.rest c.args.seat = search rules in
+    (c.left_without.result, subst (λ (s : Sheet). IsLeft s.tuples c.args.head.offset c.left_without.result) c.page.ensures c.left_without.ensures.left, c.plan_lists-plan.result, c.plan_lists-plan.ensures.plan, full)

@@ -2,6 +2,7 @@ use Rattle.std.proofs.Common.{[], ◌∷◌, ◌++◌, is_none, option_copied, l
 use Rattle.spg_forest.specs.Links.{leaves_on}
 use Rattle.spg_tree.specs.Table.{tuples_at}
 use Rattle.spg_descend.specs.Carried.{carried}
+use Rattle.spg_descend.specs.Held.{TouchesFree}
 use Rattle.spg_forest.specs.Divisions.{rests_of}
 use Rattle.spg_forest.specs.Sheets.{Sheet}
 use Rattle.spg_split.specs.Dividing.{AreAllLive, rows_of}
@@ -10,6 +11,8 @@ use Rattle.spg_split.specs.Parts.{IsWay, PutsLists, going}
 use Rattle.spg_split.specs.Causes.{IsCauseOf, RisesOnly, root_bytes, root_in_one}
 use Rattle.spg_split.specs.Ways.{IsSplitWay}
 use Rattle.spg_split.proofs.Causes.{root_cause, root_rise}
+use Rattle.spg_split.proofs.Fulls.{root_full}
+use Rattle.spg_split.proofs.Held.{on_ok_then, root_held}
 use Rattle.spg_split.proofs.Outcome.{if_ok_then}
 use Rattle.spg_split.proofs.Standing.{live_there, several, keys, rest_fits, tuple_fits, ready, leaf_count, count_vs, others_fit, values_are, divided_as, keys_as, parts_as, nulls_recon}
 use Rattle.spg_split.proofs.split.split_root.Goals as goal
@@ -79,6 +82,10 @@ returns-clause-ok g c =
     (λ way. IsSplitWay g.O.OpClass.meaning c.args.table.now c.put_division.new.table c.args.descent.now way)
     (λ way a b. split_law g.O.OpClass.meaning g.O.OpClass.codes c.args.table.now c.args.descent.now c.args.root c.requires.shape c.requires.stands c.requires.spot c.requires.of_key c.requires.no_room c.in_ok-division.division D N c.in_ok-parts.parts P c.args.seat c.put_division.new.table way a b) c.put_division.ensures.way c.put_division.ensures.ok
 
+pub returns-clause-held : goal.returns-clause-held
+returns-clause-held g c = on_ok_then c.put_division.result (λ way. PutsLists c.args.table.now c.put_division.new.table c.args.root c.args.seat c.in_ok-parts.parts (going c.in_ok-parts.parts way)) (TouchesFree c.args.table.now c.put_division.new.table c.args.descent.now c.args.seat)
+    (λ way a. root_held c.args.table.now c.put_division.new.table c.args.descent.now c.args.root c.args.seat c.in_ok-parts.parts (going c.in_ok-parts.parts way) c.requires.stands a) c.put_division.ensures.ok
+
 pub returns-clause-cause : goal.returns-clause-cause
 returns-clause-cause g c =
     let V = values_are c.args.table.now c.args.root c.args.descent.now c.page.result.now c.in_ok-values.values c.page.ensures c.in_ok-values.ensures in
@@ -94,3 +101,10 @@ returns-clause-rise g c =
     let P = parts_as c.as_slice-2.result.now (rows_of (leaves_on (tuples_at c.args.table.now c.args.root) ++ carried c.args.descent.now ∷ [])) c.in_ok-division.division c.in_ok-parts.parts (c.as_slice-2.ensures ∙ V.rows) c.in_ok-parts.ensures in
     if_ok_then c.put_division.result (λ way. IsWay c.in_ok-parts.parts way) (λ way. RisesOnly (root_in_one g.O.OpClass.meaning c.args.table.now c.args.descent.now) way)
     (λ way a. root_rise g.O.OpClass.meaning c.args.table.now c.args.descent.now c.args.root c.requires.stands c.in_ok-division.division D c.in_ok-parts.parts P way a) c.put_division.ensures.way
+
+pub returns-clause-full : goal.returns-clause-full
+returns-clause-full g c = λ h.
+    let V = values_are c.args.table.now c.args.root c.args.descent.now c.page.result.now c.in_ok-values.values c.page.ensures c.in_ok-values.ensures in
+    let D = divided_as g.O.OpClass.meaning (option_copied c.recon.result) c.args.descent.now.recon c.as_slice.result.now (rests_of (leaves_on (tuples_at c.args.table.now c.args.root) ++ carried c.args.descent.now ∷ [])) c.in_ok-division.division c.recon.ensures.value (c.as_slice.ensures ∙ V.rests) c.in_ok-division.ensures in
+    let P = parts_as c.as_slice-2.result.now (rows_of (leaves_on (tuples_at c.args.table.now c.args.root) ++ carried c.args.descent.now ∷ [])) c.in_ok-division.division c.in_ok-parts.parts (c.as_slice-2.ensures ∙ V.rows) c.in_ok-parts.ensures in
+    root_full g.O.OpClass.meaning c.args.table.now c.args.descent.now c.args.root c.args.seat c.requires.stands c.in_ok-division.division D c.in_ok-parts.parts P (c.put_division.ensures.full h)
