@@ -2,8 +2,8 @@ ghost use Rattle.std.specs.Prelude.{◌≡◌, OnOk};
 ghost use Rattle.spg_core.specs.Stage.{free};
 ghost use Rattle.spg_core.specs.Seen.{stage_at};
 
+use crate::classes::Tried;
 use crate::driver::{Ask, find, insert};
-use spg_app::{ClassName, Spoken};
 use spg_base::{Memory, Point, PointCond, Row, Stat};
 use spg_core::State;
 use spg_kd::Kd;
@@ -14,7 +14,7 @@ use std::test::Fail;
 
 /// The keys of inserts, which are counted from 1.
 #[derive(Clone, Copy)]
-pub(crate) enum Keys {
+enum Keys {
     /// The number of the insert and this y.
     Line(i32),
     /// The first point at odd numbers, the second at even ones.
@@ -35,7 +35,7 @@ fn key_at(keys: Keys, number: u16) -> Option<Point> {
 }
 
 /// Inserts so many keys with rows 1.1, 1.2 and so on. The letters are those of the last insert.
-pub(crate) fn fill<O: Spoken>(
+fn fill<O: Tried>(
     state: &mut State<O>,
     keys: Keys,
     count: u16,
@@ -50,6 +50,14 @@ pub(crate) fn fill<O: Spoken>(
         insert(state, Row::at(1, number), key_at(keys, number), log)?;
     }
     Ok(())
+}
+
+/// The classes.
+#[derive(Clone, Copy)]
+enum ClassName {
+    Quad,
+    Kd,
+    Radix,
 }
 
 /// Keys of an index, the letters of the last insert, queries with the numbers of rows found and of
@@ -217,7 +225,7 @@ const CASES: [Case; 7] = [
 ];
 
 /// Runs the queries, and compares their numbers and the counts of the index with those of the case.
-fn compare<R: AllocGlobal + Abort, O: Spoken>(
+fn compare<R: AllocGlobal + Abort, O: Tried>(
     rt: &R,
     state: &mut State<O>,
     case: &Case,
@@ -233,7 +241,7 @@ fn compare<R: AllocGlobal + Abort, O: Spoken>(
 }
 
 /// Builds the index of a case and compares what it answers.
-fn try_case<R: AllocGlobal + Abort, O: Spoken>(rt: &R, class: O, case: &Case) -> Result<(), Fail> {
+fn try_case<R: AllocGlobal + Abort, O: Tried>(rt: &R, class: O, case: &Case) -> Result<(), Fail> {
     let mut state = State::new(rt.alloc(), class, 65536)?;
     let mut log = Vec::new(rt.alloc());
     fill(&mut state, case.keys, case.count, &mut log)?;

@@ -2,11 +2,10 @@ ghost use Rattle.std.specs.Prelude.{◌≡◌, true, false, IfOk, OnOk};
 ghost use Rattle.spg_core.specs.Stage.{free, IsInserting};
 ghost use Rattle.spg_core.specs.Seen.{stage_at};
 
-use spg_app::{AnyCond, AnyKey, Spoken};
-use spg_base::{Bytes, List, Memory, Point, PointCond, Row, SeatNo};
+use crate::classes::Tried;
+use spg_base::{List, Memory, Point, PointCond, Row, SeatNo};
 use spg_core::{Closed, InsertOut, OpenKind, OpenRefused, State, StepRefused};
-use spg_opclass::Query;
-use spg_radix::ByteText;
+use spg_opclass::{OpClass, Query};
 use spg_rows::Why;
 use std::alloc::Global;
 
@@ -22,7 +21,7 @@ fn letter(out: &InsertOut) -> u8 {
 
 /// Whether the insert of seat 0 has ended with a section, whose letter is noted. It is given up
 /// where it is refused.
-fn ends<O: Spoken>(state: &mut State<O>, log: &mut Vec<u8>) -> Result<bool, Memory>
+fn ends<O: OpClass>(state: &mut State<O>, log: &mut Vec<u8>) -> Result<bool, Memory>
     requires { IsInserting (stage_at state.old 0) }
     ensures ended { IfOk result (λ ended. ended ≡ true → stage_at state.new 0 ≡ free) }
     ensures goes_on { IfOk result (λ ended. ended ≡ false → IsInserting (stage_at state.new 0)) }
@@ -45,28 +44,9 @@ fn ends<O: Spoken>(state: &mut State<O>, log: &mut Vec<u8>) -> Result<bool, Memo
     }
 }
 
-/// The key for a point of a class that has points, or a null.
-fn key_in<O: Spoken>(class: &O, key: Option<Point>) -> Result<Option<O::Key>, Memory> {
-    match key {
-        Some(point) => class.key_in(&AnyKey::Point(point)),
-        None => Ok(None),
-    }
-}
-
-/// The key for a text of a class that has texts.
-pub(crate) fn text_in<O: Spoken>(class: &O, text: Bytes) -> Result<O::Key, Memory> {
-    let Some(text) = ByteText::new(text) else {
-        return Err(Memory);
-    };
-    match class.key_in(&AnyKey::Text(text))? {
-        Some(key) => Ok(key),
-        None => Err(Memory),
-    }
-}
-
 /// Begins an insert as seat 0, and does at most so many of its sections, each of which is noted with
 /// a letter, or `U` where the row is used. What has not ended then is given up.
-pub(crate) fn begin<O: Spoken>(
+fn begin<O: OpClass>(
     state: &mut State<O>,
     row: Row,
     key: Option<O::Key>,
@@ -94,7 +74,7 @@ pub(crate) fn begin<O: Spoken>(
 }
 
 /// Does an insert of a point or a null.
-pub(crate) fn insert<O: Spoken>(
+pub(crate) fn insert<O: Tried>(
     state: &mut State<O>,
     row: Row,
     key: Option<Point>,
@@ -103,8 +83,7 @@ pub(crate) fn insert<O: Spoken>(
     requires { stage_at state.old 0 ≡ free }
     ensures { OnOk result (stage_at state.new 0 ≡ free) }
 {
-    let key = key_in(state.class(), key)?;
-    begin(state, row, key, 8, log)
+    begin(state, row, key.and_then(O::key), 8, log)
 }
 
 /// What a test asks for.
@@ -116,13 +95,13 @@ pub(crate) enum Ask {
 }
 
 /// The class's query.
-fn query_in<O: Spoken>(alloc: Global, class: &O, ask: Ask) -> Result<Query<O>, Memory> {
+fn query_in<O: Tried>(alloc: Global, ask: Ask) -> Result<Query<O>, Memory> {
     match ask {
         Ask::All => Ok(Query::All),
         Ask::Null => Ok(Query::Null),
         Ask::Where(cond) => {
             let mut conds = List::new(alloc);
-            if let Some(cond) = class.cond_in(&AnyCond::Point(cond))? {
+            if let Some(cond) = O::cond(cond) {
                 conds.push(cond)?;
             }
             Ok(Query::Where(conds))
@@ -131,7 +110,7 @@ fn query_in<O: Spoken>(alloc: Global, class: &O, ask: Ask) -> Result<Query<O>, M
 }
 
 /// Does a scan as seat 0, the last item first.
-pub(crate) fn find<O: Spoken>(
+pub(crate) fn find<O: Tried>(
     alloc: Global,
     state: &mut State<O>,
     ask: Ask,
@@ -139,7 +118,7 @@ pub(crate) fn find<O: Spoken>(
     requires { stage_at state.old 0 ≡ free }
     ensures { OnOk result (stage_at state.new 0 ≡ free) }
 {
-    let query = query_in(alloc, state.class(), ask)?;
+    let query = query_in(alloc, ask)?;
     state.open_scan(SeatNo::first(), query)?;
     for _ in 0..u64::MAX {
         match state.open_of(SeatNo::first()) {
