@@ -17,3 +17,4 @@ pub mod NodeLaw
 pub mod NodeWrites
 pub mod NodeShift
 pub mod NodeMoved
+pub mod Held

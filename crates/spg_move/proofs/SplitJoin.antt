@@ -36,8 +36,8 @@ use Rattle.spg_descend.specs.Puts.{IsQuiet}
 use Rattle.spg_split.specs.Parts.{bare}
 use Rattle.spg_descend.specs.Answers.{IsAnswered}
 use Rattle.spg_move.specs.Answers.{IsInnerOf}
-use Rattle.spg_move.specs.Splits.{PartsTuple, split_cost, lower_want_at}
-use Rattle.spg_move.specs.Splitting.{lower_want, split_touched, MayPart, IsParted}
+use Rattle.spg_move.specs.Splits.{PartsTuple, split_cost, lower_want_at, fits_beside_at}
+use Rattle.spg_move.specs.Splitting.{lower_want, fits_beside, split_touched, MayPart, IsParted}
 use Rattle.spg_move.proofs.SplitHomes.{IsHoused, housed, IsAway, away, touched_few}
 use Rattle.spg_move.proofs.SplitLaw.{IsDivision}
 use Rattle.spg_move.proofs.SplitLaw as law
@@ -269,6 +269,9 @@ module _ {Key Recon Cond : Type 0} (m : Meaning Key Recon Cond) (t : Table) (H :
       pub want_is : (seat : ℕ) → lower_want (table.sheet_at t at.block).nulls at.block b seat ≡ lower_want_at t d low seat
       want_is seat = ap (λ (z : Tuple). lower_want (table.sheet_at t at.block).nulls at.block z seat) lower_same ∙ ap (λ (o : Place). lower_want (table.sheet_at t o.block).nulls o.block lo seat) place_is
           ∙ ap (λ (n : Bool). lower_want n x.block lo seat) (standing.main m t H splits codes d c pre low labels I N K A ∙ sym N)
+
+      pub beside_is : fits_beside t at a b ≡ fits_beside_at t d pre labels low
+      beside_is = ap (λ (z : Tuple). fits_beside t at a z) lower_same ∙ ap (λ (z : Tuple). fits_beside t at z lo) upper_is ∙ ap (λ (o : Place). fits_beside t o up lo) place_is
 
       pub parts_of : (t2 : Table) (seat : ℕ) (d2 : Descending Recon) → IsParted t t2 at c seat a b → d2 ≡ risen d → PartsTuple m t t2 d d2 pre labels c
       parts_of t2 seat d2 P e = parts t2 seat (subst (λ (o : Place). IsParted t t2 o c seat up lo) place_is (subst (λ (z : Tuple). IsParted t t2 at c seat z lo) upper_is (subst (λ (z : Tuple). IsParted t t2 at c seat a z) lower_same P))) d2 e

@@ -6,6 +6,7 @@ ghost use Rattle.spg_tree.specs.Pick.{IsFull};
 ghost use Rattle.spg_tree.specs.declared.stand.Stand.TheVariants.{At};
 ghost use Rattle.spg_tree.specs.declared.stand.StepRefused.TheVariants.{IndexFull, ClockFull};
 ghost use Rattle.spg_descend.specs.Carried.{carried, IsCarried};
+ghost use Rattle.spg_descend.specs.Held.{TouchesFree};
 ghost use Rattle.spg_descend.specs.Puts.{Fits};
 ghost use Rattle.spg_descend.specs.Rules.{MayMove};
 ghost use Rattle.spg_descend.specs.Below.{IsAtChain, IsTicked};
@@ -38,6 +39,7 @@ fn move_from<O: OpClass>(
     requires short { MayMove table.old descent.now.stand (Live (carried descent.now) 0) }
     requires clock { table.old.clock + 1 < 2 ^ 48 }
     ensures ok { OnOk result (MovesCarried O.meaning table.old table.new descent.now) }
+    ensures held { OnOk result (TouchesFree table.old table.new descent.now seat) }
     ensures ticked { OnOk result (IsTicked table.old table.new) }
     ensures makes { OnOk result (MakesNone table.old table.new) }
     ensures full { IsErrOf result IndexFull → IsFull table.old (carried_want table.old descent.now seat) }
@@ -65,10 +67,11 @@ fn move_from<O: OpClass>(
 /// Moves the short chain at which an insert stands, with the insert's leaf behind its head, to one
 /// other leaf page. The old head becomes a redirect to the new one with the clock's moment, the other
 /// tuples become placeholders, the downlink of the tuple above is set, and the clock is raised. A dead
-/// tuple is a chain of no tuples. No inner tuple is made. `ClockFull` comes exactly where the clock is
-/// 2^48 - 1, before a page is picked; `IndexFull` only where the pick of a leaf page for the chain with
-/// its new leaf, by this seat and not on the old block, needs a new page and there may be none. After a
-/// refusal the table is as it was.
+/// tuple is a chain of no tuples. No inner tuple is made. Of the blocks touched, each but that where
+/// the insert stands and that of the tuple above was latched by no other seat. `ClockFull` comes
+/// exactly where the clock is 2^48 - 1, before a page is picked; `IndexFull` only where the pick of a
+/// leaf page for the chain with its new leaf, by this seat and not on the old block, needs a new page
+/// and there may be none. After a refusal the table is as it was.
 pub fn move_chain<O: OpClass>(
     alloc: Global,
     table: &mut PageTable,
@@ -81,6 +84,7 @@ pub fn move_chain<O: OpClass>(
     requires no_room { Fits table.old descent.now.stand (Live (carried descent.now) 0) → ⊥ }
     requires short { MayMove table.old descent.now.stand (Live (carried descent.now) 0) }
     ensures ok { OnOk result (MovesCarried O.meaning table.old table.new descent.now) }
+    ensures held { OnOk result (TouchesFree table.old table.new descent.now seat) }
     ensures ticked { OnOk result (IsTicked table.old table.new) }
     ensures makes { OnOk result (MakesNone table.old table.new) }
     ensures full { IsErrOf result IndexFull → IsFull table.old (carried_want table.old descent.now seat) }

@@ -2,7 +2,7 @@ ghost use Rattle.std.specs.Prelude.{◌≡◌, ◌<◌, ◌≤◌, ◌+◌, ◌^
 ghost use Rattle.spg_forest.specs.Sheets.{size_of};
 ghost use Rattle.spg_page.specs.Changes.{room_of};
 ghost use Rattle.spg_page.specs.Kinds.{IsOffset};
-ghost use Rattle.spg_tree.specs.Table.{tuples_at};
+ghost use Rattle.spg_tree.specs.Table.{tuples_at, IsSound};
 ghost use Rattle.spg_tree.specs.Pick.{IsFull};
 ghost use Rattle.spg_tree.specs.declared.stand.StepRefused.TheVariants.{IndexFull, ClockFull};
 ghost use Rattle.spg_split.specs.Writing.{new_place};
@@ -94,6 +94,7 @@ pub(crate) fn shift(
     ensures full { IsErrOf result IndexFull → IsFull table.old (node_want nulls at.now.block (size_of longer.now) seat) }
     ensures clock { IsErrOf result ClockFull → ⊥ }
     ensures err { OnErr result (table.new ≡ table.old) }
+    ensures sound { IsSound table.old }
 {
     let before = table.page_count();
     let block = table.pick_page(

@@ -1,7 +1,7 @@
-ghost use Rattle.std.specs.Prelude.{◌≡◌, ◌<◌, ◌≤◌, ◌+◌, ◌-◌, length, IfOk, OnOk, OnErr, IsErrOf};
+ghost use Rattle.std.specs.Prelude.{◌≡◌, ◌<◌, ◌≤◌, ◌+◌, ◌-◌, false, length, IfOk, OnOk, OnErr, IsErrOf};
 ghost use Rattle.spg_forest.specs.Sheets.{size_of, links};
 ghost use Rattle.spg_page.specs.Changes.{room_of};
-ghost use Rattle.spg_tree.specs.Table.{sheet_at, tuples_at};
+ghost use Rattle.spg_tree.specs.Table.{sheet_at, tuples_at, IsSound};
 ghost use Rattle.spg_tree.specs.Pick.{IsFull};
 ghost use Rattle.spg_tree.specs.declared.stand.StepRefused.TheVariants.{IndexFull, ClockFull};
 ghost use Rattle.spg_move.specs.Splitting as splits;
@@ -35,7 +35,7 @@ fn pick_home(
 ) -> Result<Block, StepRefused>
     requires { MayPart table.old at.now upper.now }
     ensures ok { IfOk result (λ home. GoesTo table.old table.new at.now upper.now lower.now home seat) }
-    ensures full { IsErrOf result IndexFull → IsFull table.old (lower_want (sheet_at table.old at.now.block).nulls at.now.block lower.now seat) }
+    ensures full { IsErrOf result IndexFull → (splits.fits_beside table.old at.now upper.now lower.now ≡ false) × IsFull table.old (lower_want (sheet_at table.old at.now.block).nulls at.now.block lower.now seat) }
     ensures clock { IsErrOf result ClockFull → ⊥ }
     ensures err { OnErr result (table.new ≡ table.old) }
 {
@@ -109,9 +109,10 @@ pub(crate) fn part_tuple(
     requires may { MayPart table.old at upper.now }
     requires node { child < length (links upper.now) }
     ensures ok { OnOk result (IsParted table.old table.new at child seat upper.now lower.now) }
-    ensures full { IsErrOf result IndexFull → IsFull table.old (lower_want (sheet_at table.old at.block).nulls at.block lower.now seat) }
+    ensures full { IsErrOf result IndexFull → (splits.fits_beside table.old at upper.now lower.now ≡ false) × IsFull table.old (lower_want (sheet_at table.old at.block).nulls at.block lower.now seat) }
     ensures clock { IsErrOf result ClockFull → ⊥ }
     ensures err { OnErr result (table.new ≡ table.old) }
+    ensures sound { IsSound table.old }
 {
     let before = table.page_count();
     let home = pick_home(alloc, table, &at, upper, lower, seat)?;

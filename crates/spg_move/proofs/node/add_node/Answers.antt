@@ -17,6 +17,7 @@ use Rattle.spg_move.specs.Widening.{widened, widened_table, node_want, FitsInPla
 use Rattle.spg_move.proofs.NodeStanding.{within, place_within, small, not_wider}
 use Rattle.spg_move.proofs.NodeLaw.{added_here}
 use Rattle.spg_move.proofs.NodeMoved.{shifted_out}
+use Rattle.spg_move.proofs.Held.{widened_held}
 use Rattle.spg_move.proofs.node.add_node.Goals as goal
 
 pub longer_tuple-requires-clause-offset : goal.longer_tuple-requires-clause-offset
@@ -70,3 +71,6 @@ returns-in_err-to-clause-clock g c =
     let wide : FitsWider c.args.table.now c.args.descent.now c.args.at c.args.label → ⊥ = not_wider c.args.table.now c.args.descent.now c.args.at c.args.label c.page-2.result.now c.tuple_place-here.result c.in_ok-longer.longer c.page-2.ensures eh el (λ f. let k : true ≡ false = sym (c.fits_in_place.ensures.1 f) ∙ c.if-fits_in_place.false in cc) in
     let f : IsErrOf c.from_residual-in_err-to.result ClockFull → c.args.table.now.clock + 1 ≡ 2 ^ 48 = search rules in
     λ e. (wide, f e)
+
+pub returns-then-fits_in_place-clause-held : goal.returns-then-fits_in_place-clause-held
+returns-then-fits_in_place-clause-held g c = widened_held c.args.table.now c.widen_here.new.table c.args.descent.now c.args.seat c.tuple_place-here.result c.in_ok-longer.longer c.requires.spot (c.tuple_place-here.ensures ∙ ap tuple_place c.stand.ensures) c.widen_here.ensures
