@@ -1,5 +1,5 @@
 -- Where a pick finds no page, fewer than 4 blocks are left.
-use Rattle.std.proofs.Common.{◌≡◌, ℕ, suc, ◌+◌, ◌-◌, ◌≤◌, nat_le, Bool, true, false, cond, List, [], ◌∷◌, ◌++◌, ⊎_elim, Option, None, Some, length, length-append, length-set, replicate, refl, ap, ◌∙◌, arith}
+use Rattle.std.proofs.Common.{◌≡◌, ℕ, suc, ◌+◌, ◌-◌, ◌≤◌, nat_le, Bool, true, false, cond, [], ◌∷◌, ◌++◌, ⊎_elim, Option, None, Some, length, length-append, length-set, replicate, refl, ap, ◌∙◌, arith}
 use Rattle.std.proofs.lemmas.List.{length-replicate}
 use Rattle.spg_opclass.specs.Meaning.{Meaning}
 use Rattle.spg_forest.specs.View.{Place}
@@ -14,8 +14,6 @@ use Rattle.spg_tree.specs.Two.{after_first}
 use Rattle.spg_tree.specs.declared.want.Want.{Want}
 use Rattle.spg_descend.specs.Carried.{carried}
 use Rattle.spg_descend.specs.Follows.{tuple_place}
-use Rattle.spg_split.specs.declared.division.Division.{Division}
-use Rattle.spg_split.specs.declared.plan.ListSize.{ListSize}
 use Rattle.spg_split.specs.Causes.{tuples_divided, root_bytes, leaves_below, chain_bytes}
 use Rattle.spg_split.specs.Dividing.{division_of}
 use Rattle.spg_split.specs.Fulls.{AreFull, IsRootFull, IsChainFull, IsFullBelow, those_put, size_gone}
@@ -75,9 +73,9 @@ chain_near m t d seat full = below d.parent full
     below None F = absurd F
     below (Some (p, i)) F =
         let x : Place = tuple_place d.stand in
-        let dv : Division = division_of m d.recon (rests_of (leaves_below t d x)) in
+        let dv = division_of m d.recon (rests_of (leaves_below t d x)) in
         let n : ℕ = length dv.frame.labels in
-        let rest : ListSize = size_gone (those_put (chain_bytes m t d) (tuples_divided m d.recon (leaves_below t d x))) dv.node_of n (left_at (tuples_at t x.block) x.offset) in
+        let rest = size_gone (those_put (chain_bytes m t d) (tuples_divided m d.recon (leaves_below t d x))) dv.node_of n (left_at (tuples_at t x.block) x.offset) in
         let need : ℕ = size_of (Inner dv.frame (bare n)) + 4 in
         let nulls : Bool = (sheet_at t x.block).nulls in
         homes_near (fits_above t p.block need) (nat_le 1 rest.tuples) t (inner_want nulls p.block need seat) (rest_want nulls x.block rest seat) refl F

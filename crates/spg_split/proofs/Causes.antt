@@ -20,7 +20,7 @@ use Rattle.spg_split.specs.declared.plan.Plan.{Plan}
 use Rattle.spg_split.specs.declared.put.Parted.{Parted}
 use Rattle.spg_split.specs.declared.put.Parted.TheVariants.{With, Without}
 use Rattle.spg_split.specs.declared.split.SplitOut.{SplitOut}
-use Rattle.spg_split.specs.declared.split.SplitOut.TheVariants.{Put, LeftOut}
+use Rattle.spg_split.specs.declared.split.SplitOut.TheVariants.{LeftOut}
 use Rattle.spg_split.specs.Splits.{PartsWithout}
 use Rattle.spg_split.specs.Below.{SplitsWithout}
 use Rattle.spg_split.specs.Causes.{IsCause, IsCauseOf, tuples_divided, root_bytes, AreInOne, root_in_one, chain_in_one, RisesOnly}

@@ -23,12 +23,12 @@ use Rattle.spg_split.specs.declared.plan.Left.{Left}
 use Rattle.spg_split.specs.declared.plan.Plan.{Plan}
 use Rattle.spg_split.specs.declared.put.Parted.{Parted}
 use Rattle.spg_split.specs.declared.put.Parted.TheVariants.{With, Without}
-use Rattle.spg_split.specs.Causes.{tuples_divided, root_bytes, leaves_below, chain_bytes}
+use Rattle.spg_split.specs.Causes.{tuples_divided, leaves_below, chain_bytes}
 use Rattle.spg_split.specs.Dividing.{IsDivided, division_of, rows_of}
 use Rattle.spg_split.specs.Fulls.{those_put, gone, size_gone, AreHomesFull, IsChainFull, IsChainFullAt, IsFullBelow, IsPartingFull, IsPuttingFull, IsRootFull}
 use Rattle.spg_split.specs.Parts.{ArePartsOf, IsWay, bare, going, lists_want}
 use Rattle.spg_split.specs.Placing.{leaves_with}
-use Rattle.spg_split.specs.Planning.{IsLeft, IsPlan, IsPlanOf, bytes_away, from_node, left_at}
+use Rattle.spg_split.specs.Planning.{IsPlan, IsPlanOf, bytes_away, from_node, left_at}
 
 put_all : (n : ℕ) (ts : List Tuple) → n ≤ 8160 → those_put n ts ≡ ts
 put_all n ts h = cond-true (nat_le n 8160) ts (take (length ts - 1) ts) (le-leb n 8160 h)

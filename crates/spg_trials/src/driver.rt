@@ -83,7 +83,11 @@ pub(crate) fn insert<O: Tried>(
     requires { stage_at state.old 0 ≡ free }
     ensures { OnOk result (stage_at state.new 0 ≡ free) }
 {
-    begin(state, row, key.and_then(O::key), 8, log)
+    let key = match key {
+        Some(point) => O::key(point),
+        None => None,
+    };
+    begin(state, row, key, 8, log)
 }
 
 /// What a test asks for.
