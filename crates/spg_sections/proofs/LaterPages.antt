@@ -34,10 +34,6 @@ use Rattle.spg_core.proofs.Stands.{stands_same, child_stands, released_same, lat
 use Rattle.spg_core.proofs.Chooses.{framed, key_given}
 use Rattle.spg_descend.specs.Answers.{IsAnswered}
 
-pub not_true : (b : Bool) → (b ≡ true → ⊥) → b ≡ false
-not_true true no_true = absurd (no_true refl)
-not_true false no_true = refl
-
 pub ok_not_err : {T E : Type 0} (r : Result T E) (x : T) (e : E) → r ≡ Ok x → r ≡ Err e → ⊥
 ok_not_err r x e ok err = (cc)
 
