@@ -5,7 +5,7 @@ use crate::division::divide;
 use crate::half::{choose_node, nodes_at};
 use smallvec::SmallVec;
 use spg_base::{Bytes, Memory, Point, PointCond, Same};
-use spg_opclass::{Choice, InnerView, OpClass, Picked};
+use spg_opclass::{Choice, InnerView, OpClass, Picked, SharedClass};
 use spg_points::{NodeAreas, all_hold, decode, encode, kept_nodes, labels_ok};
 use std::alloc::Global;
 
@@ -29,6 +29,8 @@ impl Same for KdRecon {
         Ok(*self)
     }
 }
+
+impl SharedClass for Kd {}
 
 impl OpClass for Kd {
     ghost use Rattle.spg_kd.specs.KdLaws.{kd_matches, kd_adds, kd_splits, kd_picks, kd_keeps, kd_plain, kd_codes};

@@ -53,7 +53,7 @@ with_new_length (l ∷ ls) new = refl
 
 -- at a later moment
 kept_later : {Key Recon Cond : Type 0} (m : Meaning Key Recon Cond) (S : Sheets) → Shape m S → AreChanged m S (record S { clock = S.clock + 1 })
-kept_later m S H = record { count = omega arith; nulls = λ b. refl; fits = λ b. (H.pages.each b).fits; tuples = λ x. inl (refl, refl); empty_root = H.pages.empty_root }
+kept_later m S H = record { count = omega arith; nulls = λ b. refl; fits = λ b. (H.pages.each b).fits; tuples = λ x. inl (refl, refl); empty_root = H.pages.empty_root; kinds = λ b g. refl }
 
 module _ {Key Recon Cond : Type 0} (m : Meaning Key Recon Cond) (S : Sheets) (b : ℕ) (x p : Place) (i : ℕ) (w : Frame) (ns : List (Option Place)) (ls : List Leaf) (new : Leaf)
     (H : Shape m S) (high : 3 ≤ b) (there : b < length S.sheets) (leaf_page : (sheet_at S b).inner ≡ false) (x_high : 3 ≤ x.block) (x_there : x.block < length S.sheets) (apart : x.block ≡ b → ⊥)
@@ -184,7 +184,7 @@ module _ {Key Recon Cond : Type 0} (m : Meaning Key Recon Cond) (S : Sheets) (b 
   -- ---- what stands on the pages
   changed_b : AreChanged m S Sb
   changed_b = changed_page m S S0 b (with_tuples (sheet_at S0 b) us) (kept_later m S H) there refl (placed_fits ts (λ j. vs) 0 1 (H.pages.each b).fits (room, tt))
-      (λ o. ⊎_elim (λ e. inl (e, refl)) (λ (l, n, a, e). inr (subst (λ (t : Tuple). MayStand m Sb (place b o) t) (sym e) (leaf_may o l n a))) (list_tuple ts vs o)) (λ k. absurd (omega arith))
+      (λ o. ⊎_elim (λ e. inl (e, refl)) (λ (l, n, a, e). inr (subst (λ (t : Tuple). MayStand m Sb (place b o) t) (sym e) (leaf_may o l n a))) (list_tuple ts vs o)) (λ k. absurd (omega arith)) (λ k. refl)
     where
       leaf_may : (o : ℕ) (l : Leaf) (n : ℕ) → IsIn l vs → MayStand m Sb (place b o) (Live l n)
       leaf_may o l n a = may_leaf m Sb (place b o) l n (ap (λ (s : Sheet). s.inner) b_same ∙ leaf_page) (subst (λ (u : Bool). IsRestOf m u l.rest) (sym (ap (λ (s : Sheet). s.nulls) b_same)) (rests l a))
@@ -198,7 +198,7 @@ module _ {Key Recon Cond : Type 0} (m : Meaning Key Recon Cond) (S : Sheets) (b 
       (λ o. ⊎_elim (λ e. inl (e, refl)) (λ k. inr (⊎_elim
       (λ e. subst (λ (t : Tuple). MayStand m Sx (place x.block o) t) (sym e) none_may)
       (λ (f, e). subst (λ (t : Tuple). MayStand m Sx (place x.block o) t) (sym e) redirect_may) k)) (left_tuple xs (λ o. Vb (place x.block o)) x_laid x.offset ls x_shows y S.clock o))
-      (λ k. absurd (omega arith))
+      (λ k. absurd (omega arith)) (λ k. refl)
     where
       none_may : {o : ℕ} → MayStand m Sx (place x.block o) Placeholder
       none_may = record { kind = tt; tree = λ v f hs j e a. cc; redirect = λ v u e. cc }
@@ -264,7 +264,7 @@ module _ {Key Recon Cond : Type 0} (m : Meaning Key Recon Cond) (S : Sheets) (b 
   }
 
   becomes : Becomes m S S2 (moved_to (spots S) S.clock x y (Bucket vs) q w ns i) (suc S.clock) (b ∷ x.block ∷ p.block ∷ []) cost
-  becomes = record { shown = subst (λ (U : Place → Spot). IsShown (pages_of S2) U) V2_is shown_2; clock_is = omega arith; pages = pages_kept m S S2 H.pages changed_2; within = within }
+  becomes = record { shown = subst (λ (U : Place → Spot). IsShown (pages_of S2) U) V2_is shown_2; clock_is = omega arith; pages = pages_kept m S S2 H.pages changed_2; within = within; kinds = changed_2.kinds }
 
   -- the law
   pub moves : (r : Option Recon) (key : Option Key) → IsComing m (spots S) x r new key → Adds m S S2 (b ∷ x.block ∷ p.block ∷ []) cost new.row key (moved x y)

@@ -90,6 +90,7 @@ module _ {Key Recon Cond : Type 0} (m : Meaning Key Recon Cond) (adds : AddLaw m
       shown = G.shown;
       clock_is = refl;
       pages = pages_kept m S S2 H.pages G.changed;
+      kinds = G.changed.kinds;
       within = record {
         others = λ b n. sheet_other S x.block _ b (λ e. n (inl e));
         few = omega arith;

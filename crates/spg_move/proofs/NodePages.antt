@@ -21,7 +21,7 @@ module _ {Key Recon Cond : Type 0} (m : Meaning Key Recon Cond) (S : Sheets) whe
   pub timed_stage : (V : Place → Spot) (n : ℕ) → Shape m S → IsShown (pages_of S) V → Stage m S (record S { clock = n }) V
   timed_stage V n H A = record {
     shown = record { meta = A.meta; root = A.root; low = A.low; pages = A.pages };
-    changed = record { count = omega arith; nulls = λ b. refl; fits = λ b. (H.pages.each b).fits; tuples = λ x. inl (refl, refl); empty_root = H.pages.empty_root };
+    changed = record { count = omega arith; nulls = λ b. refl; fits = λ b. (H.pages.each b).fits; tuples = λ x. inl (refl, refl); empty_root = H.pages.empty_root; kinds = λ b g. refl };
     count = refl;
     kinds = λ b. (refl, refl);
   }

@@ -198,6 +198,7 @@ module _ {Key Recon Cond : Type 0} (m : Meaning Key Recon Cond) (u : Table) (b :
     shown = subst (λ (U : Place → Spot). IsShown (pages_of S2) U) V2_is A3.0.shown;
     clock_is = omega arith;
     pages = pages_kept m S S2 D.shape.pages A3.0.changed;
+    kinds = A3.0.changed.kinds;
     within = record {
       others = λ c n. let (nx, np, nb) = away c n in sheet_other Sx p.block _ c np ∙ sheet_other Sa x.block _ c nx ∙ sheet_other S0 b _ c nb;
       few = few;

@@ -251,6 +251,7 @@ module _ {Key Recon Cond : Type 0} (m : Meaning Key Recon Cond) (u : Table) (x :
     shown = shown_c;
     clock_is = refl;
     pages = pages_kept m S Sc D.shape.pages changed_c;
+    kinds = changed_c.kinds;
     within = record {
       others = λ d n. let (a, b) = away d n in put_other Sb x (Inner v us) d a ∙ put_other Sa y (Inner lo ns) d b ∙ put_other S x (Inner v bs) d a;
       few = few;

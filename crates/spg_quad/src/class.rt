@@ -5,7 +5,7 @@ use crate::division::divide;
 use crate::quadrant::{choose_node, nodes_at};
 use smallvec::SmallVec;
 use spg_base::{Bytes, Memory, Point, PointCond, Same};
-use spg_opclass::{Choice, InnerView, OpClass, Picked};
+use spg_opclass::{Choice, InnerView, OpClass, Picked, SharedClass};
 use spg_points::{NodeAreas, all_hold, decode, encode, kept_nodes, labels_ok};
 use std::alloc::Global;
 
@@ -26,6 +26,8 @@ impl Same for QuadRecon {
         Ok(QuadRecon)
     }
 }
+
+impl SharedClass for Quad {}
 
 impl OpClass for Quad {
     ghost use Rattle.spg_quad.specs.QuadLaws.{quad_matches, quad_adds, quad_splits, quad_picks, quad_keeps, quad_plain, quad_codes};

@@ -224,6 +224,7 @@ module _ {Key Recon Cond : Type 0} (m : Meaning Key Recon Cond) (u : Table) (x p
       clock = (omega arith, omega arith);
       spread = let a = spread_is in omega arith;
     };
+    kinds = A6.0.changed.kinds;
   }
 
   -- where the tuple above shows

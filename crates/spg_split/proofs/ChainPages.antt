@@ -60,7 +60,7 @@ module _ {Key Recon Cond : Type 0} (m : Meaning Key Recon Cond) (S : Sheets) whe
     spots = with_block V b T.spots;
     stage = record {
       shown = block_shown S1 V b (with_tuples (sheet_at S1 b) us) T.spots G.shown high there1 T.laid;
-      changed = changed_page m S S1 b (with_tuples (sheet_at S1 b) us) G.changed there1 refl (placed_fits ts L k n (G.changed.fits b) rooms) may (λ h. absurd (omega arith));
+      changed = changed_page m S S1 b (with_tuples (sheet_at S1 b) us) G.changed there1 refl (placed_fits ts L k n (G.changed.fits b) rooms) may (λ h. absurd (omega arith)) (λ h. refl);
       count = length-set S1.sheets b (with_tuples (sheet_at S1 b) us) ∙ G.count;
       kinds = λ d. let (a, c) = kinds_set S1 b us there1 d in let (e, f) = G.kinds d in (a ∙ e, c ∙ f);
     };
@@ -147,7 +147,7 @@ module _ {Key Recon Cond : Type 0} (m : Meaning Key Recon Cond) (S : Sheets) whe
               (λ o. ⊎_elim
               (λ q. inr (subst (λ i. MayStand m (with_sheet S1 x.block (with_tuples (sheet_at S1 x.block) us)) (place x.block i) (tuple_on us i)) (sym q) (subst (λ (t : Tuple). MayStand m (with_sheet S1 x.block (with_tuples (sheet_at S1 x.block) us)) x t) (sym head) (redirect us))))
               (λ q. ⊎_elim (λ f. inl (f, refl)) (λ f. inr (subst (λ (t : Tuple). MayStand m (with_sheet S1 x.block (with_tuples (sheet_at S1 x.block) us)) (place x.block o) t) (sym f) (record { kind = tt; tree = λ y w ns i g h. cc; redirect = λ y u g. cc }))) (tuples o q)) (cases_eq o x.offset))
-              (λ h. absurd (omega arith));
+              (λ h. absurd (omega arith)) (λ h. refl);
           count = length-set S1.sheets x.block (with_tuples (sheet_at S1 x.block) us) ∙ G.count;
           kinds = λ d. let (a, c) = kinds_set S1 x.block us there1 d in let (f, g) = G.kinds d in (a ∙ f, c ∙ g);
         },

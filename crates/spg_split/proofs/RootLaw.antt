@@ -138,8 +138,8 @@ module _ {Key Recon Cond : Type 0} (m : Meaning Key Recon Cond) (S : Sheets) (b 
 
   pub changed : AreChanged m S S2
   changed = changed_page m S Sb root root_sheet
-      (changed_page m S S b (with_tuples (sheet_at S b) us) (changed_none m S H.pages) there refl (placed_fits ts L 0 n (H.pages.each b).fits rooms) leaf_may (λ k. absurd (omega arith)))
-      after_there (ap (λ (s : Sheet). s.nulls) (sym root_was)) (omega arith) (λ o. inr (root_may o)) (λ g e. cc)
+      (changed_page m S S b (with_tuples (sheet_at S b) us) (changed_none m S H.pages) there refl (placed_fits ts L 0 n (H.pages.each b).fits rooms) leaf_may (λ k. absurd (omega arith)) (λ k. refl))
+      after_there (ap (λ (s : Sheet). s.nulls) (sym root_was)) (omega arith) (λ o. inr (root_may o)) (λ g e. cc) (λ g. absurd (omega arith))
 
   -- what it costs
   pub within : (more : ℕ) → page_spread root root_sheet.tuples + page_spread b us ≤ page_spread root (sheet_at S root).tuples + page_spread b ts + more → IsWithin S S2 (b ∷ root ∷ []) (record { pages = 0; ticks = 0; spread = more })
@@ -152,4 +152,4 @@ module _ {Key Recon Cond : Type 0} (m : Meaning Key Recon Cond) (S : Sheets) (b 
   }
 
   pub becomes : (more : ℕ) → page_spread root root_sheet.tuples + page_spread b us ≤ page_spread root (sheet_at S root).tuples + page_spread b ts + more → Becomes m S S2 V2 S.clock (b ∷ root ∷ []) (record { pages = 0; ticks = 0; spread = more })
-  becomes more le = record { shown = shown; clock_is = refl; pages = pages_kept m S S2 H.pages changed; within = within more le }
+  becomes more le = record { shown = shown; clock_is = refl; pages = pages_kept m S S2 H.pages changed; within = within more le; kinds = changed.kinds }
