@@ -2,7 +2,7 @@
 """Writes the two large examples, and compares a program with the expected texts.
 
     examples.py                          writes examples/town.spg and examples/streets.spg
-    examples.py --check 'PROGRAM run'    runs every examples/NAME.spg and compares with NAME.stdout
+    examples.py --check 'PROGRAM run'    runs every examples/NAME.spg and compares with NAME.spg.stdout
 
 The scripts are the same on every machine: all that looks random comes from `Draws`.
 """
@@ -142,7 +142,7 @@ def write(name, lines):
 
 def differs(script, words):
     """Whether the program prints another text than the one beside the script."""
-    wanted = script.with_suffix(".stdout").read_bytes()
+    wanted = Path(f"{script}.stdout").read_bytes()
     with script.open("rb") as source:
         printed = subprocess.run(words, stdin=source, stdout=subprocess.PIPE, check=False).stdout
     print(f"{script.name}: {'as expected' if printed == wanted else 'DIFFERS'}")
