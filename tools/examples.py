@@ -142,7 +142,7 @@ def write(name, lines):
 
 def differs(script, words):
     """Whether the program prints another text than the one beside the script."""
-    wanted = Path(f"{script}.stdout").read_bytes()
+    wanted = pathlib.Path(f"{script}.stdout").read_bytes()
     with script.open("rb") as source:
         printed = subprocess.run(words, stdin=source, stdout=subprocess.PIPE, check=False).stdout
     print(f"{script.name}: {'as expected' if printed == wanted else 'DIFFERS'}")
