@@ -1,5 +1,5 @@
 -- A scan that opens.
-use Rattle.std.proofs.Common.{inl, inr, refl, sym, ap, subst, ⊎_elim, ◌≡◌, ◌∙◌, ℕ, List, [], ◌∷◌, length, Option, Some, Contains, arith}
+use Rattle.std.proofs.Common.{inl, inr, refl, sym, ap, subst, ⊎_elim, ◌∙◌, ℕ, List, [], ◌∷◌, Option, Contains, arith}
 use Rattle.spg_base.specs.Row.{RowAt}
 use Rattle.spg_opclass.specs.Meaning.{Meaning}
 use Rattle.spg_opclass.specs.Queries.{query_matches}

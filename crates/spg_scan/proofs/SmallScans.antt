@@ -1,5 +1,5 @@
 -- The small scans hold what they must.
-use Rattle.std.proofs.Common.{◌≡◌, ◌≤◌, inl, inr, ℕ, Bool, true, false, [], ◌∷◌, Option, Some, None, option_map, refl, sym, ap, ◌∙◌, subst, arith}
+use Rattle.std.proofs.Common.{◌≡◌, ◌≤◌, inl, inr, true, false, [], ◌∷◌, Option, Some, None, refl, sym, ap, ◌∙◌, subst, arith}
 use Rattle.std.proofs.lemmas.Bool.{false≢true}
 use Rattle.spg_base.specs.Row.{RowAt, same_row}
 use Rattle.spg_opclass.specs.Meaning.{Meaning}
@@ -22,9 +22,8 @@ use Rattle.spg_rows.specs.Scans.{IsNeeded}
 use Rattle.spg_rows.specs.Table as rows
 use Rattle.spg_rows.proofs.RowOrder.{row_tells, same_row-refl}
 use Rattle.spg_scan.specs.Items.{held}
-use Rattle.spg_scan.specs.Cover.{IsScanOf}
 use Rattle.spg_scan.specs.Scanning.{taken_of}
-use Rattle.spg_scan.specs.Examples.{NewScan, one_put, all_opened, all_read, OneScan}
+use Rattle.spg_scan.specs.Examples.{NewScan, one_put, all_opened, OneScan}
 use Rattle.spg_scan.proofs.Opening.{scan_opens}
 use Rattle.spg_scan.proofs.Gathering.{reads}
 
