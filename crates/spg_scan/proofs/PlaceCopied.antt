@@ -31,13 +31,10 @@ use Rattle.spg_scan.specs.Items.{Item, IsItem, held, inner, leaves, IsSpotOf, Sp
 use Rattle.spg_scan.specs.Cover.{given_of, IsScanOf}
 use Rattle.spg_scan.specs.Reading.{live_leaves}
 use Rattle.spg_scan.proofs.LiveLeaves.{live_has, live_from, live_repeat, row_has, row_from, rows_distinct}
-use Rattle.spg_scan.proofs.Lists.{one_item}
+use Rattle.spg_scan.proofs.Lists.{pair_is, one_item}
 use Rattle.spg_scan.proofs.Swapping.{Gives}
 use Rattle.spg_scan.proofs.Going.{step, given_cases, given_stays, copied_given}
 use Rattle.spg_scan.proofs.Grounds.{Grounds, asked}
-
-pair_is : (k l : ℕ × ℕ) → k.0 ≡ l.0 → k.1 ≡ l.1 → k ≡ l
-pair_is k l a b i = (a i, b i)
 
 distinct_nil : (rs : List RowAt) → AreDistinct rs → AreDistinct (rs ++ [])
 distinct_nil rs h = subst AreDistinct (sym (append-nil rs)) h

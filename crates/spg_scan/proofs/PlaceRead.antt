@@ -18,13 +18,10 @@ use Rattle.spg_scan.proofs.CoverGives.{ReadsPlace, gives, found_below, found_rig
 use Rattle.spg_scan.proofs.CoverTaken.{has_contains}
 use Rattle.spg_scan.specs.Items.{Item, IsItem, held, hold_all, copied_rows}
 use Rattle.spg_scan.specs.Cover.{given_of, IsScanOf}
-use Rattle.spg_scan.proofs.Lists.{held_spot, spot_held, copied_held, contains_has, held_no_leaves, held_no_inner, no_row, no_rows}
+use Rattle.spg_scan.proofs.Lists.{pair_is, held_spot, spot_held, copied_held, contains_has, held_no_leaves, held_no_inner, no_row, no_rows}
 use Rattle.spg_scan.proofs.Swapping.{Gives}
 use Rattle.spg_scan.proofs.Going.{step, given_cases, given_stays, found_given}
 use Rattle.spg_scan.proofs.Grounds.{Grounds, asked, may_find}
-
-pair_is : (k l : ℕ × ℕ) → k.0 ≡ l.0 → k.1 ≡ l.1 → k ≡ l
-pair_is k l a b i = (a i, b i)
 
 module _ {O Key Recon Cond : Type 0} (m : Meaning Key Recon Cond) (S : Sheets) (before past : History O Key Recon Cond) (table : rows.Table O Key Recon Cond) (s : Scanning O Key Recon Cond) (A : Grounds m S before past table s) where
   abbrev needed : RowAt → Type 0
