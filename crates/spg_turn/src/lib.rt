@@ -4,6 +4,8 @@
 
 mod pass;
 mod rule;
+#[cfg(test)]
+mod tests;
 mod turn;
 
 pub use pass::{Held, Pass};
