@@ -93,7 +93,10 @@ fn passes_are_given_and_come_back(rt: HostRuntime) -> Result<(), Fail> {
     let Ok((turn, first)) = Turn::new(alloc, two_marks(alloc)?, 2) else {
         panic!(rt; "memory")
     };
-    assert_eq!(rt; (turn.seats(), first.seat().number(), first.seen()), (2, 0, 2));
+    assert_eq!(rt;
+        (turn.seats(), first.seat().number(), first.seen()),
+        (2, 0, 2)
+    );
     assert_eq!(rt; (first.given(), first.back()), (1, 0));
     let (first, second) = turn.split(first);
     assert_eq!(rt; (second.seat().number(), second.seen()), (1, 2));

@@ -10,12 +10,15 @@ use std::sync::Wait;
 use std::thread::yield_now;
 
 const NEXT: usize = 0;
+
 const NOW: usize = 1;
+
 const LENGTH: usize = 2;
+
 const FIRST_BELL: usize = 3;
 
 // How often who waits looks before it sleeps.
-const LOOKS: u8 = 4;
+const LOOKS: u8 = 2;
 
 /// A lock round a state, whose holders take turns. Contracts read it by `turn_id`, which lock it is,
 /// and `turn_seats`, how many passes it may give.
@@ -185,7 +188,7 @@ impl<S: Recorded> Turn<S> {
         if shared.peek(NEXT) != ticket {
             let bell = bell_of(ticket);
             shared.fetch_add::<Ring>(seat, bell, 1);
-            shared.wake_all(bell);
+            shared.wake_one(bell);
         }
     }
 

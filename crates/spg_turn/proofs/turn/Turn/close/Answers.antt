@@ -1,7 +1,8 @@
 use Rattle.std.proofs.Common.{◌≡◌, drop, sym, ap, ◌∙◌}
 use mathlib.Core.Option.{some-injective}
 use Rattle.spg_turn.specs.Views.{by_seat}
-use Rattle.spg_turn.proofs.Steps.{closes, some_same}
+use Rattle.spg_turn.proofs.Ends.{closes}
+use Rattle.spg_turn.proofs.Views.{some_same}
 use Rattle.spg_turn.proofs.turn.Turn.close.Goals as goal
 
 pub unreachable-requires : goal.unreachable-requires

@@ -1,6 +1,6 @@
 use Rattle.std.proofs.Common.{◌∷◌, Some, arith, sym, ap, ◌∙◌}
 use Rattle.atomic_table.specs.Table.{rest}
-use Rattle.spg_turn.proofs.Steps.{draws}
+use Rattle.spg_turn.proofs.Turns.{draws}
 use Rattle.spg_turn.proofs.turn.Turn.enter.Goals as goal
 
 pub fetch_add-ticket-requires : goal.fetch_add-ticket-requires

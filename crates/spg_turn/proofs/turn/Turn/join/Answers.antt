@@ -1,5 +1,5 @@
 use Rattle.std.proofs.Common.{arith, ap, ◌∙◌}
-use Rattle.spg_turn.proofs.Steps.{joins, compares}
+use Rattle.spg_turn.proofs.Seats.{joins, compares}
 use Rattle.spg_turn.proofs.turn.Turn.join.Goals as goal
 
 pub join_seat-requires : goal.join_seat-requires

@@ -1,7 +1,7 @@
 use Rattle.std.proofs.Common.{arith, refl, ◌≡◌, ◌+◌, ◌-◌, ◌∷◌, [], ap, ◌∙◌, Some, length, length-append}
 use Rattle.atomic_table.specs.Table.{rest}
 use Rattle.spg_turn.specs.Views.{grown}
-use Rattle.spg_turn.proofs.Steps.{extends_at, serves_at}
+use Rattle.spg_turn.proofs.Turns.{extends_at, serves_at}
 use Rattle.spg_turn.proofs.turn.Turn.leave.Goals as goal
 
 pub fetch_add-requires : goal.fetch_add-requires

@@ -1,5 +1,5 @@
 use Rattle.std.proofs.Common.{◌≡◌, [], ◌∷◌, ◌++◌, Some, ap, ◌∙◌}
-use Rattle.spg_turn.proofs.Steps.{begins}
+use Rattle.spg_turn.proofs.Ends.{begins}
 use Rattle.spg_turn.proofs.turn.Turn.new.Goals as goal
 
 pub new-requires : goal.new-requires

@@ -1,5 +1,5 @@
 use Rattle.std.proofs.Common.{arith}
-use Rattle.spg_turn.proofs.Steps.{rings}
+use Rattle.spg_turn.proofs.Turns.{rings}
 use Rattle.spg_turn.proofs.turn.Turn.ring.Goals as goal
 
 pub fetch_add-requires : goal.fetch_add-requires

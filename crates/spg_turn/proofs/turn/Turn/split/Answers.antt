@@ -1,5 +1,5 @@
 use Rattle.std.proofs.Common.{arith}
-use Rattle.spg_turn.proofs.Steps.{splits}
+use Rattle.spg_turn.proofs.Seats.{splits}
 use Rattle.spg_turn.proofs.turn.Turn.split.Goals as goal
 
 pub split_seat-other-requires : goal.split_seat-other-requires

@@ -1,5 +1,5 @@
 use Rattle.std.proofs.Common.{arith, ◌∙◌}
-use Rattle.spg_turn.proofs.Steps.{looks_at}
+use Rattle.spg_turn.proofs.Turns.{looks_at}
 use Rattle.spg_turn.proofs.turn.Turn.wait.Goals as goal
 
 pub load-now-requires : goal.load-now-requires
