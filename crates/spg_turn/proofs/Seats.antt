@@ -15,7 +15,7 @@ use Rattle.spg_turn.specs.declared.rule.View.{View}
 use Rattle.spg_turn.specs.Views.{StartsWith, by_seat, kept_of, longer, after_split, dealt, joining, spent_view}
 use Rattle.spg_turn.specs.Rule.{ticket_of, weight, is_live, Facts, Fits, Kept, compared}
 use Rattle.spg_turn.proofs.Journals.{longer_cases, longer_starts, longer_whole}
-use Rattle.spg_turn.proofs.Views.{seats_stay, no_ticket, idle_not_holding, tickets-set, live-set, at_end, tickets-snoc, live-snoc, in_range, same_there}
+use Rattle.spg_turn.proofs.Views.{live_some, seats_stay, no_ticket, idle_not_holding, tickets-set, live-set, at_end, tickets-snoc, live-snoc, in_range, same_there}
 use Rattle.spg_turn.proofs.Moves.{moves, placed_on}
 
 module _ {S E : Type 0} (entries : S → List E) (seat_of : E → ℕ) (origin_of : S → Origin) where
@@ -67,7 +67,7 @@ module _ {S E : Type 0} (entries : S → List E) (seat_of : E → ℕ) (origin_o
           refl,
           (longer_starts m.0.left m.0.right x.list f.left f.right).0,
           (longer_starts m.0.left m.0.right x.list f.left f.right).1,
-          (λ z. let b = (f.first (sym f.number ∙ z)).1 in let a = r.alive in let few = r.few in omega arith),
+          (λ z. let g = (f.first (sym f.number ∙ z)).0 in let b = (f.first (sym f.number ∙ z)).1 in let a = r.alive in let l = live_some s.views id m.0 at sp in let few = r.few in (omega arith, omega arith)),
           f.met ∙ sym f.base,
         ),
       )

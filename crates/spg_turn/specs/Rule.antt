@@ -130,10 +130,10 @@ module _ {S E : Type 0} where
   abbrev pub extended : (S → List E) → Step (Option S) → Sat S E → ℕ → Sat S E → Type 0
   extended entries st m r m' = (y : S) → m.1 ≡ (0, Some y) ∷ [] → m' ≡ (grown m.0 (entries y), m.1)
 
-  -- the longer of the two lists begins with both, and both seats had one base
+  -- the longer of the two lists begins with both, both seats had one base, and the first seat's counts are in range
   abbrev pub compared : Step (Option S) → Sat S E → ℕ → Sat S E → Type 0
   compared st m r m' = (m' ≡ (record m.0 { left = []; right = []; met = m.0.base }, m.1)) × StartsWith (longer m.0.left m.0.right) m.0.left × StartsWith (longer m.0.left m.0.right) m.0.right
-      × (m.0.number ≡ 0 → m.0.back ≤ 64) × (m.0.met ≡ m.0.base)
+      × (m.0.number ≡ 0 → (m.0.back < m.0.given) × (m.0.given ≤ 64)) × (m.0.met ≡ m.0.base)
 
   -- the seat has given the state back
   abbrev pub served : Step (Option S) → Sat S E → ℕ → Sat S E → Type 0
@@ -149,6 +149,7 @@ module _ {S E : Type 0} where
       (m.1 ≡ []) × (m.0.stage ≡ Idle) × (m.0.spent ≡ false) × (m.0.left ≡ []) × (m.0.right ≡ [])
       × (m.0.number ≡ number) × (length m.0.seen ≡ seen) × (m.0.given ≡ given) × (m.0.back ≡ back) × (m.0.base ≤ seen)
       × (number ≢ 0 → (given ≡ 0) × (back ≡ 0)) × (m.0.met ≡ m.0.base)
+      × (given ≤ 64) × (back < 64) × (number ≡ 0 → back < given)
 
   -- a seat that has the state out, with nothing in the slot
   abbrev pub IsHolding : Sat S E → ℕ → ℕ → ℕ → ℕ → Type 0
@@ -156,3 +157,4 @@ module _ {S E : Type 0} where
       (m.1 ≡ (0, None) ∷ []) × (is_holding m.0.stage ≡ true) × (m.0.spent ≡ false) × (m.0.left ≡ []) × (m.0.right ≡ [])
       × (m.0.number ≡ number) × (length m.0.seen ≡ seen) × (m.0.given ≡ given) × (m.0.back ≡ back) × (m.0.base ≤ seen)
       × (number ≢ 0 → (given ≡ 0) × (back ≡ 0)) × (m.0.met ≡ m.0.base)
+      × (given ≤ 64) × (back < 64) × (number ≡ 0 → back < given)

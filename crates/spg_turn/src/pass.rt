@@ -30,7 +30,7 @@ pub struct Held<S, E> {
 }
 
 impl<S, E> Pass<S, E> {
-    ghost use Rattle.std.specs.Prelude.{◌≡◌, ◌≢◌, length};
+    ghost use Rattle.std.specs.Prelude.{◌≡◌, ◌≢◌, ◌<◌, ◌≤◌, length};
     ghost use Rattle.spg_turn.specs.Passes.{pass_view};
 
     /// The number of its seat.
@@ -50,14 +50,18 @@ impl<S, E> Pass<S, E> {
     /// How many passes there have been, 1 to 64, of the first pass; 0 of every other.
     pub fn given(&self) -> u8
         ensures value { result ≡ (pass_view self.now).given }
+        ensures in_range { (pass_view self.now).given ≤ 64 }
         ensures other { (pass_view self.now).number ≢ 0 → result ≡ 0 }
     {
         self.given
     }
 
-    /// How many passes were joined to the first, of the first pass; 0 of every other.
+    /// How many passes were joined to the first, fewer than were given, of the first pass; 0 of every
+    /// other.
     pub fn back(&self) -> u8
         ensures value { result ≡ (pass_view self.now).back }
+        ensures in_range { (pass_view self.now).back < 64 }
+        ensures first { (pass_view self.now).number ≡ 0 → (pass_view self.now).back < (pass_view self.now).given }
         ensures other { (pass_view self.now).number ≢ 0 → result ≡ 0 }
     {
         self.back

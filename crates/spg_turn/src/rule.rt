@@ -39,6 +39,7 @@ pub struct View<E> {
     pub kept: LinkedList<(u64, LinkedList<E>)>,
 }
 
+/// What holds of the words, the slot and all views between any two steps.
 pub struct Law;
 
 impl<S: Recorded> TableRule<Option<S>, View<S::Entry>, Snapshot<S>> for Law {

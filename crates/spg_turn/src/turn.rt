@@ -9,6 +9,7 @@ use std::snapshot::Snapshot;
 use std::sync::Wait;
 use std::thread::yield_now;
 
+// The words of the table: the next ticket, the ticket served, the length of the journal, 64 bells.
 const NEXT: usize = 0;
 
 const NOW: usize = 1;
@@ -16,6 +17,8 @@ const NOW: usize = 1;
 const LENGTH: usize = 2;
 
 const FIRST_BELL: usize = 3;
+
+const WORDS: usize = 67;
 
 // How often who waits looks before it sleeps.
 const LOOKS: u8 = 2;
@@ -54,7 +57,7 @@ impl<S: Recorded> Turn<S> {
             return Err((state, Memory));
         }
         slots.push_reserved(Some(state));
-        let mut words = [0; 67];
+        let mut words = [0; WORDS];
         words[LENGTH] = len;
         match Table::new(alloc, &words, slots, &about) {
             Ok((table, seat)) => {
