@@ -2,7 +2,7 @@ ghost use Rattle.std.specs.Prelude.{◌≡◌, All, IfSome};
 ghost use Rattle.spg_turn.specs.Passes.{turn_id, pass_turn, pass_view};
 
 use crate::{Pass, Turn};
-use spg_base::{Origin, Recorded};
+use spg_base::{Memory, Origin, Recorded};
 use std::alloc::Global;
 use std::process::Abort;
 use std::sync::Wait;
@@ -91,7 +91,7 @@ fn count(marks: &Marks, seat: u8) -> usize {
 fn passes_are_given_and_come_back(rt: HostRuntime) -> Result<(), Fail> {
     let alloc = rt.alloc();
     let Ok((turn, first)) = Turn::new(alloc, two_marks(alloc)?, 2) else {
-        panic!(rt; "memory")
+        return Err(Memory.into());
     };
     assert_eq!(rt;
         (turn.seats(), first.seat().number(), first.seen()),
@@ -148,7 +148,7 @@ fn threads_take_turns(rt: HostRuntime) -> Result<(), Fail> {
     let alloc = rt.alloc();
     let mut lanes: Vec<Lane> = Vec::with_capacity(alloc, 8)?;
     let Ok((turn, mut first)) = Turn::new(alloc, two_marks(alloc)?, 9) else {
-        panic!(rt; "memory")
+        return Err(Memory.into());
     };
     for _ in 0u8..8 {
         let (left, other) = turn.split(first);
