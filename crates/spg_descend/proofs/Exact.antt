@@ -1,5 +1,5 @@
 -- A put names exactly the blocks that it writes.
-use Rattle.std.proofs.Common.{◌≡◌, ℕ, zero, suc, ◌+◌, ◌≤◌, ◌<◌, List, [], ◌∷◌, ◌⊎◌, ⊎_elim, Option, Some, None, get_or, get_or-set_same, set, length, length-set, refl, sym, ap, ◌∙◌, subst, inl, inr, arith}
+use Rattle.std.proofs.Common.{◌≡◌, ℕ, zero, suc, ◌+◌, ◌≤◌, ◌<◌, List, [], ◌∷◌, ⊎_elim, Option, Some, None, get_or, get_or-set_same, set, length, length-set, refl, sym, ap, ◌∙◌, subst, inl, arith}
 use Rattle.spg_opclass.specs.Meaning.{Meaning}
 use Rattle.spg_forest.specs.View.{Place, Leaf}
 use Rattle.spg_forest.specs.Spot.{Frame}
@@ -14,7 +14,7 @@ use Rattle.spg_forest.proofs.Edits.{sheet_same, sheet_other, tuple_on-with}
 use Rattle.spg_forest.proofs.Exact.{differs, exact_one, exact_two}
 use Rattle.spg_page.specs.Kinds.{IsOffset}
 use Rattle.spg_page.proofs.SheetFacts.{free_place_free, free_place_length}
-use Rattle.spg_chain.proofs.Laid.{with_tuple_at, added_alone, added_behind}
+use Rattle.spg_chain.proofs.Laid.{with_tuple_at, added_behind}
 use Rattle.spg_chain.specs.Chains.{IsChainedPage, BeginsChain, chain_members, offsets_of}
 use Rattle.spg_chain.specs.Taken.{emptied}
 use Rattle.spg_chain.proofs.Taking.{dead_within, emptied_head}
@@ -24,7 +24,7 @@ use Rattle.spg_tree.specs.Pick.{Picks}
 use Rattle.spg_tree.specs.Picked.{IsPicked}
 use Rattle.spg_tree.specs.Descents.{Descending, in_nulls}
 use Rattle.spg_tree.specs.declared.stand.Stand.{Stand}
-use Rattle.spg_tree.specs.declared.stand.Stand.TheVariants.{Root, At, Empty}
+use Rattle.spg_tree.specs.declared.stand.Stand.TheVariants.{Root, At}
 use Rattle.spg_descend.specs.Carried.{carried}
 use Rattle.spg_descend.specs.Puts.{IsAtLeaves, IsAtEmpty, leaf_want}
 use Rattle.spg_descend.specs.PutTables.{below_node}

@@ -1,5 +1,5 @@
 -- What comes of an inner tuple that goes to a picked page with one more node.
-use Rattle.std.proofs.Common.{◌≡◌, ℕ, ◌+◌, ◌-◌, ◌≤◌, ◌<◌, Bool, false, List, [], ◌∷◌, ◌++◌, ⊎_elim, Option, Some, None, get_or, set, length, refl, sym, ap, ◌∙◌, subst, inl, inr, arith}
+use Rattle.std.proofs.Common.{◌≡◌, ℕ, ◌+◌, ◌≤◌, ◌<◌, Bool, false, List, [], ◌∷◌, ◌++◌, ⊎_elim, Option, Some, None, get_or, set, length, refl, sym, ap, ◌∙◌, subst, inl, inr, arith}
 use Rattle.std.specs.Prelude.{ℤ, ◌%◌}
 use Rattle.std.proofs.lemmas.List.Edits.{get_or-insert_at}
 use Rattle.spg_opclass.specs.Meaning.{Meaning}

@@ -1,16 +1,16 @@
 -- A division below a root names exactly the blocks that it writes or adds.
-use Rattle.std.proofs.Common.{◌≡◌, ℕ, zero, suc, ◌+◌, ◌-◌, ◌≤◌, ◌<◌, Bool, true, false, List, [], ◌∷◌, ◌++◌, ◌⊎◌, ⊎_elim, Option, Some, None, get_or, get_or-set_same, set, length, length-set, nat_le, refl, sym, ap, ◌∙◌, subst, inl, inr, arith}
-use Rattle.std.proofs.lemmas.Bool.{cases_eq, leb-true}
+use Rattle.std.proofs.Common.{◌≡◌, ℕ, zero, suc, ◌-◌, ◌<◌, Bool, true, false, List, [], ◌∷◌, ⊎_elim, Option, Some, None, get_or, get_or-set_same, set, length, refl, sym, ap, ◌∙◌, inl, arith}
+use Rattle.std.proofs.lemmas.Bool.{cases_eq}
 use Rattle.spg_forest.specs.View.{Place, Leaf}
 use Rattle.spg_forest.specs.Spot.{Frame}
-use Rattle.spg_forest.specs.Tuples.{Tuple, Inner, Live, Dead, Redirect, Placeholder, put_on, IsAmong}
+use Rattle.spg_forest.specs.Tuples.{Tuple, Inner, Live, Dead, Redirect, Placeholder, put_on}
 use Rattle.spg_forest.specs.Pages.{tuple_on, with_tuple}
 use Rattle.spg_forest.specs.Sheets.{free_place, links, linked}
 use Rattle.spg_forest.specs.Edits.{added as with_leaf}
-use Rattle.spg_forest.specs.Exact.{IsWritten, AreOnce, IsExact}
+use Rattle.spg_forest.specs.Exact.{IsWritten}
 use Rattle.spg_forest.proofs.Chain.{put_on_same, put_on_other}
 use Rattle.spg_forest.proofs.Edits.{tuple_on-with}
-use Rattle.spg_forest.proofs.Exact.{written_at, differs, among_cases, once_both, exact_range}
+use Rattle.spg_forest.proofs.Exact.{written_at, differs}
 use Rattle.spg_page.specs.Changes.{added}
 use Rattle.spg_page.specs.Told.{number_of}
 use Rattle.spg_page.specs.Reads.{frame_in}
@@ -23,10 +23,9 @@ use Rattle.spg_chain.proofs.Taking.{emptied_head}
 use Rattle.spg_tree.specs.Table.{Table, sheets_of, tuples_at, tuple_at}
 use Rattle.spg_tree.specs.declared.want.Want.{Want}
 use Rattle.spg_split.specs.declared.homes.Homes.{Homes}
-use Rattle.spg_split.specs.Homes.{AreHomes, another}
+use Rattle.spg_split.specs.Homes.{AreHomes}
 use Rattle.spg_split.specs.Placing.{chained, placed}
 use Rattle.spg_split.specs.Writing.{taken_from, parted_table, MayPart}
-use Rattle.spg_split.proofs.BlocksTouched.{another_is, another_once}
 use Rattle.spg_split.proofs.Room.{added_live}
 use Rattle.spg_split.proofs.Totals.{total, count, placed_differs}
 use Rattle.spg_split.proofs.Written as written

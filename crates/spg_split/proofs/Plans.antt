@@ -1,20 +1,15 @@
 -- The lists that stay have room on the old page, and those that go away have room together.
-use Rattle.std.proofs.Common.{◌≡◌, ℕ, zero, suc, ◌+◌, ◌-◌, ◌*◌, ◌≤◌, ◌<◌, List, [], ◌∷◌, ⊎_elim, Option, Some, None, length, get_or, nat_le, refl, sym, ap, subst, arith}
-use Rattle.std.specs.Prelude.{min}
+use Rattle.std.proofs.Common.{◌≡◌, ℕ, zero, suc, ◌+◌, ◌-◌, ◌≤◌, ◌<◌, List, [], ◌∷◌, ⊎_elim, None, length, get_or, nat_le, refl, sym, ap, subst, arith}
 use Rattle.std.proofs.lemmas.Bool.{cases_lt, cond-true, cond-false, le-leb, lt-leb}
 use Rattle.spg_forest.specs.View.{Leaf}
 use Rattle.spg_forest.specs.Tuples.{Tuple, Live}
 use Rattle.spg_forest.specs.Pages.{all_live}
-use Rattle.spg_forest.specs.Sheets.{weight, gaps, size_of, free_place}
-use Rattle.spg_forest.specs.Edits.{added}
+use Rattle.spg_forest.specs.Sheets.{weight, gaps, size_of}
 use Rattle.spg_page.specs.Changes.{free_of, room_of}
 use Rattle.spg_page.specs.Reads.{leaf_in}
-use Rattle.spg_page.specs.Told.{number_of}
-use Rattle.spg_chain.specs.Added.{IsLeafIn}
 use Rattle.spg_split.specs.declared.plan.Left.{Left}
 use Rattle.spg_split.specs.Placing.{taken_by, leaves_in, chained, HaveRooms}
 use Rattle.spg_split.specs.Planning.{size_of_list, room_left, less, staying, from_node}
-use Rattle.spg_split.proofs.Room.{Change, added_change, added_live}
 use Rattle.spg_split.proofs.Totals.{chain_takes, total, IsSum, total_none, total_in, total_past, bytes, count, bytes_sum, count_sum, have_rooms}
 
 -- the lists that stay have room one after another

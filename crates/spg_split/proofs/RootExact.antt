@@ -1,5 +1,5 @@
 -- A division at a root names exactly the blocks that it writes.
-use Rattle.std.proofs.Common.{◌≡◌, ℕ, ◌+◌, ◌-◌, ◌≤◌, ◌<◌, List, [], ◌∷◌, Option, length, length-set, take, get_or, refl, sym, ap, ◌∙◌, subst, inl, arith}
+use Rattle.std.proofs.Common.{◌≡◌, ℕ, ◌+◌, ◌-◌, ◌≤◌, ◌<◌, List, [], ◌∷◌, Option, length, length-set, refl, sym, ap, ◌∙◌, subst, inl, arith}
 use Rattle.std.proofs.lemmas.List.{length-take-le, length-map}
 use Rattle.spg_forest.specs.View.{Place, Leaf}
 use Rattle.spg_forest.specs.Spot.{Frame}
@@ -12,14 +12,14 @@ use Rattle.spg_forest.specs.Exact.{IsExact}
 use Rattle.spg_forest.proofs.Edits.{sheet_same, sheet_other}
 use Rattle.spg_forest.proofs.Exact.{exact_two}
 use Rattle.spg_page.specs.Reads.{frame_in}
-use Rattle.spg_tree.specs.Table.{Table, sheets_of, sheet_at, tuples_at, with_tuples_at, with_sheet}
+use Rattle.spg_tree.specs.Table.{Table, sheets_of, sheet_at, tuples_at, with_tuples_at}
 use Rattle.spg_descend.proofs.Picked.{PicksLeaf, picks_leaf, new_at_end}
 use Rattle.spg_split.specs.declared.parts.Parts.{Parts}
 use Rattle.spg_split.specs.declared.put.Parted.{Parted}
 use Rattle.spg_split.specs.declared.put.Parted.TheVariants.{With, Without}
 use Rattle.spg_split.specs.Dividing.{AreAllLive}
 use Rattle.spg_split.specs.Parts.{AreReady, PutsLists, divided_table, lists_want, going}
-use Rattle.spg_split.specs.Placing.{taken_by, leaves_in, placed, downlinks, inner_root}
+use Rattle.spg_split.specs.Placing.{taken_by, placed, downlinks, inner_root}
 use Rattle.spg_split.proofs.Plans.{length-leaves_in}
 use Rattle.spg_split.proofs.Totals.{total, total_all, count, count_sum, placed_differs}
 use Rattle.spg_split.proofs.Written.{tuples_same, pages_same}

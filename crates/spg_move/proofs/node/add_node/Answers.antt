@@ -87,8 +87,11 @@ returns-then-fits_in_place-clause-table g c =
     let el : c.in_ok-longer.longer ≡ widened (tuple_at c.args.table.now (tuple_place c.args.descent.now.stand)) c.args.at c.args.label =
     c.in_ok-longer.ensures ∙ ap (λ (z : ℤ). widened (tuple_on c.page.result.now.tuples c.tuple_place-here.result.offset) c.args.at z) (to_z-of_z w16 c.args.label c.ranges.label) ∙ ap (λ (s : Sheet). widened (tuple_on s.tuples c.tuple_place-here.result.offset) c.args.at c.args.label) c.page.ensures ∙ ap (λ (z : Place). widened (tuple_at c.args.table.now z) c.args.at c.args.label) eh in
     let room : FitsInPlace c.page-2.result.now.tuples c.tuple_place-here.result.offset c.in_ok-longer.longer = c.fits_in_place.ensures.0 c.if-fits_in_place.true in
-    inl ((subst (λ (u : Tuple). FitsInPlace (tuples_at c.args.table.now (tuple_place c.args.descent.now.stand).block) (tuple_place c.args.descent.now.stand).offset u) el
-    (subst (λ (z : Place). FitsInPlace (tuples_at c.args.table.now z.block) z.offset c.in_ok-longer.longer) eh (subst (λ (s : Sheet). FitsInPlace s.tuples c.tuple_place-here.result.offset c.in_ok-longer.longer) c.page-2.ensures room))), c.widen_here.ensures ∙ ap₂ (λ (z : Place) (u : Tuple). widened_table c.args.table.now z u) eh el)
+    inl (
+      (subst (λ (u : Tuple). FitsInPlace (tuples_at c.args.table.now (tuple_place c.args.descent.now.stand).block) (tuple_place c.args.descent.now.stand).offset u) el
+          (subst (λ (z : Place). FitsInPlace (tuples_at c.args.table.now z.block) z.offset c.in_ok-longer.longer) eh (subst (λ (s : Sheet). FitsInPlace s.tuples c.tuple_place-here.result.offset c.in_ok-longer.longer) c.page-2.ensures room))),
+      c.widen_here.ensures ∙ ap₂ (λ (z : Place) (u : Tuple). widened_table c.args.table.now z u) eh el,
+    )
 
 pub returns-clause-table : goal.returns-clause-table
 returns-clause-table g c =
