@@ -19,8 +19,7 @@ use crate::leaves::{bytes_of, leaf_tuple};
 use crate::moving::{chain_tuples, write_chain};
 use spg_base::{Memory, Place, SeatNo};
 use spg_opclass::OpClass;
-use spg_page::PageKind;
-use spg_tree::{Descent, PageTable, Stand, StepRefused};
+use spg_tree::{Descent, PageTable, Stand, StepRefused, Want};
 use std::alloc::Global;
 
 /// Moves the short chain at a place, to which a node of the tuple above leads, with the insert's leaf
@@ -54,16 +53,9 @@ fn move_from<O: OpClass>(
     let new = leaf_tuple(alloc, descent.row(), descent.rest().as_slice())?;
     let need = bytes_of(leaves.as_slice()) + new.size() as usize + 4;
     let count = leaves.len() + 1;
-    let block = table.pick_page(
-        alloc,
-        PageKind::Leaf,
-        descent.is_nulls(),
-        None,
-        need as u16,
-        count as u16,
-        Some(at.block),
-        seat,
-    )?;
+    let nulls = descent.is_nulls();
+    let want = Want::leaf(nulls, need as u16, count as u16, seat).avoiding(at.block);
+    let block = table.pick(alloc, &want)?;
     write_chain(table, block, at, parent, node, leaves.as_slice(), &new);
     Ok(())
 }
