@@ -38,13 +38,15 @@ overflow_cast-need-2 g c = let a = need_small g.O.OpClass.meaning c.args.table.n
 pub overflow_cast-count : goal.overflow_cast-count
 overflow_cast-count g c = let a = count_small g.O.OpClass.meaning c.args.table.now c.args.descent.now c.args.at c.args.parent c.args.node c.requires.shape c.requires.stands c.requires.above c.requires.spot c.requires.short c.page.result.now c.in_ok-leaves.leaves c.as_slice-2.result.now c.in_ok-new.new c.row.result c.as_slice.result.now c.bytes_of.result c.size.result c.len-count.result c.page.ensures c.in_ok-leaves.ensures c.as_slice-2.ensures c.row.ensures (c.as_slice.ensures.value ∙ c.rest.ensures) c.in_ok-new.ensures c.bytes_of.ensures c.size.ensures.value c.len-count.ensures in omega arith
 
-pub pick_page-requires-clause-need : goal.pick_page-requires-clause-need
-pick_page-requires-clause-need g c = need_small g.O.OpClass.meaning c.args.table.now c.args.descent.now c.args.at c.args.parent c.args.node c.requires.shape c.requires.stands c.requires.above c.requires.spot c.requires.short c.page.result.now c.in_ok-leaves.leaves c.as_slice-2.result.now c.in_ok-new.new c.row.result c.as_slice.result.now c.bytes_of.result c.size.result c.len-count.result c.page.ensures c.in_ok-leaves.ensures c.as_slice-2.ensures c.row.ensures (c.as_slice.ensures.value ∙ c.rest.ensures) c.in_ok-new.ensures c.bytes_of.ensures c.size.ensures.value c.len-count.ensures
+pub pick-requires-clause-need : goal.pick-requires-clause-need
+pick-requires-clause-need g c =
+    let e = ap (λ (w : Want). w.need) (c.avoiding-want.ensures ∙ ap (λ (w : Want). record w { avoid = Some c.args.at.block }) c.leaf.ensures) in
+    let a = need_small g.O.OpClass.meaning c.args.table.now c.args.descent.now c.args.at c.args.parent c.args.node c.requires.shape c.requires.stands c.requires.above c.requires.spot c.requires.short c.page.result.now c.in_ok-leaves.leaves c.as_slice-2.result.now c.in_ok-new.new c.row.result c.as_slice.result.now c.bytes_of.result c.size.result c.len-count.result c.page.ensures c.in_ok-leaves.ensures c.as_slice-2.ensures c.row.ensures (c.as_slice.ensures.value ∙ c.rest.ensures) c.in_ok-new.ensures c.bytes_of.ensures c.size.ensures.value c.len-count.ensures in omega arith
 
 pub returns-in_err-block-clause-full : goal.returns-in_err-block-clause-full
 returns-in_err-block-clause-full g c =
     let f : IsErrOf c.from_residual-in_err-block.result IndexFull → IsFull c.args.table.now (want_of kinds.Leaf c.is_nulls-nulls.result None (c.bytes_of.result + c.size.result + 4) (c.len-count.result + 1) (Some c.args.at.block) c.args.seat) = search rules in
-    let W = c.avoiding-want.ensures ∙ ap (λ (w : Want). record w { avoid = Some c.args.at.block }) c.leaf.ensures ∙ want_is g.O.OpClass.meaning c.args.table.now c.args.descent.now c.args.at c.args.parent c.args.node c.requires.shape c.requires.stands c.requires.above c.requires.spot c.requires.short c.page.result.now c.in_ok-leaves.leaves c.as_slice-2.result.now c.in_ok-new.new c.row.result c.as_slice.result.now c.bytes_of.result c.size.result c.len-count.result c.page.ensures c.in_ok-leaves.ensures c.as_slice-2.ensures c.row.ensures (c.as_slice.ensures.value ∙ c.rest.ensures) c.in_ok-new.ensures c.bytes_of.ensures c.size.ensures.value c.len-count.ensures c.is_nulls-nulls.result c.args.seat c.is_nulls-nulls.ensures in
+    let W = want_is g.O.OpClass.meaning c.args.table.now c.args.descent.now c.args.at c.args.parent c.args.node c.requires.shape c.requires.stands c.requires.above c.requires.spot c.requires.short c.page.result.now c.in_ok-leaves.leaves c.as_slice-2.result.now c.in_ok-new.new c.row.result c.as_slice.result.now c.bytes_of.result c.size.result c.len-count.result c.page.ensures c.in_ok-leaves.ensures c.as_slice-2.ensures c.row.ensures (c.as_slice.ensures.value ∙ c.rest.ensures) c.in_ok-new.ensures c.bytes_of.ensures c.size.ensures.value c.len-count.ensures c.is_nulls-nulls.result c.args.seat c.is_nulls-nulls.ensures in
     let V = want_there g.O.OpClass.meaning c.args.table.now c.args.descent.now c.args.at c.args.parent c.args.node c.requires.shape c.requires.stands c.requires.above c.requires.spot c.requires.short c.args.seat in
     λ e. subst (λ (z : Want). IsFull c.args.table.now z) (W ∙ V) (f e)
 
