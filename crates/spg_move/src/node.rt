@@ -9,7 +9,7 @@ ghost use Rattle.spg_tree.specs.declared.stand.Stand.TheVariants.{At};
 ghost use Rattle.spg_tree.specs.declared.stand.StepRefused.TheVariants.{IndexFull, ClockFull};
 ghost use Rattle.spg_descend.specs.Carried.{IsCarried};
 ghost use Rattle.spg_descend.specs.Follows.{tuple_place};
-ghost use Rattle.spg_descend.specs.Held.{TouchesFree};
+ghost use Rattle.spg_descend.specs.Held.{TouchesFree, IsFreeHome, StandsFree};
 ghost use Rattle.spg_descend.specs.Answers.{IsAnswered};
 ghost use Rattle.spg_move.specs.Answers.{IsInnerOf};
 ghost use Rattle.spg_move.specs.Nodes.{IsNodeAdded, FitsWider, wider_want};
@@ -38,6 +38,7 @@ fn shift_tuple<O: OpClass>(
     requires no_room { FitsInPlace (tuples_at table.old (tuple_place descent.now.stand).block) (tuple_place descent.now.stand).offset longer.now → ⊥ }
     ensures ok { IfOk result (λ to. IsShiftedFrom table.old table.new descent.now longer.now seat to) }
     ensures held { OnOk result (TouchesFree table.old table.new descent.now seat) }
+    ensures home { IfOk result (λ to. IsFreeHome table.old table.new descent.now.parent to.block seat) }
     ensures full { IsErrOf result IndexFull → IsFull table.old (node_want (in_nulls descent.now) (tuple_place descent.now.stand).block (size_of longer.now) seat) }
     ensures clock { IsErrOf result ClockFull → table.old.clock + 1 ≡ 2 ^ 48 }
     ensures err { OnErr result (table.new ≡ table.old) }
@@ -76,7 +77,8 @@ fn note_shift<O: OpClass>(descent: &mut Descent<O>, to: Place)
 /// then. Else it goes to a picked inner page of the same tree and of the same parity as its old block,
 /// the one inner tuple that is made; the old place becomes a redirect to it with the clock's moment,
 /// the downlink of the tuple above is set, the clock is raised by one, and the insert stands at the new
-/// place. In both cases the insert notes that it has added a node, and the touched blocks are those
+/// place, whose block is among those touched and is that of the tuple above or was latched by no other
+/// seat. In both cases the insert notes that it has added a node, and the touched blocks are those
 /// changed or added, each once. Of the blocks touched, each but that where the insert stands and that
 /// of the tuple above was latched by no other seat. `ClockFull` comes only where the longer tuple does
 /// not fit and the clock is 2^48 - 1, before a page is picked; `IndexFull` only where it does not fit
@@ -97,6 +99,7 @@ pub fn add_node<O: OpClass>(
     requires answer { IsAnswered O.meaning table.old descent.old (Add at label) }
     ensures ok { OnOk result (IsNodeAdded O.meaning table.old table.new descent.old descent.new at label) }
     ensures held { OnOk result (TouchesFree table.old table.new descent.old seat) }
+    ensures stands { OnOk result (StandsFree table.old table.new descent.old descent.new seat) }
     ensures full { IsErrOf result IndexFull → (FitsWider table.old descent.old at label → ⊥) × IsFull table.old (wider_want table.old descent.old at label seat) }
     ensures clock { IsErrOf result ClockFull → (FitsWider table.old descent.old at label → ⊥) × (table.old.clock + 1 ≡ 2 ^ 48) }
     ensures err { OnErr result (table.new ≡ table.old) }

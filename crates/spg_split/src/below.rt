@@ -4,7 +4,7 @@ ghost use Rattle.spg_forest.specs.Shape.{Shape};
 ghost use Rattle.spg_tree.specs.Table.{sheets_of};
 ghost use Rattle.spg_tree.specs.declared.stand.StepRefused.TheVariants.{IndexFull, ClockFull};
 ghost use Rattle.spg_descend.specs.Carried.{carried, IsCarried};
-ghost use Rattle.spg_descend.specs.Held.{TouchesFree};
+ghost use Rattle.spg_descend.specs.Held.{TouchesFree, IsFreeHome, StandsFree};
 ghost use Rattle.spg_descend.specs.Puts.{Fits};
 ghost use Rattle.spg_descend.specs.Rules.{MayMove};
 ghost use Rattle.spg_descend.specs.Below.{IsAtChain, IsTicked};
@@ -46,6 +46,7 @@ fn divide_chain<O: OpClass>(
     requires tick { table.old.clock + 1 < 2 ^ 48 }
     ensures ok { IfOk result (λ done. IsChainWay O.meaning table.old table.new descent.now done.at done.way × IsTicked table.old table.new × MakesBelow table.old table.new descent.now.parent done.at) }
     ensures held { OnOk result (TouchesFree table.old table.new descent.now seat) }
+    ensures home { IfOk result (λ done. IsFreeHome table.old table.new descent.now.parent done.at.block seat) }
     ensures cause { IfOk result (λ done. IsCauseOf (chain_bytes O.meaning table.old descent.now) done.way) }
     ensures rise { IfOk result (λ done. RisesOnly (chain_in_one O.meaning table.old descent.now) done.way) }
     ensures full { IsErrOf result IndexFull → IsChainFull O.meaning table.old descent.now seat }
@@ -88,7 +89,8 @@ fn note_chain<O: OpClass>(descent: &mut Descent<O>, done: Parting) -> SplitOut
 /// was latched by no other seat. Lists stay on the old page, in node order, while each fits there; the
 /// first that does not and all after it go to one other leaf page. `LeftOut` comes exactly where the
 /// lists that must go elsewhere do not fit with the leaf on one page; then it is in none of them, and
-/// the insert stands at the new inner tuple. The spread rises then only where all leaves but the new one are in one node.
+/// the insert stands at the new inner tuple, whose block is among those touched and is that of the
+/// tuple above or was latched by no other seat. The spread rises then only where all leaves but the new one are in one node.
 /// `ClockFull` comes exactly where the clock is 2^48 - 1, before a page is picked; `IndexFull` only
 /// where the pick of a page for the inner tuple or for the lists that go needs a new page and there may
 /// be none. After a refusal table and insert are as they were. The latches stay as they are.
@@ -106,6 +108,7 @@ pub fn split_chain<O: OpClass>(
     requires long { MayMove table.old descent.old.stand (Live (carried descent.old) 0) → ⊥ }
     ensures ok { IfOk result (λ out. IsChainSplit O.meaning table.old table.new descent.old descent.new out) }
     ensures held { OnOk result (TouchesFree table.old table.new descent.old seat) }
+    ensures stands { OnOk result (StandsFree table.old table.new descent.old descent.new seat) }
     ensures cause { IfOk result (λ out. IsCause (chain_bytes O.meaning table.old descent.old) out) }
     ensures rise { IfOk result (λ out. (out ≡ SplitOut.LeftOut → (z : PlaceAt) × SplitsWithout O.meaning table.old table.new descent.old descent.new z 0) ⊎ chain_in_one O.meaning table.old descent.old) }
     ensures ticked { IfOk result (λ out. IsTicked table.old table.new) }

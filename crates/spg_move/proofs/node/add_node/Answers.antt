@@ -1,4 +1,4 @@
-use Rattle.std.proofs.Common.{rules, ◌≡◌, ℤ, true, false, ◌+◌, ◌≤◌, length, ap, ap₂, sym, ◌∙◌, subst}
+use Rattle.std.proofs.Common.{rules, ◌≡◌, ℤ, true, false, ◌+◌, ◌≤◌, length, ap, ap₂, sym, ◌∙◌, subst, inl, inr}
 use Rattle.std.specs.Prelude.{◌^◌, IsErrOf}
 use Rattle.std.specs.Int.{w16}
 use Rattle.std.proofs.lemmas.Int.{to_z-of_z}
@@ -8,7 +8,7 @@ use Rattle.spg_forest.specs.Pages.{tuple_on}
 use Rattle.spg_forest.specs.Sheets.{Sheet, size_of, links}
 use Rattle.spg_page.specs.Kinds.{IsOffset}
 use Rattle.spg_tree.specs.Table.{tuples_at, tuple_at}
-use Rattle.spg_tree.specs.Descents.{in_nulls}
+use Rattle.spg_tree.specs.Descents.{Descending, in_nulls}
 use Rattle.spg_tree.specs.Pick.{IsFull}
 use Rattle.spg_tree.specs.declared.stand.StepRefused.TheVariants.{IndexFull, ClockFull}
 use Rattle.spg_descend.specs.Follows.{tuple_place}
@@ -74,3 +74,9 @@ returns-in_err-to-clause-clock g c =
 
 pub returns-then-fits_in_place-clause-held : goal.returns-then-fits_in_place-clause-held
 returns-then-fits_in_place-clause-held g c = widened_held c.args.table.now c.widen_here.new.table c.args.descent.now c.args.seat c.tuple_place-here.result c.in_ok-longer.longer c.requires.spot (c.tuple_place-here.ensures ∙ ap tuple_place c.stand.ensures) c.widen_here.ensures
+
+pub returns-then-fits_in_place-clause-stands : goal.returns-then-fits_in_place-clause-stands
+returns-then-fits_in_place-clause-stands g c = inl (ap (λ (x : Descending _). x.stand) c.note_node.ensures)
+
+pub returns-clause-stands : goal.returns-clause-stands
+returns-clause-stands g c = inr (c.in_ok-to.to, ap (λ (x : Descending _). x.stand) c.note_shift.ensures, c.in_ok-to.ensures.home)

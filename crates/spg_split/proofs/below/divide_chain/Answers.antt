@@ -4,7 +4,7 @@ use Rattle.spg_chain.specs.Chains.{chain_members, leaves_of}
 use Rattle.spg_tree.specs.Table.{tuples_at}
 use Rattle.spg_descend.specs.Carried.{carried}
 use Rattle.spg_descend.specs.Below.{IsTicked}
-use Rattle.spg_descend.specs.Held.{TouchesFree}
+use Rattle.spg_descend.specs.Held.{TouchesFree, IsFreeHome}
 use Rattle.spg_forest.specs.Divisions.{rests_of}
 use Rattle.spg_split.specs.Dividing.{AreValues, rows_of}
 use Rattle.spg_split.specs.Parting.{IsParted}
@@ -16,7 +16,7 @@ use Rattle.spg_split.proofs.ChainStanding.{several, keys, may_divide, ready, som
 use Rattle.spg_split.proofs.ChainJoining.{chain_done, chain_cause}
 use Rattle.spg_split.proofs.Causes.{chain_rise}
 use Rattle.spg_split.proofs.Fulls.{chain_full}
-use Rattle.spg_split.proofs.Held.{on_ok_then, chain_held}
+use Rattle.spg_split.proofs.Held.{on_ok_then, chain_held, chain_home}
 use Rattle.spg_split.proofs.Outcome.{if_ok_then}
 use Rattle.spg_split.proofs.below.divide_chain.Goals as goal
 
@@ -116,3 +116,8 @@ returns-clause-full g c = λ h.
     let D = divided_as g.O.OpClass.meaning (option_copied c.recon.result) c.args.descent.now.recon c.as_slice.result.now (rests_of (leaves_of (chain_members (tuples_at c.args.table.now c.args.head.block) c.args.head.offset) ++ carried c.args.descent.now ∷ [])) c.in_ok-division.division c.recon.ensures.value (c.as_slice.ensures ∙ V.rests) c.in_ok-division.ensures in
     let P = parts_as c.as_slice-2.result.now (rows_of (leaves_of (chain_members (tuples_at c.args.table.now c.args.head.block) c.args.head.offset) ++ carried c.args.descent.now ∷ [])) c.in_ok-division.division c.in_ok-parts.parts (c.as_slice-2.ensures ∙ V.rows) c.in_ok-parts.ensures in
     chain_full g.O.OpClass.meaning c.args.table.now c.args.descent.now c.args.head c.args.parent c.args.node c.args.seat c.requires.stands c.requires.above c.in_ok-division.division D c.in_ok-parts.parts P (c.part_chain.ensures.full h)
+
+pub returns-clause-home : goal.returns-clause-home
+returns-clause-home g c = if_ok_then c.part_chain.result (λ done. IsParted c.args.table.now c.part_chain.new.table c.args.head c.args.parent c.args.node c.args.seat c.in_ok-parts.parts done)
+    (λ done. IsFreeHome c.args.table.now c.part_chain.new.table c.args.descent.now.parent done.at.block c.args.seat)
+    (λ done W. chain_home c.args.table.now c.part_chain.new.table c.args.descent.now c.args.head c.args.parent c.args.node c.args.seat c.in_ok-parts.parts done c.requires.above W) c.part_chain.ensures.ok
