@@ -30,6 +30,11 @@ pub on_ok_then : {A E : Type 0} (r : Result A E) (P : A → Type 0) (Q : Type 0)
 on_ok_then (Ok a) P Q h p = h a p
 on_ok_then (Err b) P Q h p = tt
 
+-- a fact of each good outcome from two
+pub on_ok_both : {A E : Type 0} (r : Result A E) (P1 P2 : A → Type 0) (Q : Type 0) → ((a : A) → P1 a → P2 a → Q) → IfOk r P1 → IfOk r P2 → OnOk r Q
+on_ok_both (Ok a) P1 P2 Q h p q = h a p q
+on_ok_both (Err b) P1 P2 Q h p q = tt
+
 -- a division at a root
 pub root_held : {Recon : Type 0} (t t2 : Table) (d : Descending Recon) (root seat : ℕ) (p : Parts) (leaves : List Tuple) → d.stand ≡ Root root → PutsLists t t2 root seat p leaves → TouchesFree t t2 d seat
 root_held t t2 d root seat p leaves s P =

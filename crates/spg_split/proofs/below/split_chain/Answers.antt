@@ -19,3 +19,6 @@ returns-clause-rise g c = rise_noted_chain g.O.OpClass.meaning (chain_in_one g.O
 pub returns-clause-stands : goal.returns-clause-stands
 returns-clause-stands g c = noted_free c.args.table.now c.divide_chain.new.table c.args.descent.now c.note_chain.new.descent c.in_ok-done-in-At-Some.done.at c.args.seat c.in_ok-done-in-At-Some.done.way c.note_chain.result
     c.note_chain.ensures c.in_ok-done-in-At-Some.ensures.home
+
+pub returns-clause-table : goal.returns-clause-table
+returns-clause-table g c = (c.in_ok-done-in-At-Some.done, c.in_ok-done-in-At-Some.ensures.table, c.note_chain.ensures)
