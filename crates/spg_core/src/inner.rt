@@ -6,7 +6,7 @@ ghost use Rattle.spg_tree.specs.declared.stand.StepRefused.TheVariants.{IndexFul
 ghost use Rattle.spg_descend.specs.Carried.{IsCarried};
 ghost use Rattle.spg_descend.specs.Follows.{IsAtInner};
 ghost use Rattle.spg_seats.specs.Descending.{Stands};
-ghost use Rattle.spg_core.specs.declared.inner.Chosen.TheVariants.{Node};
+ghost use Rattle.spg_core.specs.declared.inner.Chosen.TheVariants.{Node, Add};
 ghost use Rattle.spg_core.specs.Stepping.{IsOutgrown, IsNearLimit, IsChosen, named};
 ghost use Rattle.spg_core.specs.Telling.{Does};
 
@@ -149,6 +149,30 @@ fn go_down<O: OpClass>(
     }
 }
 
+/// Puts a node into the inner tuple at which an insert is.
+fn widen<O: OpClass>(
+    alloc: Global,
+    table: &mut PageTable,
+    descent: &mut Descent<O>,
+    seat: SeatNo,
+    at: u16,
+    label: i16,
+) -> Result<InsertOut, StepRefused>
+    requires shape { Shape O.meaning (sheets_of table.old) }
+    requires inner { IsAtInner table.old descent.old.stand }
+    requires of_key { (key : Option O.Key) × IsCarried O.meaning (sheets_of table.old) descent.old key }
+    requires stands { Stands table.old descent.old }
+    requires chosen { IsChosen {O = O} O.meaning table.old descent.old (Add at label) }
+    ensures does { IfOk result (λ out. Does O.meaning table.old table.new descent.old descent.new seat out) }
+    ensures full { IsErrOf result IndexFull → IsOutgrown table.old descent.old × IsNearLimit table.old }
+    ensures clock { IsErrOf result ClockFull → IsOutgrown table.old descent.old × (table.old.clock + 1 ≡ 2 ^ 48) }
+    ensures err { OnErr result (table.new ≡ table.old) }
+    ensures err_descent { OnErr result (descent.new ≡ descent.old) }
+{
+    add_node(alloc, table, descent, seat, at, label)?;
+    Ok(InsertOut::Restructured)
+}
+
 /// Does what was chosen at an inner tuple: it goes down a node, puts one in, or splits the tuple.
 fn apply<O: OpClass>(
     alloc: Global,
@@ -175,10 +199,7 @@ fn apply<O: OpClass>(
             by_turn,
             below,
         } => Ok(go_down(table, descent, seat, node, rest, by_turn, below)),
-        Chosen::Add { at, label } => {
-            add_node(alloc, table, descent, seat, at, label)?;
-            Ok(InsertOut::Restructured)
-        }
+        Chosen::Add { at, label } => widen(alloc, table, descent, seat, at, label),
         Chosen::Split {
             upper_prefix,
             upper_labels,
