@@ -1,10 +1,8 @@
 -- What is latched in a new table, and where an insert that holds its blocks may stand.
-use Rattle.std.proofs.Common.{◌≡◌, ◌⊎◌, ◌||◌, ℕ, zero, suc, ⊎_elim, true, false, cond, nat_eq, Bool, List, Option, Some, None, get_or, replicate, refl, sym, ap, ◌∙◌, subst}
+use Rattle.std.proofs.Common.{◌≡◌, ℕ, zero, suc, ⊎_elim, true, cond, Option, Some, None, get_or, replicate, refl, sym, ap, ◌∙◌, subst}
 use Rattle.std.proofs.lemmas.Bool.{eq-eqb, or_left, or_right}
-use Rattle.spg_forest.specs.View.{Place}
-use Rattle.spg_tree.specs.Table.{Table, latch_at}
+use Rattle.spg_tree.specs.Table.{Table}
 use Rattle.spg_tree.specs.Descents.{Descending}
-use Rattle.spg_tree.specs.declared.stand.Stand.{Stand}
 use Rattle.spg_descend.specs.Held.{IsNoOthers, StandsFree}
 use Rattle.spg_descend.specs.Leaves.{stand_block, parent_block, is_held}
 use Rattle.spg_seats.specs.Descending.{holds_block}

@@ -1,18 +1,17 @@
 -- An insert at an inner tuple that gains a node, or that is split.
-use Rattle.std.proofs.Common.{◌≡◌, ℕ, ◌<◌, Bool, ⊎_elim, Option, Some, None, length, sym, ap, ◌∙◌, subst, inl}
+use Rattle.std.proofs.Common.{◌≡◌, ℕ, Bool, ⊎_elim, Option, Some, None, sym, ap, ◌∙◌, subst, inl}
 use Rattle.std.specs.Prelude.{ℤ}
 use Rattle.spg_opclass.specs.Meaning.{Meaning}
 use Rattle.spg_forest.specs.View.{Place}
 use Rattle.spg_forest.specs.Pages.{moved}
 use Rattle.spg_forest.specs.Shape.{Shape}
 use Rattle.spg_forest.specs.Section.{Leaves, Cost}
-use Rattle.spg_tree.specs.Table.{Table, sheets_of, latch_at}
+use Rattle.spg_tree.specs.Table.{Table, sheets_of}
 use Rattle.spg_tree.specs.Descents.{Descending, in_nulls}
 use Rattle.spg_tree.specs.declared.stand.Stand.{Stand}
 use Rattle.spg_tree.specs.declared.stand.Stand.TheVariants.{Start, Root, At, Empty}
 use Rattle.spg_descend.specs.Carried.{root_of, IsCarried}
-use Rattle.spg_descend.specs.Follows.{IsAtInner, IsOpenTo, tuple_place, latched}
-use Rattle.spg_descend.specs.Leaves.{released, stand_block, parent_block}
+use Rattle.spg_descend.specs.Follows.{IsAtInner, tuple_place}
 use Rattle.spg_descend.specs.Puts.{IsQuiet}
 use Rattle.spg_move.specs.Answers.{IsInnerOf}
 use Rattle.spg_move.specs.Nodes.{node_cost, IsNodeAdded}

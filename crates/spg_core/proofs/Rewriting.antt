@@ -1,8 +1,7 @@
 -- What a section that changed pages leaves, before the latches of the insert are settled.
-use Rattle.std.proofs.Common.{◌≡◌, ◌≤◌, ℕ, List, Option, Some, None, length, sym, ap, subst, inl, inr}
+use Rattle.std.proofs.Common.{◌≡◌, ◌≤◌, ℕ, Option, length, sym, ap, subst, inl, inr}
 use Rattle.spg_opclass.specs.Meaning.{Meaning}
 use Rattle.spg_opclass.specs.Laws.{AddLaw, SplitLaw}
-use Rattle.spg_forest.specs.View.{Place}
 use Rattle.spg_forest.specs.Pages.{moved}
 use Rattle.spg_forest.specs.Shape.{Shape}
 use Rattle.spg_forest.specs.Tuples.{IsAmong}
