@@ -53,7 +53,11 @@ widen_out {Key} {Recon} m t t1 d d2 seat at label H of_key stands i added = ⊎_
     (λ (e, quiet, makes, link, W).
     stays_out m t t1 d d2 seat node_cost H stands i quiet (ap (λ (x : Descending Recon). x.row) e) (ap (λ (x : Descending Recon). in_nulls x) e) (ap (λ (x : Descending Recon). x.stand) e) (ap (λ (x : Descending Recon). x.parent) e) link W.leaves W.carries)
     (λ (big, y, e, ticked, makes, parity, led, W).
-    let stand : d2.stand ≡ At y = ap (λ (x : Descending Recon). x.stand) e in
-    (off_start t d i, (node_cost, moved (tuple_place d.stand) y, W.leaves), ticked.limit, kinds_grow t t1 d ticked.roots,
-    led_goes m t t1 d d2 y of_key (inner_root m t d H stands i) ticked (ap (λ (x : Descending Recon). x.row) e) (ap (λ (x : Descending Recon). in_nulls x) e) stand (ap (λ (x : Descending Recon). x.parent) e) W.leaves.section.shape (subst (λ (s : Stand). IsAtInner t1 s) stand W.inner) led W.carries))
+    let stand : d2.stand ≡ At y = ap (λ (x : Descending Recon). x.stand) e in (
+      off_start t d i,
+      (node_cost, moved (tuple_place d.stand) y, W.leaves),
+      ticked.limit,
+      kinds_grow t t1 d ticked.roots,
+      led_goes m t t1 d d2 y of_key (inner_root m t d H stands i) ticked (ap (λ (x : Descending Recon). x.row) e) (ap (λ (x : Descending Recon). in_nulls x) e) stand (ap (λ (x : Descending Recon). x.parent) e) W.leaves.section.shape (subst (λ (s : Stand). IsAtInner t1 s) stand W.inner) led W.carries,
+    ))
     added
