@@ -23,8 +23,8 @@ use Rattle.spg_descend.specs.Follows.{tuple_place}
 use Rattle.spg_descend.specs.Answers.{IsAnswered}
 use Rattle.spg_descend.specs.Makes.{MakesOne}
 use Rattle.spg_seats.specs.Descending.{HasInnerRoot, Stands}
-use Rattle.spg_core.specs.declared.inner.Chosen.{Chosen}
-use Rattle.spg_core.specs.declared.inner.Chosen.TheVariants.{Node, Add, Split}
+use Rattle.spg_core.specs.declared.choose.Chosen.{Chosen}
+use Rattle.spg_core.specs.declared.choose.Chosen.TheVariants.{Node, Add, Split}
 use Rattle.spg_core.specs.declared.answer.InsertOut.{InsertOut}
 use Rattle.spg_core.specs.declared.answer.InsertOut.TheVariants.{Descended, Restructured, Restarted, Put}
 

@@ -1,6 +1,6 @@
 use Rattle.std.proofs.Common.{ap, subst, inl, inr}
 use Rattle.spg_tree.specs.Descents.{Descending}
-use Rattle.spg_core.specs.declared.inner.Chosen.{Chosen}
+use Rattle.spg_core.specs.declared.choose.Chosen.{Chosen}
 use Rattle.spg_core.specs.Stepping.{IsChosen}
 use Rattle.spg_core.proofs.inner.apply.Goals as goal
 
