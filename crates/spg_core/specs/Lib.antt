@@ -10,3 +10,5 @@ pub mod Sections
 pub mod Through
 pub mod Counts
 pub mod Ends
+pub mod Telling
+pub mod Refusing
