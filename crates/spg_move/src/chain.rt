@@ -46,6 +46,7 @@ fn move_from<O: OpClass>(
     ensures table { OnOk result (MovesTable table.old table.new descent.now seat) }
     ensures exact { OnOk result (IsExact (sheets_of table.old) (sheets_of table.new) table.new.touched) }
     ensures full { IsErrOf result IndexFull → IsFull table.old (carried_want table.old descent.now seat) }
+    ensures not_full { OnOk result (IsFull table.old (carried_want table.old descent.now seat) → ⊥) }
     ensures clock { IsErrOf result ClockFull → ⊥ }
     ensures err { OnErr result (table.new ≡ table.old) }
 {
@@ -88,6 +89,7 @@ pub fn move_chain<O: OpClass>(
     ensures table { OnOk result (MovesTable table.old table.new descent.now seat) }
     ensures exact { OnOk result (IsExact (sheets_of table.old) (sheets_of table.new) table.new.touched) }
     ensures full { IsErrOf result IndexFull → IsFull table.old (carried_want table.old descent.now seat) }
+    ensures not_full { OnOk result (IsFull table.old (carried_want table.old descent.now seat) → ⊥) }
     ensures clock { IsErrOf result ClockFull → table.old.clock + 1 ≡ 2 ^ 48 }
     ensures clock_first { table.old.clock + 1 ≡ 2 ^ 48 → IsErrOf result ClockFull }
     ensures err { OnErr result (table.new ≡ table.old) }

@@ -108,6 +108,7 @@ pub fn add_node<O: OpClass>(
     ensures table { OnOk result (NodeTable table.old table.new descent.old descent.new at label seat) }
     ensures exact { OnOk result (IsExact (sheets_of table.old) (sheets_of table.new) table.new.touched) }
     ensures full { IsErrOf result IndexFull → (FitsWider table.old descent.old at label → ⊥) × IsFull table.old (wider_want table.old descent.old at label seat) }
+    ensures not_full { OnOk result ((FitsWider table.old descent.old at label → ⊥) → IsFull table.old (wider_want table.old descent.old at label seat) → ⊥) }
     ensures clock { IsErrOf result ClockFull → (FitsWider table.old descent.old at label → ⊥) × (table.old.clock + 1 ≡ 2 ^ 48) }
     ensures clock_first { (FitsWider table.old descent.old at label → ⊥) → table.old.clock + 1 ≡ 2 ^ 48 → IsErrOf result ClockFull ⊎ IsErrOf result Memory }
     ensures err { OnErr result (table.new ≡ table.old) }

@@ -55,6 +55,7 @@ pub fn split_tuple<O: OpClass>(
     ensures table { OnOk result (IsParted table.old table.new (tuple_place descent.old.stand) child seat (upper_at upper_prefix.now upper_labels.now) (lower_at table.old descent.old lower_prefix.now)) }
     ensures exact { OnOk result (IsExact (sheets_of table.old) (sheets_of table.new) table.new.touched) }
     ensures full { IsErrOf result IndexFull → (fits_beside_at table.old descent.old upper_prefix.now upper_labels.now lower_prefix.now ≡ false) × IsFull table.old (lower_want_at table.old descent.old lower_prefix.now seat) }
+    ensures not_full { OnOk result (fits_beside_at table.old descent.old upper_prefix.now upper_labels.now lower_prefix.now ≡ false → IsFull table.old (lower_want_at table.old descent.old lower_prefix.now seat) → ⊥) }
     ensures clock { IsErrOf result ClockFull → ⊥ }
     ensures err { OnErr result (table.new ≡ table.old) }
     ensures err_descent { OnErr result (descent.new ≡ descent.old) }
