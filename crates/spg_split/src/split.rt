@@ -55,6 +55,7 @@ fn split_root<O: OpClass>(
     ensures cause { IfOk result (λ way. IsCauseOf (root_bytes O.meaning table.old descent.now) way) }
     ensures rise { IfOk result (λ way. RisesOnly (root_in_one O.meaning table.old descent.now) way) }
     ensures full { IsErrOf result IndexFull → IsRootFull O.meaning table.old descent.now seat }
+    ensures not_full { OnOk result (IsRootFull O.meaning table.old descent.now seat → ⊥) }
     ensures clock { IsErrOf result ClockFull → ⊥ }
     ensures err { OnErr result (table.new ≡ table.old) }
 {
@@ -108,6 +109,7 @@ pub fn split_leaf<O: OpClass>(
     ensures cause { IfOk result (λ out. IsCause (root_bytes O.meaning table.old descent.old) out) }
     ensures rise { IfOk result (λ out. (out ≡ SplitOut.LeftOut → PartsWithout O.meaning table.old table.new descent.old descent.new 0) ⊎ root_in_one O.meaning table.old descent.old) }
     ensures full { IsErrOf result IndexFull → IsRootFull O.meaning table.old descent.old seat }
+    ensures not_full { OnOk result (IsRootFull O.meaning table.old descent.old seat → ⊥) }
     ensures clock { IsErrOf result ClockFull → ⊥ }
     ensures err { OnErr result (table.new ≡ table.old) }
     ensures err_descent { OnErr result (descent.new ≡ descent.old) }
