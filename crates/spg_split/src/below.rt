@@ -122,6 +122,7 @@ pub fn split_chain<O: OpClass>(
     ensures rise { IfOk result (λ out. (out ≡ SplitOut.LeftOut → (z : PlaceAt) × SplitsWithout O.meaning table.old table.new descent.old descent.new z 0) ⊎ chain_in_one O.meaning table.old descent.old) }
     ensures ticked { IfOk result (λ out. IsTicked table.old table.new) }
     ensures full { IsErrOf result IndexFull → IsChainFull O.meaning table.old descent.old seat }
+    ensures not_full { OnOk result (IsChainFull O.meaning table.old descent.old seat → ⊥) }
     ensures clock { IsErrOf result ClockFull → table.old.clock + 1 ≡ 2 ^ 48 }
     ensures clock_first { table.old.clock + 1 ≡ 2 ^ 48 → IsErrOf result ClockFull }
     ensures err { OnErr result (table.new ≡ table.old) }
