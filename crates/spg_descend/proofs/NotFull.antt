@@ -1,6 +1,6 @@
 -- Where a page is picked, the pick is not full.
 use Rattle.std.proofs.Common.{◌≡◌, ℕ, true, false, Option, Some, None, sym, ap, ◌∙◌, inl, inr, arith}
-use Rattle.spg_forest.specs.View.{Place, Leaf}
+use Rattle.spg_forest.specs.View.{Place}
 use Rattle.spg_tree.specs.Table.{Table}
 use Rattle.spg_tree.specs.Pick.{Picks, IsFull, serves, remembered_for}
 use Rattle.spg_tree.specs.Descents.{Descending}

@@ -79,17 +79,17 @@ fn note<O: OpClass>(descent: &mut Descent<O>, way: Parted) -> SplitOut
     }
 }
 
-/// Divides the leaves of the root leaf page at which an insert stands, and its own leaf, by the
-/// class. The new inner tuple becomes the root's only tuple, and each list goes as a chain to one
-/// other leaf page. Of the blocks touched, each but that where the insert stands and that of the tuple
-/// above was latched by no other seat.
-/// Where the class puts all in one node, the tuple is all-the-same: it has 8 nodes of
-/// that label, which are filled in turn. `LeftOut` comes exactly where the lists do not fit with the
-/// leaf on one page; then it is in none of them. The spread rises then only where all leaves but the new
-/// one are in one node. `table` tells the whole table: the inner tuple is that of the class's meaning,
-/// its nodes lead to its lists, and the pages remembered are those after the pick. The blocks touched
-/// are exactly those written or added, each once. `IndexFull` comes only where a pick needs a new page and there may be none.
-/// After a refusal table and insert are as they were.
+/// Divides the leaves of the root leaf page at which an insert stands, and its own leaf, by the class.
+/// The new inner tuple becomes the root's only tuple, and each list goes as a chain to one other leaf
+/// page. Of the blocks touched, each but that where the insert stands and that of the tuple above was
+/// latched by no other seat. Where the class puts all in one node, the tuple is all-the-same: it has 8
+/// nodes of that label, which are filled in turn. `LeftOut` comes exactly where the lists do not fit
+/// with the leaf on one page; then it is in none of them. The spread rises then only where all leaves
+/// but the new one are in one node. `table` tells the whole table: the inner tuple is that of the
+/// class's meaning, its nodes lead to its lists, and the pages remembered are those after the pick. The
+/// blocks touched are exactly those written or added, each once. `IndexFull` comes exactly where the
+/// pick for the lists needs a new page and there may be none, unless memory is short before. After a
+/// refusal table and insert are as they were.
 pub fn split_leaf<O: OpClass>(
     alloc: Global,
     class: &O,
