@@ -1,6 +1,6 @@
 -- The split of an inner tuple as the insert and its callers see it.
 use Rattle.std.proofs.lemmas.List.{length-replicate}
-use Rattle.std.proofs.Common.{◌≡◌, ℕ, ◌+◌, ◌≤◌, ◌<◌, ℤ, Bool, false, List, [], ◌∷◌, ◌++◌, ⊎_elim, Option, Some, None, get_or, length, refl, sym, ap, ◌∙◌, subst, inl, inr, arith}
+use Rattle.std.proofs.Common.{◌≡◌, ℕ, ◌+◌, ◌≤◌, ◌<◌, ℤ, Bool, true, false, List, [], ◌∷◌, ◌++◌, ⊎_elim, Option, Some, None, get_or, length, refl, sym, ap, ◌∙◌, subst, inl, inr, arith}
 use Rattle.spg_base.specs.Row.{RowAt}
 use Rattle.spg_opclass.specs.Meaning.{Meaning, upper, lower}
 use Rattle.spg_opclass.specs.Laws.{SplitLaw, CodeLaw, inner_size}
@@ -29,6 +29,7 @@ use Rattle.spg_page.specs.Kinds.{IsOffset, IsInner}
 use Rattle.spg_page.specs.Reads.{frame_in}
 use Rattle.spg_tree.specs.Table.{Table, sheets_of, tuples_at, tuple_at, latch_at}
 use Rattle.spg_tree.specs.Table as table
+use Rattle.spg_tree.specs.Pick.{IsFull}
 use Rattle.spg_tree.specs.Descents.{Descending, in_nulls, risen}
 use Rattle.spg_tree.specs.declared.stand.Stand.{Stand}
 use Rattle.spg_tree.specs.declared.stand.Stand.TheVariants.{Start, Root, At, Empty}
@@ -36,6 +37,7 @@ use Rattle.spg_descend.specs.Carried.{IsCarried, WayFits}
 use Rattle.spg_descend.specs.Follows.{IsAtInner, tuple_place, link_of}
 use Rattle.spg_descend.specs.Makes.{MakesOne}
 use Rattle.spg_descend.proofs.Makes.{makes_same}
+use Rattle.spg_descend.proofs.NotFull.{picks_not_full}
 use Rattle.spg_descend.specs.Puts.{IsQuiet}
 use Rattle.spg_split.specs.Homes.{another}
 use Rattle.spg_split.specs.Parts.{bare}
@@ -43,7 +45,7 @@ use Rattle.spg_split.proofs.BlocksTouched.{another_is, another_once}
 use Rattle.spg_descend.specs.Answers.{IsAnswered}
 use Rattle.spg_move.specs.Answers.{IsInnerOf}
 use Rattle.spg_move.specs.Splits.{PartsTuple, split_cost, lower_want_at, fits_beside_at}
-use Rattle.spg_move.specs.Splitting.{lower_want, fits_beside, split_touched, MayPart, IsParted}
+use Rattle.spg_move.specs.Splitting.{lower_want, fits_beside, split_touched, IsHome, MayPart, IsParted}
 use Rattle.spg_move.proofs.SplitHomes.{IsHoused, housed, IsAway, away, touched_few}
 use Rattle.spg_move.proofs.SplitLaw.{IsDivision}
 use Rattle.spg_move.proofs.SplitLaw as law
@@ -323,3 +325,11 @@ module _ {Key Recon Cond : Type 0} (m : Meaning Key Recon Cond) (t : Table) (H :
 
       pub exact_of : (t2 : Table) (seat : ℕ) → IsParted t t2 at c seat a b → IsExact (sheets_of t) (sheets_of t2) t2.touched
       exact_of t2 seat P = exact t2 seat (table_of t2 seat P)
+
+      -- where a page is picked, the pick is not full
+      pub not_full_of : (t2 : Table) (seat : ℕ) → IsParted t t2 at c seat a b → fits_beside_at t d pre labels low ≡ false → IsFull t (lower_want_at t d low seat) → ⊥
+      not_full_of t2 seat P n F = go (fits_beside t at a b) (beside_is ∙ n) P.goes
+        where
+          go : (y : Bool) → y ≡ false → IsHome y t P.housed at b P.home seat → ⊥
+          go true e h = cc
+          go false e (Q, k) = picks_not_full t (lower_want (table.sheet_at t at.block).nulls at.block b seat) P.home P.housed Q (subst (IsFull t) (sym (want_is seat)) F)

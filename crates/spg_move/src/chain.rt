@@ -46,6 +46,7 @@ fn move_from<O: OpClass>(
     ensures table { OnOk result (MovesTable table.old table.new descent.now seat) }
     ensures exact { OnOk result (IsExact (sheets_of table.old) (sheets_of table.new) table.new.touched) }
     ensures full { IsErrOf result IndexFull → IsFull table.old (carried_want table.old descent.now seat) }
+    ensures not_full { OnOk result (IsFull table.old (carried_want table.old descent.now seat) → ⊥) }
     ensures clock { IsErrOf result ClockFull → ⊥ }
     ensures err { OnErr result (table.new ≡ table.old) }
 {
@@ -66,10 +67,11 @@ fn move_from<O: OpClass>(
 /// tuple is a chain of no tuples. No inner tuple is made. `table` tells the whole table: the order of
 /// the chain and where it is, and the pages remembered, which are those after the pick; latches and
 /// counter stay as they are. The blocks touched are exactly those written or added, each once; each but
-/// that where the insert stands and that of the tuple above was latched by no other seat. `ClockFull` comes
-/// exactly where the clock is 2^48 - 1, before a page is picked; `IndexFull` only where the pick of a
-/// leaf page for the chain with its new leaf, by this seat and not on the old block, needs a new page
-/// and there may be none. After a refusal the table is as it was.
+/// that where the insert stands and that of the tuple above was latched by no other seat. `ClockFull`
+/// comes exactly where the clock is 2^48 - 1, before a page is picked; `IndexFull` exactly where the
+/// pick of a leaf page for the chain with its new leaf, by this seat and not on the old block, needs a
+/// new page and there may be none, unless memory is short before. After a refusal the table is as it
+/// was.
 pub fn move_chain<O: OpClass>(
     alloc: Global,
     table: &mut PageTable,
@@ -88,6 +90,7 @@ pub fn move_chain<O: OpClass>(
     ensures table { OnOk result (MovesTable table.old table.new descent.now seat) }
     ensures exact { OnOk result (IsExact (sheets_of table.old) (sheets_of table.new) table.new.touched) }
     ensures full { IsErrOf result IndexFull → IsFull table.old (carried_want table.old descent.now seat) }
+    ensures not_full { OnOk result (IsFull table.old (carried_want table.old descent.now seat) → ⊥) }
     ensures clock { IsErrOf result ClockFull → table.old.clock + 1 ≡ 2 ^ 48 }
     ensures clock_first { table.old.clock + 1 ≡ 2 ^ 48 → IsErrOf result ClockFull }
     ensures err { OnErr result (table.new ≡ table.old) }

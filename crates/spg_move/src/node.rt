@@ -81,14 +81,14 @@ fn note_shift<O: OpClass>(descent: &mut Descent<O>, to: Place)
 /// the one inner tuple that is made; the old place becomes a redirect to it with the clock's moment,
 /// the downlink of the tuple above is set, the clock is raised by one, and the insert stands at the new
 /// place, whose block is among those touched and is that of the tuple above or was latched by no other
-/// seat. In both cases the insert notes that it has added a node, and the touched blocks are exactly those
-/// written or added, each once; `table` tells the whole table. Of the blocks touched, each but that
-/// where the insert stands and that of the tuple above was latched by no other seat. `ClockFull` comes
-/// exactly where the longer tuple does not fit and the clock is 2^48 - 1, before a page is picked,
-/// unless memory is short before; `IndexFull` only where it does not fit and the pick of an inner page
-/// for it, by this seat and not on the old block, needs a new page and there may be none. After a
-/// refusal table and insert are as they were. The latches and the counter stay as they are; the pages
-/// remembered are those after the pick.
+/// seat. In both cases the insert notes that it has added a node, and the touched blocks are exactly
+/// those written or added, each once; `table` tells the whole table. Of the blocks touched, each but
+/// that where the insert stands and that of the tuple above was latched by no other seat. `ClockFull`
+/// comes exactly where the longer tuple does not fit and the clock is 2^48 - 1, before a page is
+/// picked, unless memory is short before; `IndexFull` exactly where it does not fit and the pick of an
+/// inner page for it, by this seat and not on the old block, needs a new page and there may be none,
+/// unless memory is short before. After a refusal table and insert are as they were. The latches and
+/// the counter stay as they are; the pages remembered are those after the pick.
 pub fn add_node<O: OpClass>(
     alloc: Global,
     table: &mut PageTable,
@@ -108,6 +108,7 @@ pub fn add_node<O: OpClass>(
     ensures table { OnOk result (NodeTable table.old table.new descent.old descent.new at label seat) }
     ensures exact { OnOk result (IsExact (sheets_of table.old) (sheets_of table.new) table.new.touched) }
     ensures full { IsErrOf result IndexFull → (FitsWider table.old descent.old at label → ⊥) × IsFull table.old (wider_want table.old descent.old at label seat) }
+    ensures not_full { OnOk result ((FitsWider table.old descent.old at label → ⊥) → IsFull table.old (wider_want table.old descent.old at label seat) → ⊥) }
     ensures clock { IsErrOf result ClockFull → (FitsWider table.old descent.old at label → ⊥) × (table.old.clock + 1 ≡ 2 ^ 48) }
     ensures clock_first { (FitsWider table.old descent.old at label → ⊥) → table.old.clock + 1 ≡ 2 ^ 48 → IsErrOf result ClockFull ⊎ IsErrOf result Memory }
     ensures err { OnErr result (table.new ≡ table.old) }

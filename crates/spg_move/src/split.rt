@@ -29,12 +29,13 @@ use std::alloc::Global;
 /// mark of the old tuple. It goes on the page of the upper tuple where it fits there beside it and that
 /// page is no root, else on an inner page of the next parity, one more than that of the upper tuple's
 /// block modulo 3, which is picked. The insert stays where it stands, and the rise is noted. Touched
-/// are exactly the blocks that are written or added, each once. Of the blocks touched, each but that where the insert
-/// stands and that of the tuple above was latched by no other seat. The clock stays, so `ClockFull`
-/// never comes; `IndexFull` comes only where the lower tuple does not fit beside the upper one on a
-/// page that is no root, and the pick of a page of that parity for it, by this seat, needs a new page
-/// and there may be none. After a refusal table and insert are as they were. `table` tells the whole
-/// table: the pages remembered are those after the pick, and latches and counter stay as they are.
+/// are exactly the blocks that are written or added, each once. Of the blocks touched, each but that
+/// where the insert stands and that of the tuple above was latched by no other seat. The clock stays,
+/// so `ClockFull` never comes; `IndexFull` comes exactly where the lower tuple does not fit beside the
+/// upper one on a page that is no root, and the pick of a page of that parity for it, by this seat,
+/// needs a new page and there may be none, unless memory is short before. After a refusal table and
+/// insert are as they were. `table` tells the whole table: the pages remembered are those after the
+/// pick, and latches and counter stay as they are.
 pub fn split_tuple<O: OpClass>(
     alloc: Global,
     table: &mut PageTable,
@@ -55,6 +56,7 @@ pub fn split_tuple<O: OpClass>(
     ensures table { OnOk result (IsParted table.old table.new (tuple_place descent.old.stand) child seat (upper_at upper_prefix.now upper_labels.now) (lower_at table.old descent.old lower_prefix.now)) }
     ensures exact { OnOk result (IsExact (sheets_of table.old) (sheets_of table.new) table.new.touched) }
     ensures full { IsErrOf result IndexFull → (fits_beside_at table.old descent.old upper_prefix.now upper_labels.now lower_prefix.now ≡ false) × IsFull table.old (lower_want_at table.old descent.old lower_prefix.now seat) }
+    ensures not_full { OnOk result (fits_beside_at table.old descent.old upper_prefix.now upper_labels.now lower_prefix.now ≡ false → IsFull table.old (lower_want_at table.old descent.old lower_prefix.now seat) → ⊥) }
     ensures clock { IsErrOf result ClockFull → ⊥ }
     ensures err { OnErr result (table.new ≡ table.old) }
     ensures err_descent { OnErr result (descent.new ≡ descent.old) }

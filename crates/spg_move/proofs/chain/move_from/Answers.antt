@@ -8,6 +8,7 @@ use Rattle.spg_tree.specs.Picked.{IsPicked, want_of}
 use Rattle.spg_tree.specs.declared.want.Want.{Want}
 use Rattle.spg_tree.specs.declared.stand.StepRefused.TheVariants.{IndexFull}
 use Rattle.spg_descend.proofs.Held.{picked_free}
+use Rattle.spg_descend.proofs.NotFull.{picks_not_full}
 use Rattle.spg_split.specs.Placing.{HaveRoom}
 use Rattle.spg_move.specs.Moves.{carried_want}
 use Rattle.spg_move.specs.Moving.{moved_table}
@@ -136,3 +137,10 @@ returns-clause-exact g c =
     let Q = subst (λ (z : Want). Picks c.args.table.now z c.in_ok-block.block c.pick.new.self) W c.in_ok-block.ensures.ok in
     let P = subst (λ (z : Want). IsPicked c.args.table.now z c.in_ok-block.block c.pick.new.self) W c.in_ok-block.ensures.picked in
     exact g.O.OpClass.meaning c.args.table.now c.args.descent.now c.args.at c.args.parent c.args.node c.requires.shape c.requires.stands c.requires.above c.requires.spot c.requires.short c.pick.new.self c.in_ok-block.block c.args.seat Q P c.write_chain.new.table (c.write_chain.ensures ∙ ap (λ vs. moved_table c.pick.new.self c.in_ok-block.block c.args.at c.args.parent c.args.node vs) (leaves_are g.O.OpClass.meaning c.args.table.now c.args.descent.now c.args.at c.args.parent c.args.node c.requires.shape c.requires.stands c.requires.above c.requires.spot c.requires.short c.page.result.now c.in_ok-leaves.leaves c.as_slice-2.result.now c.in_ok-new.new c.row.result c.as_slice.result.now c.bytes_of.result c.size.result c.len-count.result c.page.ensures c.in_ok-leaves.ensures c.as_slice-2.ensures c.row.ensures (c.as_slice.ensures.value ∙ c.rest.ensures) c.in_ok-new.ensures c.bytes_of.ensures c.size.ensures.value c.len-count.ensures c.as_slice-3.result.now c.as_slice-3.ensures))
+
+pub returns-clause-not_full : goal.returns-clause-not_full
+returns-clause-not_full g c =
+    let W = c.avoiding-want.ensures ∙ ap (λ (w : Want). record w { avoid = Some c.args.at.block }) c.leaf.ensures ∙ want_is g.O.OpClass.meaning c.args.table.now c.args.descent.now c.args.at c.args.parent c.args.node c.requires.shape c.requires.stands c.requires.above c.requires.spot c.requires.short c.page.result.now c.in_ok-leaves.leaves c.as_slice-2.result.now c.in_ok-new.new c.row.result c.as_slice.result.now c.bytes_of.result c.size.result c.len-count.result c.page.ensures c.in_ok-leaves.ensures c.as_slice-2.ensures c.row.ensures (c.as_slice.ensures.value ∙ c.rest.ensures) c.in_ok-new.ensures c.bytes_of.ensures c.size.ensures.value c.len-count.ensures c.is_nulls-nulls.result c.args.seat c.is_nulls-nulls.ensures in
+    let V = want_there g.O.OpClass.meaning c.args.table.now c.args.descent.now c.args.at c.args.parent c.args.node c.requires.shape c.requires.stands c.requires.above c.requires.spot c.requires.short c.args.seat in
+    let Q = subst (λ (z : Want). Picks c.args.table.now z c.in_ok-block.block c.pick.new.self) (W ∙ V) c.in_ok-block.ensures.ok in
+    picks_not_full c.args.table.now (carried_want c.args.table.now c.args.descent.now c.args.seat) c.in_ok-block.block c.pick.new.self Q

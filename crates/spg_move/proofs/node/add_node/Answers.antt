@@ -18,6 +18,7 @@ use Rattle.spg_move.proofs.NodeStanding.{within, place_within, small, not_wider}
 use Rattle.spg_move.proofs.NodeLaw.{added_here, exact_here}
 use Rattle.spg_move.proofs.NodeMoved.{shifted_out, exact_out}
 use Rattle.spg_move.proofs.Held.{widened_held}
+use Rattle.spg_move.proofs.Tables.{node_not_full}
 use Rattle.spg_move.proofs.node.add_node.Goals as goal
 
 pub longer_tuple-requires-clause-offset : goal.longer_tuple-requires-clause-offset
@@ -123,3 +124,25 @@ returns-clause-exact g c =
     let el : c.in_ok-longer.longer ≡ widened (tuple_at c.args.table.now (tuple_place c.args.descent.now.stand)) c.args.at c.args.label =
     c.in_ok-longer.ensures ∙ ap (λ (z : ℤ). widened (tuple_on c.page.result.now.tuples c.tuple_place-here.result.offset) c.args.at z) (to_z-of_z w16 c.args.label c.ranges.label) ∙ ap (λ (s : Sheet). widened (tuple_on s.tuples c.tuple_place-here.result.offset) c.args.at c.args.label) c.page.ensures ∙ ap (λ (z : Place). widened (tuple_at c.args.table.now z) c.args.at c.args.label) eh in
     exact_out g.O.OpClass.meaning g.O.OpClass.adds g.O.OpClass.codes c.args.table.now c.args.descent.now c.args.at c.args.label c.requires.shape c.requires.spot c.requires.main c.requires.of_key c.requires.answer c.shift_tuple.new.table c.in_ok-longer.longer c.args.seat c.in_ok-to.to c.in_ok-to.ensures.ok el
+
+pub returns-then-fits_in_place-clause-not_full : goal.returns-then-fits_in_place-clause-not_full
+returns-then-fits_in_place-clause-not_full g c =
+    let eh : c.tuple_place-here.result ≡ tuple_place c.args.descent.now.stand = c.tuple_place-here.ensures ∙ ap tuple_place c.stand.ensures in
+    let el : c.in_ok-longer.longer ≡ widened (tuple_at c.args.table.now (tuple_place c.args.descent.now.stand)) c.args.at c.args.label =
+    c.in_ok-longer.ensures ∙ ap (λ (z : ℤ). widened (tuple_on c.page.result.now.tuples c.tuple_place-here.result.offset) c.args.at z) (to_z-of_z w16 c.args.label c.ranges.label) ∙ ap (λ (s : Sheet). widened (tuple_on s.tuples c.tuple_place-here.result.offset) c.args.at c.args.label) c.page.ensures ∙ ap (λ (z : Place). widened (tuple_at c.args.table.now z) c.args.at c.args.label) eh in
+    let room : FitsInPlace c.page-2.result.now.tuples c.tuple_place-here.result.offset c.in_ok-longer.longer = c.fits_in_place.ensures.0 c.if-fits_in_place.true in
+    node_not_full c.args.table.now c.widen_here.new.table c.args.descent.now c.note_node.new.self c.args.at c.args.label c.args.seat
+    (inl (
+      (subst (λ (u : Tuple). FitsInPlace (tuples_at c.args.table.now (tuple_place c.args.descent.now.stand).block) (tuple_place c.args.descent.now.stand).offset u) el
+          (subst (λ (z : Place). FitsInPlace (tuples_at c.args.table.now z.block) z.offset c.in_ok-longer.longer) eh (subst (λ (s : Sheet). FitsInPlace s.tuples c.tuple_place-here.result.offset c.in_ok-longer.longer) c.page-2.ensures room))),
+      c.widen_here.ensures ∙ ap₂ (λ (z : Place) (u : Tuple). widened_table c.args.table.now z u) eh el,
+    ))
+
+pub returns-clause-not_full : goal.returns-clause-not_full
+returns-clause-not_full g c =
+    let eh : c.tuple_place-here.result ≡ tuple_place c.args.descent.now.stand = c.tuple_place-here.ensures ∙ ap tuple_place c.stand.ensures in
+    let el : c.in_ok-longer.longer ≡ widened (tuple_at c.args.table.now (tuple_place c.args.descent.now.stand)) c.args.at c.args.label =
+    c.in_ok-longer.ensures ∙ ap (λ (z : ℤ). widened (tuple_on c.page.result.now.tuples c.tuple_place-here.result.offset) c.args.at z) (to_z-of_z w16 c.args.label c.ranges.label) ∙ ap (λ (s : Sheet). widened (tuple_on s.tuples c.tuple_place-here.result.offset) c.args.at c.args.label) c.page.ensures ∙ ap (λ (z : Place). widened (tuple_at c.args.table.now z) c.args.at c.args.label) eh in
+    let wide : FitsWider c.args.table.now c.args.descent.now c.args.at c.args.label → ⊥ = not_wider c.args.table.now c.args.descent.now c.args.at c.args.label c.page-2.result.now c.tuple_place-here.result c.in_ok-longer.longer c.page-2.ensures eh el (λ f. let k : true ≡ false = sym (c.fits_in_place.ensures.1 f) ∙ c.if-fits_in_place.false in cc) in
+    node_not_full c.args.table.now c.shift_tuple.new.table c.args.descent.now c.note_shift.new.descent c.args.at c.args.label c.args.seat
+    (inr (wide, c.in_ok-to.to, ap (λ (x : Descending _). x.stand) c.note_shift.ensures, subst (λ (u : Tuple). IsShiftedFrom c.args.table.now c.shift_tuple.new.table c.args.descent.now u c.args.seat c.in_ok-to.to) el c.in_ok-to.ensures.ok))

@@ -1,5 +1,6 @@
 use Rattle.spg_split.proofs.Outcome.{chain_split}
 use Rattle.spg_split.proofs.Causes.{noted_chain, rise_noted_chain}
+use Rattle.spg_split.proofs.Fulls.{chain_not_full}
 use Rattle.spg_split.proofs.Held.{noted_free}
 use Rattle.spg_split.specs.Causes.{chain_bytes, chain_in_one}
 use Rattle.spg_split.proofs.below.split_chain.Goals as goal
@@ -22,3 +23,6 @@ returns-clause-stands g c = noted_free c.args.table.now c.divide_chain.new.table
 
 pub returns-clause-table : goal.returns-clause-table
 returns-clause-table g c = (c.in_ok-done-in-At-Some.done, c.in_ok-done-in-At-Some.ensures.table, c.note_chain.ensures)
+
+pub returns-clause-not_full : goal.returns-clause-not_full
+returns-clause-not_full g c = chain_not_full g.O.OpClass.meaning c.args.table.now c.divide_chain.new.table c.args.descent.now c.args.seat c.in_ok-done-in-At-Some.done c.in_ok-done-in-At-Some.ensures.table
