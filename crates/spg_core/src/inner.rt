@@ -1,4 +1,4 @@
-ghost use Rattle.std.specs.Prelude.{◌≡◌, Option, Some as Just, false, IfOk, OnErr, IsErrOf, ◌+◌, ◌^◌};
+ghost use Rattle.std.specs.Prelude.{◌≡◌, ℕ, Option, Some as Just, false, IfOk, OnErr, IsErrOf, ◌+◌, ◌^◌};
 ghost use Rattle.spg_forest.specs.Shape.{Shape};
 ghost use Rattle.spg_tree.specs.Table.{sheets_of};
 ghost use Rattle.spg_tree.specs.Descents.{in_nulls};
@@ -6,9 +6,12 @@ ghost use Rattle.spg_tree.specs.declared.stand.StepRefused.TheVariants.{IndexFul
 ghost use Rattle.spg_descend.specs.Carried.{IsCarried};
 ghost use Rattle.spg_descend.specs.Follows.{IsAtInner};
 ghost use Rattle.spg_core.specs.declared.inner.Chosen.TheVariants.{Node, Add};
-ghost use Rattle.spg_core.specs.Stepping.{Stands, IsOutgrown, IsNearLimit, IsStepOut, IsChosen, MakesAtMostOne, named};
+ghost use Rattle.spg_core.specs.Stepping.{IsOutgrown, IsNearLimit, IsStepOut, IsChosen, MakesAtMostOne, named};
+ghost use Rattle.spg_core.specs.Telling.{StepTells};
 ghost use Rattle.spg_core.specs.Ends.{TakesOne};
-ghost use Rattle.spg_core.specs.Latches.{InsertHolds, HoldsAfter};
+ghost use Rattle.spg_seats.specs.Descending.{Stands, HoldsIts, ChangesHeld};
+ghost use Rattle.spg_seats.specs.Latching.{InsertHolds};
+ghost use Rattle.spg_core.specs.Latches.{HoldsAfter};
 
 use crate::answer::InsertOut;
 use crate::latches::{hold_anew, stand_block};
@@ -138,7 +141,9 @@ fn go_down<O: OpClass>(
     requires stands { Stands table.old descent.old }
     requires chosen { IsChosen {O = O} O.meaning table.old descent.old (Node node rest by_turn below) }
     ensures ok { IsStepOut O.meaning table.old table.new descent.old descent.new seat result }
-    ensures latches { InsertHolds table.old seat descent.old → HoldsAfter table.new seat descent.new result }
+    ensures told { StepTells O.meaning table.old table.new descent.old descent.new seat result }
+    ensures latches { (rest : ℕ → Option ℕ) → InsertHolds table.old seat rest descent.old → HoldsAfter table.new seat rest descent.new result }
+    ensures within { HoldsIts table.old seat descent.old → ChangesHeld table.old table.new seat }
     ensures ends { TakesOne O.meaning table.old table.new descent.old descent.new result }
     ensures makes { MakesAtMostOne table.old table.new }
 {
@@ -168,7 +173,9 @@ fn widen<O: OpClass>(
     requires stands { Stands table.old descent.old }
     requires chosen { IsChosen {O = O} O.meaning table.old descent.old (Add at label) }
     ensures ok { IfOk result (λ out. IsStepOut O.meaning table.old table.new descent.old descent.new seat out) }
-    ensures latches { IfOk result (λ out. InsertHolds table.old seat descent.old → HoldsAfter table.new seat descent.new out) }
+    ensures told { IfOk result (λ out. StepTells O.meaning table.old table.new descent.old descent.new seat out) }
+    ensures latches { IfOk result (λ out. (rest : ℕ → Option ℕ) → InsertHolds table.old seat rest descent.old → HoldsAfter table.new seat rest descent.new out) }
+    ensures within { HoldsIts table.old seat descent.old → ChangesHeld table.old table.new seat }
     ensures ends { IfOk result (λ out. TakesOne O.meaning table.old table.new descent.old descent.new out) }
     ensures makes { IfOk result (λ _. MakesAtMostOne table.old table.new) }
     ensures full { IsErrOf result IndexFull → IsOutgrown table.old descent.old × IsNearLimit table.old }
@@ -196,7 +203,9 @@ pub(crate) fn at_inner<O: OpClass>(
     requires of_key { (key : Option O.Key) × IsCarried O.meaning (sheets_of table.old) descent.old key }
     requires stands { Stands table.old descent.old }
     ensures ok { IfOk result (λ out. IsStepOut O.meaning table.old table.new descent.old descent.new seat out) }
-    ensures latches { IfOk result (λ out. InsertHolds table.old seat descent.old → HoldsAfter table.new seat descent.new out) }
+    ensures told { IfOk result (λ out. StepTells O.meaning table.old table.new descent.old descent.new seat out) }
+    ensures latches { IfOk result (λ out. (rest : ℕ → Option ℕ) → InsertHolds table.old seat rest descent.old → HoldsAfter table.new seat rest descent.new out) }
+    ensures within { HoldsIts table.old seat descent.old → ChangesHeld table.old table.new seat }
     ensures ends { IfOk result (λ out. TakesOne O.meaning table.old table.new descent.old descent.new out) }
     ensures makes { IfOk result (λ _. MakesAtMostOne table.old table.new) }
     ensures full { IsErrOf result IndexFull → IsOutgrown table.old descent.old × IsNearLimit table.old }

@@ -1,4 +1,4 @@
-ghost use Rattle.std.specs.Prelude.{◌≡◌, Option, IfOk, OnErr, IsErrOf, ◌+◌, ◌^◌};
+ghost use Rattle.std.specs.Prelude.{◌≡◌, ℕ, Option, IfOk, OnErr, IsErrOf, ◌+◌, ◌^◌};
 ghost use Rattle.spg_forest.specs.Tuples.{Live};
 ghost use Rattle.spg_forest.specs.Shape.{Shape};
 ghost use Rattle.spg_tree.specs.Table.{sheets_of};
@@ -8,9 +8,12 @@ ghost use Rattle.spg_descend.specs.Carried.{carried, IsCarried};
 ghost use Rattle.spg_descend.specs.Puts.{Fits};
 ghost use Rattle.spg_descend.specs.Rules.{IsAtNoInner, MayMove};
 ghost use Rattle.spg_split.specs.Splits.{IsAtRoot};
-ghost use Rattle.spg_core.specs.Stepping.{Stands, IsOutgrown, IsNearLimit, IsStepOut, MakesAtMostOne};
+ghost use Rattle.spg_core.specs.Stepping.{IsOutgrown, IsNearLimit, IsStepOut, MakesAtMostOne};
+ghost use Rattle.spg_core.specs.Telling.{StepTells};
 ghost use Rattle.spg_core.specs.Ends.{TakesOne};
-ghost use Rattle.spg_core.specs.Latches.{InsertHolds, HoldsAfter};
+ghost use Rattle.spg_seats.specs.Descending.{Stands, HoldsIts, ChangesHeld};
+ghost use Rattle.spg_seats.specs.Latching.{InsertHolds};
+ghost use Rattle.spg_core.specs.Latches.{HoldsAfter};
 
 use crate::answer::InsertOut;
 use crate::inner::at_inner;
@@ -29,7 +32,9 @@ fn begin<O: OpClass>(table: &mut PageTable, descent: &mut Descent<O>, seat: Seat
     requires start { descent.old.stand ≡ Start }
     requires stands { Stands table.old descent.old }
     ensures ok { IsStepOut O.meaning table.old table.new descent.old descent.new seat result }
-    ensures latches { InsertHolds table.old seat descent.old → HoldsAfter table.new seat descent.new result }
+    ensures told { StepTells O.meaning table.old table.new descent.old descent.new seat result }
+    ensures latches { (rest : ℕ → Option ℕ) → InsertHolds table.old seat rest descent.old → HoldsAfter table.new seat rest descent.new result }
+    ensures within { HoldsIts table.old seat descent.old → ChangesHeld table.old table.new seat }
     ensures ends { TakesOne O.meaning table.old table.new descent.old descent.new result }
     ensures makes { MakesAtMostOne table.old table.new }
 {
@@ -53,7 +58,9 @@ fn put<O: OpClass>(
     requires of_key { (key : Option O.Key) × IsCarried O.meaning (sheets_of table.old) descent.old key }
     requires stands { Stands table.old descent.old }
     ensures ok { IfOk result (λ out. IsStepOut O.meaning table.old table.new descent.old descent.new seat out) }
-    ensures latches { IfOk result (λ out. InsertHolds table.old seat descent.old → HoldsAfter table.new seat descent.new out) }
+    ensures told { IfOk result (λ out. StepTells O.meaning table.old table.new descent.old descent.new seat out) }
+    ensures latches { IfOk result (λ out. (rest : ℕ → Option ℕ) → InsertHolds table.old seat rest descent.old → HoldsAfter table.new seat rest descent.new out) }
+    ensures within { HoldsIts table.old seat descent.old → ChangesHeld table.old table.new seat }
     ensures ends { IfOk result (λ out. TakesOne O.meaning table.old table.new descent.old descent.new out) }
     ensures makes { IfOk result (λ _. MakesAtMostOne table.old table.new) }
     ensures full { IsErrOf result IndexFull → IsOutgrown table.old descent.old × IsNearLimit table.old }
@@ -85,7 +92,9 @@ fn divide_root<O: OpClass>(
     requires of_key { (key : Option O.Key) × IsCarried O.meaning (sheets_of table.old) descent.old key }
     requires stands { Stands table.old descent.old }
     ensures ok { IfOk result (λ out. IsStepOut O.meaning table.old table.new descent.old descent.new seat out) }
-    ensures latches { IfOk result (λ out. InsertHolds table.old seat descent.old → HoldsAfter table.new seat descent.new out) }
+    ensures told { IfOk result (λ out. StepTells O.meaning table.old table.new descent.old descent.new seat out) }
+    ensures latches { IfOk result (λ out. (rest : ℕ → Option ℕ) → InsertHolds table.old seat rest descent.old → HoldsAfter table.new seat rest descent.new out) }
+    ensures within { HoldsIts table.old seat descent.old → ChangesHeld table.old table.new seat }
     ensures ends { IfOk result (λ out. TakesOne O.meaning table.old table.new descent.old descent.new out) }
     ensures makes { IfOk result (λ _. MakesAtMostOne table.old table.new) }
     ensures full { IsErrOf result IndexFull → IsOutgrown table.old descent.old × IsNearLimit table.old }
@@ -118,7 +127,9 @@ fn divide_chain<O: OpClass>(
     requires of_key { (key : Option O.Key) × IsCarried O.meaning (sheets_of table.old) descent.old key }
     requires stands { Stands table.old descent.old }
     ensures ok { IfOk result (λ out. IsStepOut O.meaning table.old table.new descent.old descent.new seat out) }
-    ensures latches { IfOk result (λ out. InsertHolds table.old seat descent.old → HoldsAfter table.new seat descent.new out) }
+    ensures told { IfOk result (λ out. StepTells O.meaning table.old table.new descent.old descent.new seat out) }
+    ensures latches { IfOk result (λ out. (rest : ℕ → Option ℕ) → InsertHolds table.old seat rest descent.old → HoldsAfter table.new seat rest descent.new out) }
+    ensures within { HoldsIts table.old seat descent.old → ChangesHeld table.old table.new seat }
     ensures ends { IfOk result (λ out. TakesOne O.meaning table.old table.new descent.old descent.new out) }
     ensures makes { IfOk result (λ _. MakesAtMostOne table.old table.new) }
     ensures full { IsErrOf result IndexFull → IsOutgrown table.old descent.old × IsNearLimit table.old }
@@ -154,7 +165,9 @@ fn move_away<O: OpClass>(
     requires of_key { (key : Option O.Key) × IsCarried O.meaning (sheets_of table.old) descent.now key }
     requires stands { Stands table.old descent.now }
     ensures ok { IfOk result (λ out. IsStepOut O.meaning table.old table.new descent.now descent.now seat out) }
-    ensures latches { IfOk result (λ out. InsertHolds table.old seat descent.now → HoldsAfter table.new seat descent.now out) }
+    ensures told { IfOk result (λ out. StepTells O.meaning table.old table.new descent.now descent.now seat out) }
+    ensures latches { IfOk result (λ out. (rest : ℕ → Option ℕ) → InsertHolds table.old seat rest descent.now → HoldsAfter table.new seat rest descent.now out) }
+    ensures within { HoldsIts table.old seat descent.now → ChangesHeld table.old table.new seat }
     ensures ends { IfOk result (λ out. TakesOne O.meaning table.old table.new descent.now descent.now out) }
     ensures makes { IfOk result (λ _. MakesAtMostOne table.old table.new) }
     ensures full { IsErrOf result IndexFull → IsOutgrown table.old descent.now × IsNearLimit table.old }
@@ -179,7 +192,9 @@ pub(crate) fn step<O: OpClass>(
     requires of_key { (key : Option O.Key) × IsCarried O.meaning (sheets_of table.old) descent.old key }
     requires stands { Stands table.old descent.old }
     ensures ok { IfOk result (λ out. IsStepOut O.meaning table.old table.new descent.old descent.new seat out) }
-    ensures latches { IfOk result (λ out. InsertHolds table.old seat descent.old → HoldsAfter table.new seat descent.new out) }
+    ensures told { IfOk result (λ out. StepTells O.meaning table.old table.new descent.old descent.new seat out) }
+    ensures latches { IfOk result (λ out. (rest : ℕ → Option ℕ) → InsertHolds table.old seat rest descent.old → HoldsAfter table.new seat rest descent.new out) }
+    ensures within { HoldsIts table.old seat descent.old → ChangesHeld table.old table.new seat }
     ensures ends { IfOk result (λ out. TakesOne O.meaning table.old table.new descent.old descent.new out) }
     ensures makes { IfOk result (λ _. MakesAtMostOne table.old table.new) }
     ensures full { IsErrOf result IndexFull → IsOutgrown table.old descent.old × IsNearLimit table.old }

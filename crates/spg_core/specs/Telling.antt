@@ -1,0 +1,76 @@
+-- What a section of an insert did: which of its ways it took, and what that way tells of pages, clock, counter and limit.
+use Rattle.std.specs.Prelude.{◌≡◌, ◌⊎◌, ◌+◌, ◌%◌, ℕ, ℤ, Bool, false, List, if◌then◌else◌}
+use Rattle.spg_opclass.specs.Meaning.{Meaning}
+use Rattle.spg_opclass.specs.declared.view.Choice.TheVariants as choice
+use Rattle.spg_forest.specs.Tuples.{Live}
+use Rattle.spg_forest.specs.View.{Place}
+use Rattle.spg_tree.specs.Table.{Table, with_counter}
+use Rattle.spg_tree.specs.Descents.{Descending, in_nulls}
+use Rattle.spg_tree.specs.declared.stand.Stand.TheVariants.{Start}
+use Rattle.spg_descend.specs.declared.enter.Entered.{Entered}
+use Rattle.spg_descend.specs.declared.enter.Entered.TheVariants.{In, Busy}
+use Rattle.spg_descend.specs.declared.put.PutOut.TheVariants as puts
+use Rattle.spg_descend.specs.declared.rule.Rule.TheVariants as rules
+use Rattle.spg_descend.specs.Carried.{carried}
+use Rattle.spg_descend.specs.Answers.{IsAnswered}
+use Rattle.spg_descend.specs.Below.{IsTicked}
+use Rattle.spg_descend.specs.Enters.{EntersRoot}
+use Rattle.spg_descend.specs.Follows.{FollowsNode}
+use Rattle.spg_descend.specs.Makes.{MakesNone}
+use Rattle.spg_descend.specs.Puts.{IsPutOut}
+use Rattle.spg_descend.specs.Rules.{IsRule}
+use Rattle.spg_split.specs.declared.split.SplitOut.{SplitOut}
+use Rattle.spg_split.specs.declared.split.SplitOut.TheVariants as splits
+use Rattle.spg_split.specs.Splits.{IsAtRoot, IsSplitOut}
+use Rattle.spg_split.specs.Below.{IsChainSplit}
+use Rattle.spg_split.specs.Causes.{IsCause, root_bytes, chain_bytes}
+use Rattle.spg_move.specs.Moves.{MovesCarried}
+use Rattle.spg_move.specs.Nodes.{IsNodeAdded}
+use Rattle.spg_move.specs.Splits.{PartsTuple}
+use Rattle.spg_core.specs.Stepping.{IsNamed}
+use Rattle.spg_core.specs.declared.answer.InsertOut.{InsertOut}
+use Rattle.spg_core.specs.declared.answer.InsertOut.TheVariants.{Descended, Restructured, Restarted, Put}
+
+-- but for its latches the table is as it was
+abbrev pub IsButLatches : Table → Table → Type 0
+IsButLatches t t2 = t2 ≡ record t { latches = t2.latches }
+
+-- the counter is raised by one, from 7 to 0, where it named the node
+abbrev pub turned : Bool → Table → Table
+turned by_turn t = if by_turn then with_counter t ((t.counter + 1) % 8) else t
+
+-- it goes down the node of the tuple at which it stands that is followed there, or gives way there
+abbrev pub GoesDown : {Key Recon Cond : Type 0} → Meaning Key Recon Cond → Table → Table → Descending Recon → Descending Recon → ℕ → Entered → Type 0
+GoesDown m t t2 d d2 seat out =
+    (node : ℕ) × (rest : List ℕ) × (by_turn : Bool) × IsNamed m t d node rest by_turn × (t1 : Table) × FollowsNode m t t1 d d2 seat node rest out × (t2 ≡ turned by_turn t1)
+
+-- it comes to the root of its tree, or gives way there; or it goes down a node
+abbrev pub Comes : {Key Recon Cond : Type 0} → Meaning Key Recon Cond → Table → Table → Descending Recon → Descending Recon → ℕ → Entered → Type 0
+Comes m t t2 d d2 seat out =
+    ((d.stand ≡ Start) × EntersRoot t t2 d d2 seat out) ⊎ (IsRule t d.stand (Live (carried d) 0) rules.Choose × GoesDown m t t2 d d2 seat out)
+
+-- where the class asks for it, a node is added at the inner tuple, or that tuple is split
+abbrev pub Changes : {Key Recon Cond : Type 0} → Meaning Key Recon Cond → Table → Table → Descending Recon → Descending Recon → Type 0
+Changes m t t2 d d2 = (in_nulls d ≡ false) × (
+    ((at : ℕ) × (label : ℤ) × IsAnswered m t d (choice.Add at label) × IsNodeAdded m t t2 d d2 at label)
+    ⊎ ((up : List ℕ) × (labels : List ℤ) × (child : ℕ) × (low : List ℕ) × IsAnswered m t d (choice.Split up labels child low) × PartsTuple m t t2 d d2 up labels child))
+
+-- the leaves of the root page, or of the chain, are divided
+abbrev pub Divides : {Key Recon Cond : Type 0} → Meaning Key Recon Cond → Table → Table → Descending Recon → Descending Recon → SplitOut → Type 0
+Divides m t t2 d d2 out = IsRule t d.stand (Live (carried d) 0) rules.Part × (
+    (IsAtRoot d.stand × IsSplitOut m t t2 d d2 out × IsCause (root_bytes m t d) out)
+    ⊎ ((IsAtRoot d.stand → ⊥) × IsChainSplit m t t2 d d2 out × IsTicked t t2 × IsCause (chain_bytes m t d) out))
+
+-- the leaf is put where it fits, or with the chain that moves, or with the leaves that are divided
+abbrev pub Puts : {Key Recon Cond : Type 0} → Meaning Key Recon Cond → Table → Table → Descending Recon → Descending Recon → Type 0
+Puts m t t2 d d2 =
+    (IsRule t d.stand (Live (carried d) 0) rules.Put × IsPutOut m t t2 d puts.Put)
+    ⊎ (IsRule t d.stand (Live (carried d) 0) rules.Move × MovesCarried m t t2 d × IsTicked t t2 × MakesNone t t2)
+    ⊎ Divides m t t2 d d2 splits.Put
+
+-- what came of a section, and how
+abbrev pub StepTells : {Key Recon Cond : Type 0} → Meaning Key Recon Cond → Table → Table → Descending Recon → Descending Recon → ℕ → InsertOut → Type 0
+StepTells m t t2 d d2 seat Descended = Comes m t t2 d d2 seat In
+StepTells m t t2 d d2 seat (Restarted block by) = Comes m t t2 d d2 seat (Busy block by)
+StepTells m t t2 d d2 seat Restructured = (t1 : Table) × IsButLatches t1 t2 × ((IsRule t d.stand (Live (carried d) 0) rules.Choose × Changes m t t1 d d2) ⊎ Divides m t t1 d d2 splits.LeftOut)
+StepTells m t t2 d d2 seat Put = (t1 : Table) × IsButLatches t1 t2 × Puts m t t1 d d2
