@@ -9,6 +9,7 @@ pub mod Ends
 pub mod Inners
 pub mod Founds
 pub mod Slots
+pub mod Sweeps
 pub mod Steps
 pub mod Inserts
 pub mod Going
