@@ -6,10 +6,10 @@ use Rattle.spg_forest.specs.Tuples.{Live}
 use Rattle.spg_forest.specs.View.{Place}
 use Rattle.spg_tree.specs.Table.{Table, with_counter}
 use Rattle.spg_tree.specs.Descents.{Descending, in_nulls}
-use Rattle.spg_tree.specs.declared.stand.Stand.TheVariants.{Start}
 use Rattle.spg_descend.specs.declared.enter.Entered.{Entered}
 use Rattle.spg_descend.specs.declared.enter.Entered.TheVariants.{In, Busy}
 use Rattle.spg_descend.specs.declared.put.PutOut.TheVariants as puts
+use Rattle.spg_descend.specs.declared.rule.Rule.{Rule}
 use Rattle.spg_descend.specs.declared.rule.Rule.TheVariants as rules
 use Rattle.spg_descend.specs.Carried.{carried}
 use Rattle.spg_descend.specs.Answers.{IsAnswered}
@@ -39,38 +39,48 @@ IsButLatches t t2 = t2 ≡ record t { latches = t2.latches }
 abbrev pub turned : Bool → Table → Table
 turned by_turn t = if by_turn then with_counter t ((t.counter + 1) % 8) else t
 
--- it goes down the node of the tuple at which it stands that is followed there, or gives way there
+-- the rule of insertion that applies where the insert stands
+abbrev pub IsRuleFor : {Recon : Type 0} → Table → Descending Recon → Rule → Type 0
+IsRuleFor t d rule = IsRule t d.stand (Live (carried d) 0) rule
+
+-- it follows the node of the tuple at which it stands that the class answers, or that the counter names; or it gives way to the seat that holds the block there
 abbrev pub GoesDown : {Key Recon Cond : Type 0} → Meaning Key Recon Cond → Table → Table → Descending Recon → Descending Recon → ℕ → Entered → Type 0
 GoesDown m t t2 d d2 seat out =
     (node : ℕ) × (rest : List ℕ) × (by_turn : Bool) × IsNamed m t d node rest by_turn × (t1 : Table) × FollowsNode m t t1 d d2 seat node rest out × (t2 ≡ turned by_turn t1)
 
--- it comes to the root of its tree, or gives way there; or it goes down a node
+-- it enters the root of its tree, or gives way there; or it goes down a node
 abbrev pub Comes : {Key Recon Cond : Type 0} → Meaning Key Recon Cond → Table → Table → Descending Recon → Descending Recon → ℕ → Entered → Type 0
-Comes m t t2 d d2 seat out =
-    ((d.stand ≡ Start) × EntersRoot t t2 d d2 seat out) ⊎ (IsRule t d.stand (Live (carried d) 0) rules.Choose × GoesDown m t t2 d d2 seat out)
+Comes m t t2 d d2 seat out = (IsRuleFor t d rules.Start × EntersRoot t t2 d d2 seat out) ⊎ (IsRuleFor t d rules.Choose × GoesDown m t t2 d d2 seat out)
 
--- where the class asks for it, a node is added at the inner tuple, or that tuple is split
-abbrev pub Changes : {Key Recon Cond : Type 0} → Meaning Key Recon Cond → Table → Table → Descending Recon → Descending Recon → Type 0
-Changes m t t2 d d2 = (in_nulls d ≡ false) × (
+-- the class asks for a node at the inner tuple, and it is added; or for a split, and the tuple is split
+abbrev pub ChangesTuple : {Key Recon Cond : Type 0} → Meaning Key Recon Cond → Table → Table → Descending Recon → Descending Recon → Type 0
+ChangesTuple m t t2 d d2 =
     ((at : ℕ) × (label : ℤ) × IsAnswered m t d (choice.Add at label) × IsNodeAdded m t t2 d d2 at label)
-    ⊎ ((up : List ℕ) × (labels : List ℤ) × (child : ℕ) × (low : List ℕ) × IsAnswered m t d (choice.Split up labels child low) × PartsTuple m t t2 d d2 up labels child))
+    ⊎ ((up : List ℕ) × (labels : List ℤ) × (child : ℕ) × (low : List ℕ) × IsAnswered m t d (choice.Split up labels child low) × PartsTuple m t t2 d d2 up labels child)
 
--- the leaves of the root page, or of the chain, are divided
+-- the leaves of the root page are divided, or those of the chain
 abbrev pub Divides : {Key Recon Cond : Type 0} → Meaning Key Recon Cond → Table → Table → Descending Recon → Descending Recon → SplitOut → Type 0
-Divides m t t2 d d2 out = IsRule t d.stand (Live (carried d) 0) rules.Part × (
+Divides m t t2 d d2 out =
     (IsAtRoot d.stand × IsSplitOut m t t2 d d2 out × IsCause (root_bytes m t d) out)
-    ⊎ ((IsAtRoot d.stand → ⊥) × IsChainSplit m t t2 d d2 out × IsTicked t t2 × IsCause (chain_bytes m t d) out))
+    ⊎ ((IsAtRoot d.stand → ⊥) × IsChainSplit m t t2 d d2 out × IsTicked t t2 × IsCause (chain_bytes m t d) out)
 
--- the leaf is put where it fits, or with the chain that moves, or with the leaves that are divided
-abbrev pub Puts : {Key Recon Cond : Type 0} → Meaning Key Recon Cond → Table → Table → Descending Recon → Descending Recon → Type 0
-Puts m t t2 d d2 =
-    (IsRule t d.stand (Live (carried d) 0) rules.Put × IsPutOut m t t2 d puts.Put)
-    ⊎ (IsRule t d.stand (Live (carried d) 0) rules.Move × MovesCarried m t t2 d × IsTicked t t2 × MakesNone t t2)
-    ⊎ Divides m t t2 d d2 splits.Put
+-- the leaf is put where it fits, or with its chain that moves, or with the leaves that are divided; the insert stays where it is
+abbrev pub PutsLeaf : {Key Recon Cond : Type 0} → Meaning Key Recon Cond → Table → Table → Descending Recon → Descending Recon → Type 0
+PutsLeaf m t t2 d d2 = (d2 ≡ d) × (
+    (IsRuleFor t d rules.Put × IsPutOut m t t2 d puts.Put)
+    ⊎ (IsRuleFor t d rules.Move × MovesCarried m t t2 d × IsTicked t t2 × MakesNone t t2)
+    ⊎ (IsRuleFor t d rules.Part × Divides m t t2 d d2 splits.Put))
 
--- what came of a section, and how
+-- a section that changes pages puts the leaf; or it changes the inner tuple, or divides the leaves without that of the insert
+abbrev pub Rewrites : {Key Recon Cond : Type 0} → Meaning Key Recon Cond → Table → Table → Descending Recon → Descending Recon → InsertOut → Type 0
+Rewrites m t t2 d d2 Descended = ⊥
+Rewrites m t t2 d d2 Restructured = (IsRuleFor t d rules.Choose × (in_nulls d ≡ false) × ChangesTuple m t t2 d d2) ⊎ (IsRuleFor t d rules.Part × Divides m t t2 d d2 splits.LeftOut)
+Rewrites m t t2 d d2 (Restarted block by) = ⊥
+Rewrites m t t2 d d2 Put = PutsLeaf m t t2 d d2
+
+-- What a section did. Where it changed pages, the latches were changed after that
 abbrev pub StepTells : {Key Recon Cond : Type 0} → Meaning Key Recon Cond → Table → Table → Descending Recon → Descending Recon → ℕ → InsertOut → Type 0
 StepTells m t t2 d d2 seat Descended = Comes m t t2 d d2 seat In
+StepTells m t t2 d d2 seat Restructured = (t1 : Table) × IsButLatches t1 t2 × Rewrites m t t1 d d2 Restructured
 StepTells m t t2 d d2 seat (Restarted block by) = Comes m t t2 d d2 seat (Busy block by)
-StepTells m t t2 d d2 seat Restructured = (t1 : Table) × IsButLatches t1 t2 × ((IsRule t d.stand (Live (carried d) 0) rules.Choose × Changes m t t1 d d2) ⊎ Divides m t t1 d d2 splits.LeftOut)
-StepTells m t t2 d d2 seat Put = (t1 : Table) × IsButLatches t1 t2 × Puts m t t1 d d2
+StepTells m t t2 d d2 seat Put = (t1 : Table) × IsButLatches t1 t2 × Rewrites m t t1 d d2 Put
