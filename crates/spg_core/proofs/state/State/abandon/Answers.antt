@@ -12,14 +12,14 @@ use Rattle.spg_core.proofs.Steps.{given_up_rows, given_up_seat, may_give_up, roo
 use Rattle.spg_core.proofs.Opens.{can_release, given_up_fits}
 use Rattle.spg_core.proofs.state.State.abandon.Goals as goal
 
-pub release_slot-requires-after_bounds : goal.release_slot-requires-after_bounds
-release_slot-requires-after_bounds g c κs bounds =
+pub release_slot-requires : goal.release_slot-requires
+release_slot-requires g c =
     let s = c.self.inside in
     let kept = c.self.invariant in
     subst (λ (x : Slot _ _ _ _). CanRelease s.table s.rows x) (sym c.set_slot-slot.ensures.former) (can_release g.O.OpClass.meaning s kept c.args.seat (get_or s.slots.items c.args.seat Free) (kept.slots c.args.seat))
 
-pub append-requires-after_bounds : goal.append-requires-after_bounds
-append-requires-after_bounds g c κs bounds =
+pub append-requires : goal.append-requires
+append-requires g c =
     let s = c.self.inside in
     let apart : stage_of (get_or s.slots.items c.args.seat Free) ≢ free = λ is. c.requires.open (stage_is s c.args.self.now c.self.view_is c.args.seat ∙ is) in
     room_left g.O.OpClass.meaning s c.self.invariant c.args.seat (not_free_open _ apart)

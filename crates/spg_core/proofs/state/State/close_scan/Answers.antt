@@ -8,19 +8,19 @@ use Rattle.spg_core.proofs.Steps.{kept_still, room_left}
 use Rattle.spg_core.proofs.state.State.close_scan.Goals as goal
 
 pub close_slot-requires-clause-scan : goal.close_slot-requires-clause-scan
-close_slot-requires-clause-scan g c κs within =
+close_slot-requires-clause-scan g c =
     let s = c.self.inside in
     let seat = c.args.seat in
     (is_read g.O.OpClass.meaning s c.self.invariant (get_or s.slots.items seat Free) (subst IsRead (stage_is s c.args.self.now c.self.view_is seat) c.requires.read)).0
 
-pub append-requires-after_bounds : goal.append-requires-after_bounds
-append-requires-after_bounds g c κs bounds =
+pub append-requires : goal.append-requires
+append-requires g c =
     let s = c.self.inside in
     let seat = c.args.seat in
     room_left g.O.OpClass.meaning s c.self.invariant seat (is_read g.O.OpClass.meaning s c.self.invariant (get_or s.slots.items seat Free) (subst IsRead (stage_is s c.args.self.now c.self.view_is seat) c.requires.read)).1
 
-pub set_slot-requires-after_bounds : goal.set_slot-requires-after_bounds
-set_slot-requires-after_bounds g c κs within =
+pub set_slot-requires : goal.set_slot-requires
+set_slot-requires g c =
     let s = c.self.inside in
     closes_seats g.O.OpClass.meaning s c.self.invariant c.args.seat c.in_ok-told.closed c.close_slot.new.slots.items (get_or s.slots.items c.args.seat Free) c.in_ok-told.ensures.ok
 

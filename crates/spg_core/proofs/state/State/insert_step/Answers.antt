@@ -19,7 +19,7 @@ use Rattle.spg_core.proofs.state.State.insert_step.Goals as goal
 use Rattle.spg_core.proofs.state.State.insert_step.Goals.{then-has_ended, else-has_ended}
 
 pub step_slot-requires-clause-insert : goal.step_slot-requires-clause-insert
-step_slot-requires-clause-insert g c κs within =
+step_slot-requires-clause-insert g c =
     let s = c.self.inside in
     let seat = c.args.seat in
     let slot = get_or s.slots.items seat Free in
@@ -61,12 +61,12 @@ returns-in_err-out-clause-others g c =
     subst (λ (t : Table). OthersHold c.args.self.now.table t c.args.seat) (sym same) (λ other b apart. (λ h. h, λ h. h))
 
 pub end_insert-row-requires-clause-seats : goal.end_insert-row-requires-clause-seats
-end_insert-row-requires-clause-seats g c κs within =
+end_insert-row-requires-clause-seats g c =
     let s = c.self.inside in
     steps_length g.O.OpClass.meaning g.O.OpClass.codes s c.self.invariant c.args.seat (get_or s.slots.items c.args.seat Free) c.step_slot.new.table c.step_slot.new.slots.items c.in_ok-out.out c.in_ok-out.ensures.ok
 
-pub put-requires-after_bounds : goal.put-requires-after_bounds
-put-requires-after_bounds g c κs within =
+pub put-requires : goal.put-requires
+put-requires g c =
     let m = g.O.OpClass.meaning in
     let s = c.self.inside in
     let seat = c.args.seat in
@@ -77,8 +77,8 @@ put-requires-after_bounds g c κs within =
     let there : seat < length s.slots.items = omega (arith, seats m s c.self.invariant, low m s c.self.invariant seat was) in
     row_claimed m g.O.OpClass.codes s c.self.invariant seat slot c.end_insert-row.result (fits m s c.self.invariant seat) (put_row m g.O.OpClass.codes s c.self.invariant seat slot c.step_slot.new.table c.step_slot.new.slots.items c.end_insert-row.result there steps c.end_insert-row.ensures.row)
 
-pub append-requires-after_bounds : goal.append-requires-after_bounds
-append-requires-after_bounds g c κs within =
+pub append-requires : goal.append-requires
+append-requires g c =
     let s = c.self.inside in
     let seat = c.args.seat in
     room_left g.O.OpClass.meaning s c.self.invariant seat (inserting_open (stage_of (get_or s.slots.items seat Free)) (subst (λ (x : Stage _ _ _ _). IsInserting x) (stage_is s c.args.self.now c.self.view_is seat) c.requires.inserting))

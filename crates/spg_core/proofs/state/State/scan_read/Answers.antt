@@ -6,7 +6,7 @@ use Rattle.spg_core.proofs.Slots.{stage_is}
 use Rattle.spg_core.proofs.state.State.scan_read.Goals as goal
 
 pub read_slot-requires-clause-scan : goal.read_slot-requires-clause-scan
-read_slot-requires-clause-scan g c κs within =
+read_slot-requires-clause-scan g c =
     let s = c.self.inside in
     let seat = c.args.seat in
     can_read g.O.OpClass.meaning s c.self.invariant (get_or s.slots.items seat Free) seat c.args.item (c.self.invariant.slots seat) (subst (λ st. c.args.item < held_count st) (stage_is s c.args.self.now c.self.view_is seat) c.requires.held)
