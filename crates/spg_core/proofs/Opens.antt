@@ -30,13 +30,13 @@ use Rattle.spg_core.specs.declared.slot.Slot.TheVariants.{Free, Insert, Scan}
 use Rattle.spg_core.specs.declared.state.State.TheInside.{Inside}
 use Rattle.spg_core.specs.Slot.{stage_of, GivesBack}
 use Rattle.spg_core.specs.Stage.{given_up}
-use Rattle.spg_core.specs.Seen.{untouched}
+use Rattle.spg_core.specs.Seen.{Seen, stage_at, logged, untouched}
 use Rattle.spg_core.specs.Operations.{CanRelease}
-use Rattle.spg_core.specs.Sections.{HasNone, OthersHold}
+use Rattle.spg_core.specs.Sections.{HasNone, OthersHold, IsReleased, KillsRow}
 use Rattle.spg_core.specs.Telling.{IsButLatches}
-use Rattle.spg_core.specs.Kept.{fields_of, IsState}
+use Rattle.spg_core.specs.Kept.{fields_of, seen_of, IsState}
 use Rattle.spg_core.proofs.Stands.{here_there, above_there}
-use Rattle.spg_core.proofs.Slots.{set_itself, stages_set, stage_set, stage_get, open_count-all}
+use Rattle.spg_core.proofs.Slots.{seen_as, past_is, set_itself, stages_set, stage_set, stage_get, open_count-all}
 use Rattle.spg_core.proofs.Steps.{with_fields, held_on, past, stages, sane, seats, fits, held, free_held, free_open, room_ended, unswept_then, insert_claimed, unclaimed_fresh, low}
 
 -- a row in the state of one that is live is live
@@ -62,6 +62,17 @@ but_freed t here above seat =
     let one = released t here seat in
     let two = released one above seat in
     but_released one above seat ∙ ap (λ (x : pages.Table). record x { latches = two.latches }) (but_released t here seat)
+
+-- but for latches the pages are as they were, with none touched
+pub but_untouched : (t t2 : pages.Table) → IsButLatches t t2 → IsReleased t (untouched t2)
+but_untouched t t2 but = ap (λ (x : pages.Table). untouched x) but
+
+-- the seat has nothing latched then, and the others have what they had
+pub none_left_of : (t t2 : pages.Table) (seat : ℕ) → HoldsNone t2 seat (rest_of t seat) → HasNone (untouched t2) seat
+none_left_of t t2 seat h b e = h.others b (sym (h.latch b) ∙ e)
+
+pub others_left : (t t2 : pages.Table) (seat : ℕ) → HoldsNone t2 seat (rest_of t seat) → OthersHold t (untouched t2) seat
+others_left t t2 seat h = (latches_law (Unit {0}) (Unit {0}) (Unit {0}) (Unit {0})).stay t (untouched t2) seat (λ b. false) (held_on t2 (untouched t2) seat (rest_of t seat) (λ b. false) (λ b. refl) h)
 
 module _ {O Key Recon Cond : Type 0} where
   -- a slot without an insert holds nothing
@@ -158,6 +169,16 @@ module _ {O Key Recon Cond : Type 0} (m : Meaning Key Recon Cond) (s : Inside O 
         unswept = unswept_then m s I journal.events (Kill seat row) events refl;
       }
 
+  pub killed_seen : (seen : Seen O Key Recon Cond) (view : seen_of s ≡ seen) (row : RowAt) (events : List (Event O Key Recon Cond)) (t2 : pages.Table) → stage_at seen seat ≡ free → state_in s.rows row ≡ row_state.Live → events ≡ s.journal.events ++ Kill seat row ∷ [] → t2 ≡ untouched seen.table
+      → KillsRow seen (seen_as events (stages m s I) t2 s.origin) seat row true
+  killed_seen seen view row events t2 none live events_are table =
+      let at : stage_in (stages m s I) seat ≡ free = ap (λ v. stage_at v seat) view ∙ none in
+      let kept : stages m s I ≡ set (stages m s I) seat free = sym (set_itself (stages m s I) seat) ∙ ap (λ x. set (stages m s I) seat x) at in (
+        ap (state_of row) (past_is s seen view 0) ∙ sym (I.kept.tells.states row) ∙ live,
+        ap (λ j. seen_as j (stages m s I) t2 s.origin) events_are ∙ ap (λ l. seen_as (s.journal.events ++ Kill seat row ∷ []) l t2 s.origin) kept ∙ ap (λ (v : Seen O Key Recon Cond). logged v seat (Kill seat row) free t2) view ∙ ap (λ (t : pages.Table). logged seen seat (Kill seat row) free t) table,
+        at,
+      )
+
   -- ---- an operation is given up
 
   -- what an open operation holds can be given free
@@ -223,7 +244,3 @@ module _ {O Key Recon Cond : Type 0} (m : Meaning Key Recon Cond) (s : Inside O 
 
     pub gives_up : journal.events ≡ s.journal.events ++ given_up seat (stage_of (get_or s.slots.items seat Free)) why ∷ [] → GivesBack (get_or s.slots.items seat Free) s.rows rows → IsState m (with_fields m s (untouched t2) rows slots journal)
     gives_up events back = given (get_or s.slots.items seat Free) refl events back
-
-    -- what the others have latched
-    pub others_held : OthersHold s.table (untouched t2) seat
-    others_held = (latches_law O Key Recon Cond).stay s.table (untouched t2) seat (λ b. false) (held_on t2 (untouched t2) seat (rest_of s.table seat) (λ b. false) (λ b. refl) none)

@@ -1,5 +1,5 @@
 -- What the fields of a state keep: more room, the same pages and slots, and what each seat may do.
-use Rattle.std.proofs.Common.{◌≡◌, ◌≢◌, ◌<◌, ◌≤◌, ◌+◌, ◌⊎◌, ⊎_elim, ℕ, Bool, true, false, List, [], ◌∷◌, ◌++◌, length, get_or, set, reverse, map, Option, Some, None, Vec, refl, sym, ap, ◌∙◌, subst, arith}
+use Rattle.std.proofs.Common.{◌≡◌, ◌≢◌, ◌<◌, ◌≤◌, ◌+◌, ◌⊎◌, ⊎_elim, ℕ, Bool, true, false, List, [], ◌∷◌, ◌++◌, length, get_or, set, reverse, replicate, map, Option, Some, None, Vec, refl, sym, ap, ◌∙◌, subst, arith}
 use Rattle.std.proofs.Common.{Result, Ok, Err}
 use Rattle.std.specs.Result.{OnOk, OnErr, IsErrAnd}
 use Rattle.std.proofs.lemmas.Bool.{false≢true}
@@ -28,6 +28,8 @@ use Rattle.spg_tree.specs.Table as pages
 use Rattle.spg_tree.specs.Table.{sheets_of, latch_at}
 use Rattle.spg_seats.specs.Slots.{Stage, free, descending, reading, stage_in, is_open, open_count, StageFits, stage_holds, Fields, IsKept}
 use Rattle.spg_seats.specs.Latching.{AreHeld, rest_of}
+use Rattle.spg_seats.specs.Opening.{new_fields}
+use Rattle.spg_seats.proofs.Beginning.{new_kept}
 use Rattle.spg_seats.proofs.Slots.{more_room}
 use Rattle.spg_seats.proofs.Holding.{latches_law}
 use Rattle.spg_core.specs.declared.slot.Slot.{Slot}
@@ -36,7 +38,7 @@ use Rattle.spg_core.specs.declared.state.State.TheInside.{Inside}
 use Rattle.spg_core.specs.Slot.{stage_of}
 use Rattle.spg_core.specs.Kept.{fields_of, seen_of, IsUnswept, IsState}
 use Rattle.spg_core.specs.Seen.{Seen, past_of}
-use Rattle.spg_core.proofs.Slots.{stage_get, stages_set, stages_count, open_count-closed, open_count-set-le, past_is}
+use Rattle.spg_core.proofs.Slots.{stage_get, stages_set, stages_count, open_count-closed, open_count-set-le, stages_new}
 use Rattle.spg_core.proofs.Sweeps.{swept_counts}
 
 -- latches that are as they were
@@ -161,3 +163,19 @@ on_err (Err e) p = p
 pub no_ok : {T E : Type 0} (P : Type 0) (Q : E → Type 0) (r : Result T E) → IsErrAnd r Q → OnOk r P
 no_ok P Q (Ok x) h = absurd h
 no_ok P Q (Err e) h = tt
+
+-- a new state
+pub new_state : {O Key Recon Cond : Type 0} (m : Meaning Key Recon Cond) (s : Inside O Key Recon Cond) (limit : ℕ) → s.origin ≡ record { limit = limit; pages = 3; clock = 0; loaded = false } → s.journal.events ≡ [] → s.slots.items ≡ replicate 64 Free → s.table ≡ pages.start_table limit → s.rows ≡ [] → IsState m s
+new_state {O} {Key} {Recon} {Cond} m s limit origin_is events slots table rows = record {
+  kept =
+      let f : Fields O Key Recon Cond = fields_as m [] s.journal.spare (replicate 64 free) (pages.start_table limit) [] (record { limit = limit; pages = 3; clock = 0; loaded = false }) in
+      let e : fields_of s ≡ f =
+          ap (λ j. fields_as m j s.journal.spare (map stage_of s.slots.items) s.table s.rows s.origin) events
+          ∙ ap (λ (l : List (Slot O Key Recon Cond)). fields_as m [] s.journal.spare (map stage_of l) s.table s.rows s.origin) slots
+          ∙ ap (λ (l : List (Stage O Key Recon Cond)). fields_as m [] s.journal.spare l s.table s.rows s.origin) (stages_new 64)
+          ∙ ap (λ (t : pages.Table). fields_as m [] s.journal.spare (replicate 64 free) t s.rows s.origin) table
+          ∙ ap (λ (r : Table O Key Recon Cond). fields_as m [] s.journal.spare (replicate 64 free) (pages.start_table limit) r s.origin) rows
+          ∙ ap (λ (o : Origin). fields_as m [] s.journal.spare (replicate 64 free) (pages.start_table limit) [] o) origin_is in
+      subst (IsKept m) (sym e) (more_room m (new_fields limit) s.journal.spare (omega arith) (new_kept m limit));
+  unswept = ap (λ j. sweep_count (reverse j)) events;
+}
