@@ -11,10 +11,11 @@ use Rattle.spg_forest.specs.Follows.{GoesBelow}
 use Rattle.spg_page.specs.Kinds.{IsInner}
 use Rattle.spg_page.specs.Reads.{frame_in}
 use Rattle.spg_tree.specs.Table.{Table, sheets_of, tuple_at, latch_at, with_latch}
-use Rattle.spg_tree.specs.Descents.{Descending, in_nulls}
+use Rattle.spg_tree.specs.Descents.{Descending, in_nulls, placed}
 use Rattle.spg_tree.specs.declared.stand.Stand.{Stand}
 use Rattle.spg_tree.specs.declared.stand.Stand.TheVariants.{Start, Root, At, Empty}
 use Rattle.spg_descend.specs.Carried.{carried, root_of, IsCarried}
+use Rattle.spg_descend.specs.Enters.{CarriesOn}
 use Rattle.spg_descend.specs.Leaves.{released, stand_block, parent_block, is_held}
 use Rattle.spg_descend.specs.Follows.{IsAtInner, tuple_place, link_of, stand_below, latched, left_behind, table_below, FollowsNode, CarriesBelow}
 use Rattle.spg_descend.specs.Below.{IsChainBelow, IsAtChain, IsTicked}
@@ -28,8 +29,9 @@ use Rattle.spg_split.specs.Splits.{IsAtRoot, IsCalm, IsSplitOut, split_cost}
 use Rattle.spg_split.specs.Below.{IsLedTo, MakesBelow, SplitsWithout, IsChainSplit}
 use Rattle.spg_split.specs.declared.split.SplitOut.TheVariants.{LeftOut}
 use Rattle.spg_core.specs.declared.answer.InsertOut.TheVariants as outs
-use Rattle.spg_seats.specs.Descending.{HasInnerRoot, StandsAt, Stands}
+use Rattle.spg_seats.specs.Descending.{HasInnerRoot, StandsAt, Stands, ChangesHeld}
 use Rattle.spg_core.specs.Stepping.{SamePages, MakesAtMostOne, GoesOn, IsRootFull, RootsGrow, IsStepOut}
+use Rattle.spg_core.specs.Telling.{turned}
 use Rattle.spg_core.proofs.Stands.{root_range, stand_put, stands_same, child_stands, released_same, latched_same, same_trans, root_leaf}
 use Rattle.spg_core.proofs.Trees.{place_tree}
 
@@ -37,6 +39,10 @@ use Rattle.spg_core.proofs.Trees.{place_tree}
 pub goes_same : {Key Recon Cond : Type 0} (m : Meaning Key Recon Cond) (t t2 : Table) (d d2 : Descending Recon) → SamePages t t2 → d2 ≡ d → Stands t d → GoesOn m t t2 d d2
 goes_same {Key} m t t2 d d2 same e at = subst (λ (z : Descending _). GoesOn m t t2 d z) (sym e)
     (refl, refl, stands_same t t2 (in_nulls d) d.stand d.parent same at, λ key C. subst (λ (S : Sheets). IsCarried m S d key) (sym same.0) C)
+
+-- an insert that has entered its root goes on there
+pub goes_root : {Key Recon Cond : Type 0} (m : Meaning Key Recon Cond) (t t2 : Table) (d d2 : Descending Recon) → SamePages t t2 → d2 ≡ placed d (Root (root_of (in_nulls d))) None → CarriesOn m d → GoesOn m t t2 d d2
+goes_root {Key} m t t2 d d2 same e carries = subst (λ (z : Descending _). GoesOn m t t2 d z) (sym e) (refl, refl, (refl, refl), λ key C. subst (λ (S : Sheets). IsCarried m S (placed d (Root (root_of (in_nulls d))) None) key) (sym same.0) (carries (sheets_of t) key C))
 
 pub below_same : {Recon : Type 0} (t : Table) (d : Descending Recon) (x : Place) (st : Stand) (seat : ℕ) → SamePages t (table_below t d x st seat)
 below_same t d x st seat = same_trans t (latched t (stand_block st) seat) (table_below t d x st seat) (latched_same t (stand_block st) seat)
@@ -244,11 +250,25 @@ pub makes_below : (t t1 : Table) (parent : Option (Place × ℕ)) (z : Place) �
 makes_below t t1 None z makes = absurd makes
 makes_below t t1 (Some (p, i)) z makes = makes.0
 
--- a node was followed
-pub down_makes : {Key Recon Cond : Type 0} (m : Meaning Key Recon Cond) (t t1 t2 : Table) (d d2 : Descending Recon) (seat node : ℕ) (rest : List ℕ) (out : Entered) → FollowsNode m t t1 d d2 seat node rest out → SamePages t1 t2 → MakesAtMostOne t t2
-down_makes {Key} {Recon} m t t1 t2 d d2 seat node rest In (unheld, et, ed) same =
-    let s1 : SamePages t t1 = subst (λ (z : Table). SamePages t z) (sym et) (below_same t d (tuple_place d.stand) (stand_below (link_of t (tuple_place d.stand) node)) seat) in
-    makes_none t t t2 (same_trans t t1 t2 s1 same) (λ x i. i)
-down_makes {Key} {Recon} m t t1 t2 d d2 seat node rest (Busy block by) (eb, held, other, et, ed) same =
-    let s1 : SamePages t t1 = subst (λ (z : Table). SamePages t z) (sym et) (freed_same t (stand_block d.stand) (parent_block d.parent) seat) in
-    makes_none t t t2 (same_trans t t1 t2 s1 same) (λ x i. i)
+-- ---- a node is followed
+
+pub follows_same : {Key Recon Cond : Type 0} (m : Meaning Key Recon Cond) (t t1 : Table) (d d2 : Descending Recon) (seat node : ℕ) (rest : List ℕ) (out : Entered) → FollowsNode m t t1 d d2 seat node rest out → SamePages t t1
+follows_same {Key} {Recon} m t t1 d d2 seat node rest In (unheld, et, ed) = subst (λ (z : Table). SamePages t z) (sym et) (below_same t d (tuple_place d.stand) (stand_below (link_of t (tuple_place d.stand) node)) seat)
+follows_same {Key} {Recon} m t t1 d d2 seat node rest (Busy block by) (eb, held, other, et, ed) = subst (λ (z : Table). SamePages t z) (sym et) (freed_same t (stand_block d.stand) (parent_block d.parent) seat)
+
+-- the counter leaves pages and latches as they are
+pub turned_same : (by_turn : Bool) (t : Table) → SamePages t (turned by_turn t)
+turned_same true t = (refl, refl)
+turned_same false t = (refl, refl)
+
+pub turned_latch : (by_turn : Bool) (t : Table) (b : ℕ) → latch_at (turned by_turn t) b ≡ latch_at t b
+turned_latch true t b = refl
+turned_latch false t b = refl
+
+-- it makes no inner tuple
+pub same_makes : (t t2 : Table) → SamePages t t2 → MakesAtMostOne t t2
+same_makes t t2 same = makes_none t t t2 same (λ x i. i)
+
+-- and no page is changed
+pub same_within : (t t2 : Table) (seat : ℕ) → SamePages t t2 → ChangesHeld t t2 seat
+same_within t t2 seat same = λ b. inl (ap (λ (S : Sheets). sheet_at S b) same.0)

@@ -1,20 +1,16 @@
-ghost use Rattle.std.specs.Prelude.{◌≡◌, ℕ, Option, Some as Just, false, IfOk, OnErr, IsErrOf, ◌+◌, ◌^◌};
+ghost use Rattle.std.specs.Prelude.{◌≡◌, Option, Some as Just, false, IfOk, OnErr, IsErrOf, ◌+◌, ◌^◌};
 ghost use Rattle.spg_forest.specs.Shape.{Shape};
 ghost use Rattle.spg_tree.specs.Table.{sheets_of};
 ghost use Rattle.spg_tree.specs.Descents.{in_nulls};
 ghost use Rattle.spg_tree.specs.declared.stand.StepRefused.TheVariants.{IndexFull, ClockFull};
 ghost use Rattle.spg_descend.specs.Carried.{IsCarried};
 ghost use Rattle.spg_descend.specs.Follows.{IsAtInner};
-ghost use Rattle.spg_core.specs.declared.inner.Chosen.TheVariants.{Node, Add, Split};
-ghost use Rattle.spg_core.specs.Stepping.{IsOutgrown, IsNearLimit, IsStepOut, IsChosen, MakesAtMostOne, named};
-ghost use Rattle.spg_core.specs.Telling.{StepTells};
-ghost use Rattle.spg_core.specs.Ends.{TakesOne};
-ghost use Rattle.spg_seats.specs.Descending.{Stands, HoldsIts, ChangesHeld};
-ghost use Rattle.spg_seats.specs.Latching.{InsertHolds};
-ghost use Rattle.spg_core.specs.Latches.{HoldsAfter};
+ghost use Rattle.spg_seats.specs.Descending.{Stands};
+ghost use Rattle.spg_core.specs.declared.inner.Chosen.TheVariants.{Node};
+ghost use Rattle.spg_core.specs.Stepping.{IsOutgrown, IsNearLimit, IsChosen, named};
+ghost use Rattle.spg_core.specs.Telling.{Does};
 
 use crate::answer::InsertOut;
-use crate::latches::{settle_latches, stand_block};
 use spg_base::{Bytes, Labels, Memory, SeatNo};
 use spg_descend::{Entered, enter_node, tuple_place};
 use spg_move::{add_node, split_tuple};
@@ -140,12 +136,7 @@ fn go_down<O: OpClass>(
     requires of_key { (key : Option O.Key) × IsCarried O.meaning (sheets_of table.old) descent.old key }
     requires stands { Stands table.old descent.old }
     requires chosen { IsChosen {O = O} O.meaning table.old descent.old (Node node rest by_turn below) }
-    ensures ok { IsStepOut O.meaning table.old table.new descent.old descent.new seat result }
-    ensures told { StepTells O.meaning table.old table.new descent.old descent.new seat result }
-    ensures latches { (rest : ℕ → Option ℕ) → InsertHolds table.old seat rest descent.old → HoldsAfter table.new seat rest descent.new result }
-    ensures within { HoldsIts table.old seat descent.old → ChangesHeld table.old table.new seat }
-    ensures ends { TakesOne O.meaning table.old table.new descent.old descent.new result }
-    ensures makes { MakesAtMostOne table.old table.new }
+    ensures { Does O.meaning table.old table.new descent.old descent.new seat result }
 {
     let _count = table.page_count();
     let entered = enter_node(table, descent, seat, node, rest, below);
@@ -156,81 +147,6 @@ fn go_down<O: OpClass>(
         Entered::In => InsertOut::Descended,
         Entered::Busy { block, by } => InsertOut::Restarted { block, by },
     }
-}
-
-/// Puts a node into the inner tuple at which an insert is.
-fn widen<O: OpClass>(
-    alloc: Global,
-    table: &mut PageTable,
-    descent: &mut Descent<O>,
-    seat: SeatNo,
-    at: u16,
-    label: i16,
-) -> Result<InsertOut, StepRefused>
-    requires shape { Shape O.meaning (sheets_of table.old) }
-    requires inner { IsAtInner table.old descent.old.stand }
-    requires of_key { (key : Option O.Key) × IsCarried O.meaning (sheets_of table.old) descent.old key }
-    requires stands { Stands table.old descent.old }
-    requires chosen { IsChosen {O = O} O.meaning table.old descent.old (Add at label) }
-    ensures ok { IfOk result (λ out. IsStepOut O.meaning table.old table.new descent.old descent.new seat out) }
-    ensures told { IfOk result (λ out. StepTells O.meaning table.old table.new descent.old descent.new seat out) }
-    ensures latches { IfOk result (λ out. (rest : ℕ → Option ℕ) → InsertHolds table.old seat rest descent.old → HoldsAfter table.new seat rest descent.new out) }
-    ensures within { HoldsIts table.old seat descent.old → ChangesHeld table.old table.new seat }
-    ensures ends { IfOk result (λ out. TakesOne O.meaning table.old table.new descent.old descent.new out) }
-    ensures makes { IfOk result (λ _. MakesAtMostOne table.old table.new) }
-    ensures full { IsErrOf result IndexFull → IsOutgrown table.old descent.old × IsNearLimit table.old }
-    ensures clock { IsErrOf result ClockFull → IsOutgrown table.old descent.old × (table.old.clock + 1 ≡ 2 ^ 48) }
-    ensures err { OnErr result (table.new ≡ table.old) }
-    ensures err_descent { OnErr result (descent.new ≡ descent.old) }
-{
-    let was = stand_block(descent.stand());
-    add_node(alloc, table, descent, seat, at, label)?;
-    let _count = table.page_count();
-    settle_latches(table, descent, was, seat, InsertOut::Restructured);
-    Ok(InsertOut::Restructured)
-}
-
-/// Splits the inner tuple at which an insert is.
-fn split<O: OpClass>(
-    alloc: Global,
-    table: &mut PageTable,
-    descent: &mut Descent<O>,
-    seat: SeatNo,
-    upper_prefix: &Bytes,
-    upper_labels: &Labels,
-    child: u16,
-    lower_prefix: &Bytes,
-) -> Result<InsertOut, StepRefused>
-    requires shape { Shape O.meaning (sheets_of table.old) }
-    requires inner { IsAtInner table.old descent.old.stand }
-    requires of_key { (key : Option O.Key) × IsCarried O.meaning (sheets_of table.old) descent.old key }
-    requires stands { Stands table.old descent.old }
-    requires chosen { IsChosen {O = O} O.meaning table.old descent.old (Split upper_prefix.now upper_labels.now child lower_prefix.now) }
-    ensures ok { IfOk result (λ out. IsStepOut O.meaning table.old table.new descent.old descent.new seat out) }
-    ensures told { IfOk result (λ out. StepTells O.meaning table.old table.new descent.old descent.new seat out) }
-    ensures latches { IfOk result (λ out. (rest : ℕ → Option ℕ) → InsertHolds table.old seat rest descent.old → HoldsAfter table.new seat rest descent.new out) }
-    ensures within { HoldsIts table.old seat descent.old → ChangesHeld table.old table.new seat }
-    ensures ends { IfOk result (λ out. TakesOne O.meaning table.old table.new descent.old descent.new out) }
-    ensures makes { IfOk result (λ _. MakesAtMostOne table.old table.new) }
-    ensures full { IsErrOf result IndexFull → IsOutgrown table.old descent.old × IsNearLimit table.old }
-    ensures clock { IsErrOf result ClockFull → ⊥ }
-    ensures err { OnErr result (table.new ≡ table.old) }
-    ensures err_descent { OnErr result (descent.new ≡ descent.old) }
-{
-    let was = stand_block(descent.stand());
-    split_tuple(
-        alloc,
-        table,
-        descent,
-        seat,
-        upper_prefix,
-        upper_labels,
-        child,
-        lower_prefix,
-    )?;
-    let _count = table.page_count();
-    settle_latches(table, descent, was, seat, InsertOut::Restructured);
-    Ok(InsertOut::Restructured)
 }
 
 /// Does what was chosen at an inner tuple: it goes down a node, puts one in, or splits the tuple.
@@ -246,12 +162,7 @@ fn apply<O: OpClass>(
     requires of_key { (key : Option O.Key) × IsCarried O.meaning (sheets_of table.old) descent.old key }
     requires stands { Stands table.old descent.old }
     requires chosen { IsChosen {O = O} O.meaning table.old descent.old chosen }
-    ensures ok { IfOk result (λ out. IsStepOut O.meaning table.old table.new descent.old descent.new seat out) }
-    ensures told { IfOk result (λ out. StepTells O.meaning table.old table.new descent.old descent.new seat out) }
-    ensures latches { IfOk result (λ out. (rest : ℕ → Option ℕ) → InsertHolds table.old seat rest descent.old → HoldsAfter table.new seat rest descent.new out) }
-    ensures within { HoldsIts table.old seat descent.old → ChangesHeld table.old table.new seat }
-    ensures ends { IfOk result (λ out. TakesOne O.meaning table.old table.new descent.old descent.new out) }
-    ensures makes { IfOk result (λ _. MakesAtMostOne table.old table.new) }
+    ensures does { IfOk result (λ out. Does O.meaning table.old table.new descent.old descent.new seat out) }
     ensures full { IsErrOf result IndexFull → IsOutgrown table.old descent.old × IsNearLimit table.old }
     ensures clock { IsErrOf result ClockFull → IsOutgrown table.old descent.old × (table.old.clock + 1 ≡ 2 ^ 48) }
     ensures err { OnErr result (table.new ≡ table.old) }
@@ -264,22 +175,28 @@ fn apply<O: OpClass>(
             by_turn,
             below,
         } => Ok(go_down(table, descent, seat, node, rest, by_turn, below)),
-        Chosen::Add { at, label } => widen(alloc, table, descent, seat, at, label),
+        Chosen::Add { at, label } => {
+            add_node(alloc, table, descent, seat, at, label)?;
+            Ok(InsertOut::Restructured)
+        }
         Chosen::Split {
             upper_prefix,
             upper_labels,
             child,
             lower_prefix,
-        } => split(
-            alloc,
-            table,
-            descent,
-            seat,
-            &upper_prefix,
-            &upper_labels,
-            child,
-            &lower_prefix,
-        ),
+        } => {
+            split_tuple(
+                alloc,
+                table,
+                descent,
+                seat,
+                &upper_prefix,
+                &upper_labels,
+                child,
+                &lower_prefix,
+            )?;
+            Ok(InsertOut::Restructured)
+        }
     }
 }
 
@@ -295,12 +212,7 @@ pub(crate) fn at_inner<O: OpClass>(
     requires inner { IsAtInner table.old descent.old.stand }
     requires of_key { (key : Option O.Key) × IsCarried O.meaning (sheets_of table.old) descent.old key }
     requires stands { Stands table.old descent.old }
-    ensures ok { IfOk result (λ out. IsStepOut O.meaning table.old table.new descent.old descent.new seat out) }
-    ensures told { IfOk result (λ out. StepTells O.meaning table.old table.new descent.old descent.new seat out) }
-    ensures latches { IfOk result (λ out. (rest : ℕ → Option ℕ) → InsertHolds table.old seat rest descent.old → HoldsAfter table.new seat rest descent.new out) }
-    ensures within { HoldsIts table.old seat descent.old → ChangesHeld table.old table.new seat }
-    ensures ends { IfOk result (λ out. TakesOne O.meaning table.old table.new descent.old descent.new out) }
-    ensures makes { IfOk result (λ _. MakesAtMostOne table.old table.new) }
+    ensures does { IfOk result (λ out. Does O.meaning table.old table.new descent.old descent.new seat out) }
     ensures full { IsErrOf result IndexFull → IsOutgrown table.old descent.old × IsNearLimit table.old }
     ensures clock { IsErrOf result ClockFull → IsOutgrown table.old descent.old × (table.old.clock + 1 ≡ 2 ^ 48) }
     ensures err { OnErr result (table.new ≡ table.old) }

@@ -1,18 +1,16 @@
-ghost use Rattle.std.specs.Prelude.{◌≡◌, ℕ, Option, IfOk, OnOk, OnErr, IsErrOf, ◌+◌, ◌^◌};
+ghost use Rattle.std.specs.Prelude.{◌≡◌, ℕ, Option, IfOk, OnErr, IsErrOf, ◌+◌, ◌^◌};
 ghost use Rattle.spg_forest.specs.Shape.{Shape};
 ghost use Rattle.spg_tree.specs.Table.{sheets_of};
 ghost use Rattle.spg_tree.specs.declared.stand.Stand.TheVariants.{Start};
 ghost use Rattle.spg_tree.specs.declared.stand.StepRefused.TheVariants.{IndexFull, ClockFull};
-ghost use Rattle.spg_descend.specs.Carried.{IsCarried};
 ghost use Rattle.spg_descend.specs.declared.rule.Rule.TheVariants as rules;
-ghost use Rattle.spg_descend.specs.Held.{TouchesFree, StandsFree};
-ghost use Rattle.spg_descend.specs.Rules.{IsAtNoInner};
+ghost use Rattle.spg_descend.specs.Carried.{IsCarried};
 ghost use Rattle.spg_split.specs.Splits.{IsAtRoot};
-ghost use Rattle.spg_core.specs.Stepping.{IsOutgrown, IsNearLimit, IsStepOut, MakesAtMostOne};
-ghost use Rattle.spg_core.specs.Telling.{IsRuleFor, Rewrites, StepTells};
-ghost use Rattle.spg_core.specs.Ends.{TakesOne};
 ghost use Rattle.spg_seats.specs.Descending.{Stands, HoldsIts, ChangesHeld};
 ghost use Rattle.spg_seats.specs.Latching.{InsertHolds};
+ghost use Rattle.spg_core.specs.Stepping.{IsOutgrown, IsNearLimit, IsStepOut, MakesAtMostOne};
+ghost use Rattle.spg_core.specs.Telling.{IsRuleFor, StepTells, Does};
+ghost use Rattle.spg_core.specs.Ends.{TakesOne};
 ghost use Rattle.spg_core.specs.Latches.{HoldsAfter};
 
 use crate::answer::InsertOut;
@@ -31,12 +29,7 @@ fn begin<O: OpClass>(table: &mut PageTable, descent: &mut Descent<O>, seat: Seat
     requires shape { Shape O.meaning (sheets_of table.old) }
     requires start { descent.old.stand ≡ Start }
     requires stands { Stands table.old descent.old }
-    ensures ok { IsStepOut O.meaning table.old table.new descent.old descent.new seat result }
-    ensures told { StepTells O.meaning table.old table.new descent.old descent.new seat result }
-    ensures latches { (rest : ℕ → Option ℕ) → InsertHolds table.old seat rest descent.old → HoldsAfter table.new seat rest descent.new result }
-    ensures within { HoldsIts table.old seat descent.old → ChangesHeld table.old table.new seat }
-    ensures ends { TakesOne O.meaning table.old table.new descent.old descent.new result }
-    ensures makes { MakesAtMostOne table.old table.new }
+    ensures { Does O.meaning table.old table.new descent.old descent.new seat result }
 {
     let _count = table.page_count();
     match enter_root(table, descent, seat) {
@@ -56,8 +49,7 @@ fn put<O: OpClass>(
     requires of_key { (key : Option O.Key) × IsCarried O.meaning (sheets_of table.old) descent.now key }
     requires stands { Stands table.old descent.now }
     requires rule { IsRuleFor table.old descent.now rules.Put }
-    ensures told { IfOk result (λ out. Rewrites O.meaning table.old table.new descent.now descent.now out) }
-    ensures held { OnOk result (TouchesFree table.old table.new descent.now seat) }
+    ensures does { IfOk result (λ out. Does O.meaning table.old table.new descent.now descent.now seat out) }
     ensures full { IsErrOf result IndexFull → IsOutgrown table.old descent.now × IsNearLimit table.old }
     ensures clock { IsErrOf result ClockFull → ⊥ }
     ensures err { OnErr result (table.new ≡ table.old) }
@@ -79,8 +71,7 @@ fn move_away<O: OpClass>(
     requires of_key { (key : Option O.Key) × IsCarried O.meaning (sheets_of table.old) descent.now key }
     requires stands { Stands table.old descent.now }
     requires rule { IsRuleFor table.old descent.now rules.Move }
-    ensures told { IfOk result (λ out. Rewrites O.meaning table.old table.new descent.now descent.now out) }
-    ensures held { OnOk result (TouchesFree table.old table.new descent.now seat) }
+    ensures does { IfOk result (λ out. Does O.meaning table.old table.new descent.now descent.now seat out) }
     ensures full { IsErrOf result IndexFull → IsOutgrown table.old descent.now × IsNearLimit table.old }
     ensures clock { IsErrOf result ClockFull → IsOutgrown table.old descent.now × (table.old.clock + 1 ≡ 2 ^ 48) }
     ensures err { OnErr result (table.new ≡ table.old) }
@@ -102,9 +93,7 @@ fn divide_root<O: OpClass>(
     requires stands { Stands table.old descent.old }
     requires rule { IsRuleFor table.old descent.old rules.Part }
     requires root { IsAtRoot descent.old.stand }
-    ensures told { IfOk result (λ out. Rewrites O.meaning table.old table.new descent.old descent.new out) }
-    ensures held { OnOk result (TouchesFree table.old table.new descent.old seat) }
-    ensures stood { OnOk result (StandsFree table.old table.new descent.old descent.new seat) }
+    ensures does { IfOk result (λ out. Does O.meaning table.old table.new descent.old descent.new seat out) }
     ensures full { IsErrOf result IndexFull → IsOutgrown table.old descent.old × IsNearLimit table.old }
     ensures clock { IsErrOf result ClockFull → ⊥ }
     ensures err { OnErr result (table.new ≡ table.old) }
@@ -129,9 +118,7 @@ fn divide_chain<O: OpClass>(
     requires stands { Stands table.old descent.old }
     requires rule { IsRuleFor table.old descent.old rules.Part }
     requires below { IsAtRoot descent.old.stand → ⊥ }
-    ensures told { IfOk result (λ out. Rewrites O.meaning table.old table.new descent.old descent.new out) }
-    ensures held { OnOk result (TouchesFree table.old table.new descent.old seat) }
-    ensures stood { OnOk result (StandsFree table.old table.new descent.old descent.new seat) }
+    ensures does { IfOk result (λ out. Does O.meaning table.old table.new descent.old descent.new seat out) }
     ensures full { IsErrOf result IndexFull → IsOutgrown table.old descent.old × IsNearLimit table.old }
     ensures clock { IsErrOf result ClockFull → IsOutgrown table.old descent.old × (table.old.clock + 1 ≡ 2 ^ 48) }
     ensures err { OnErr result (table.new ≡ table.old) }
@@ -143,31 +130,27 @@ fn divide_chain<O: OpClass>(
     }
 }
 
-/// Puts the leaf of an insert where it fits, or with its chain that moves, or divides the leaves at
-/// which it stands.
-fn change_leaves<O: OpClass>(
+/// What an insert does where it stands, by the rule that applies there. Where it changed pages its
+/// latches are not settled yet.
+fn section<O: OpClass>(
     alloc: Global,
     class: &O,
     table: &mut PageTable,
     descent: &mut Descent<O>,
     seat: SeatNo,
-    rule: Rule,
 ) -> Result<InsertOut, StepRefused>
     requires shape { Shape O.meaning (sheets_of table.old) }
     requires of_key { (key : Option O.Key) × IsCarried O.meaning (sheets_of table.old) descent.old key }
     requires stands { Stands table.old descent.old }
-    requires elsewhere { IsAtNoInner table.old descent.old.stand }
-    requires rule { IsRuleFor table.old descent.old rule }
-    ensures told { IfOk result (λ out. Rewrites O.meaning table.old table.new descent.old descent.new out) }
-    ensures held { OnOk result (TouchesFree table.old table.new descent.old seat) }
-    ensures stood { OnOk result (StandsFree table.old table.new descent.old descent.new seat) }
+    ensures does { IfOk result (λ out. Does O.meaning table.old table.new descent.old descent.new seat out) }
     ensures full { IsErrOf result IndexFull → IsOutgrown table.old descent.old × IsNearLimit table.old }
     ensures clock { IsErrOf result ClockFull → IsOutgrown table.old descent.old × (table.old.clock + 1 ≡ 2 ^ 48) }
     ensures err { OnErr result (table.new ≡ table.old) }
     ensures err_descent { OnErr result (descent.new ≡ descent.old) }
 {
-    match rule {
-        Rule::Start | Rule::Choose => unreachable!(),
+    match rule_at(table, descent) {
+        Rule::Start => Ok(begin(table, descent, seat)),
+        Rule::Choose => at_inner(alloc, class, table, descent, seat),
         Rule::Put => put(alloc, table, descent, seat),
         Rule::Move => move_away(alloc, table, descent, seat),
         Rule::Part => match descent.stand() {
@@ -175,38 +158,6 @@ fn change_leaves<O: OpClass>(
             _ => divide_chain(alloc, class, table, descent, seat),
         },
     }
-}
-
-/// A section off inner tuples, by the rule that applies there.
-fn at_leaves<O: OpClass>(
-    alloc: Global,
-    class: &O,
-    table: &mut PageTable,
-    descent: &mut Descent<O>,
-    seat: SeatNo,
-    rule: Rule,
-) -> Result<InsertOut, StepRefused>
-    requires shape { Shape O.meaning (sheets_of table.old) }
-    requires of_key { (key : Option O.Key) × IsCarried O.meaning (sheets_of table.old) descent.old key }
-    requires stands { Stands table.old descent.old }
-    requires elsewhere { IsAtNoInner table.old descent.old.stand }
-    requires rule { IsRuleFor table.old descent.old rule }
-    ensures ok { IfOk result (λ out. IsStepOut O.meaning table.old table.new descent.old descent.new seat out) }
-    ensures told { IfOk result (λ out. StepTells O.meaning table.old table.new descent.old descent.new seat out) }
-    ensures latches { IfOk result (λ out. (rest : ℕ → Option ℕ) → InsertHolds table.old seat rest descent.old → HoldsAfter table.new seat rest descent.new out) }
-    ensures within { HoldsIts table.old seat descent.old → ChangesHeld table.old table.new seat }
-    ensures ends { IfOk result (λ out. TakesOne O.meaning table.old table.new descent.old descent.new out) }
-    ensures makes { IfOk result (λ _. MakesAtMostOne table.old table.new) }
-    ensures full { IsErrOf result IndexFull → IsOutgrown table.old descent.old × IsNearLimit table.old }
-    ensures clock { IsErrOf result ClockFull → IsOutgrown table.old descent.old × (table.old.clock + 1 ≡ 2 ^ 48) }
-    ensures err { OnErr result (table.new ≡ table.old) }
-    ensures err_descent { OnErr result (descent.new ≡ descent.old) }
-{
-    let was = stand_block(descent.stand());
-    let out = change_leaves(alloc, class, table, descent, seat, rule)?;
-    let _count = table.page_count();
-    settle_latches(table, descent, was, seat, out);
-    Ok(out)
 }
 
 /// The next section of an open insert, which is one of those that may come yet. After a refusal table
@@ -232,9 +183,9 @@ pub(crate) fn step<O: OpClass>(
     ensures err { OnErr result (table.new ≡ table.old) }
     ensures err_descent { OnErr result (descent.new ≡ descent.old) }
 {
-    match rule_at(table, descent) {
-        Rule::Start => Ok(begin(table, descent, seat)),
-        Rule::Choose => at_inner(alloc, class, table, descent, seat),
-        rule => at_leaves(alloc, class, table, descent, seat, rule),
-    }
+    let was = stand_block(descent.stand());
+    let out = section(alloc, class, table, descent, seat)?;
+    let _count = table.page_count();
+    settle_latches(table, descent, was, seat, out);
+    Ok(out)
 }
