@@ -25,9 +25,9 @@ use Rattle.spg_core.specs.declared.slot.Slot.{Slot}
 use Rattle.spg_core.specs.declared.slot.Slot.TheVariants.{Free, Insert, Scan}
 use Rattle.spg_core.specs.declared.state.State.TheInside.{Inside}
 use Rattle.spg_core.specs.Stepping.{SamePages, MakesAtMostOne, GoesOn, RootsGrow, IsOutgrown, IsStepOut}
-use Rattle.spg_core.specs.Telling.{StepTells}
+use Rattle.spg_core.specs.Telling.{StepTells, StepDone}
 use Rattle.spg_core.specs.Ends.{EndsWithin, StageEnds, SeatEnds, SeatThenEnds}
-use Rattle.spg_core.specs.Operations.{CanStep, IsOutgrownBy, Steps, StepsFrom, IsRowOf}
+use Rattle.spg_core.specs.Operations.{CanStep, IsOutgrownBy, StepsFrom, IsRowOf}
 use Rattle.spg_core.specs.Sections.{IsOutOf, IsHeavyFor, StoodFor, TellsFor, LatchesAfter, HasNone, OthersHold}
 use Rattle.spg_core.specs.Latches.{HoldsAfter}
 use Rattle.spg_core.specs.Slot.{stage_of}
@@ -74,7 +74,7 @@ module _ {O Key Recon Cond : Type 0} (m : Meaning Key Recon Cond) (codes : CodeL
     was_open : is_open (stage_of (get_or s.slots.items seat Free)) ≡ true
     was_open = ap (λ (x : Slot O Key Recon Cond). is_open (stage_of x)) here
 
-    changes : (out : InsertOut) → Steps m s.table t2 d d2 seat out → ChangesHeld s.table t2 seat
+    changes : (out : InsertOut) → StepDone m s.table t2 d d2 seat out → ChangesHeld s.table t2 seat
     changes out S = S.within (λ b h. its.latch b ∙ ap (λ k. cond k (Some seat) (rest_of s.table seat b)) h)
 
     grown : RootsGrow s.table t2 d → (nulls : Bool) → HasInnerRoot t2 nulls → HasInnerRoot s.table nulls ⊎ (8160 < weight_of m nulls (opened_keys before))
@@ -85,7 +85,7 @@ module _ {O Key Recon Cond : Type 0} (m : Meaning Key Recon Cond) (codes : CodeL
     goes (row, nulls, at, carry) = (has.0 ∙ ap (λ (r : RowAt). inserting r key) (sym row), carry key has.1, at)
 
     module _ (slots : Vec (Slot O Key Recon Cond) Global) (items : slots.items ≡ set s.slots.items seat (Insert key d2)) where
-      stays : (out : InsertOut) → Steps m s.table t2 d d2 seat out → InsertHolds t2 seat (rest_of s.table seat) d2 → sheets_of t2 ≡ sheets_of s.table → t2.limit ≡ s.table.limit → GoesOn m s.table t2 d d2 → IsState m (with_fields m s t2 s.rows slots s.journal)
+      stays : (out : InsertOut) → StepDone m s.table t2 d d2 seat out → InsertHolds t2 seat (rest_of s.table seat) d2 → sheets_of t2 ≡ sheets_of s.table → t2.limit ≡ s.table.limit → GoesOn m s.table t2 d d2 → IsState m (with_fields m s t2 s.rows slots s.journal)
       stays out S H same limit G = record {
         kept = calls.kept_still
             m
@@ -107,12 +107,12 @@ module _ {O Key Recon Cond : Type 0} (m : Meaning Key Recon Cond) (codes : CodeL
         unswept = I.unswept;
       }
 
-      moves : (out : InsertOut) → (out ≡ outs.Put → ⊥) → Steps m s.table t2 d d2 seat out → IsState m (with_fields m s t2 s.rows slots s.journal)
-      moves outs.Descended n S = let (stood, same, G) = S.is_out in stays outs.Descended S (S.latches (rest_of s.table seat) its) same.0 same.1 G
-      moves (outs.Restarted block by) n S = let (latched, other, start, same, G) = S.is_out in stays (outs.Restarted block by) S (S.latches (rest_of s.table seat) its).1 same.0 same.1 G
+      moves : (out : InsertOut) → (out ≡ outs.Put → ⊥) → StepDone m s.table t2 d d2 seat out → IsState m (with_fields m s t2 s.rows slots s.journal)
+      moves outs.Descended n S = let (stood, same, G) = S.ok in stays outs.Descended S (S.latches (rest_of s.table seat) its) same.0 same.1 G
+      moves (outs.Restarted block by) n S = let (latched, other, start, same, G) = S.ok in stays (outs.Restarted block by) S (S.latches (rest_of s.table seat) its).1 same.0 same.1 G
       moves outs.Put n S = absurd (n refl)
       moves outs.Restructured n S =
-          let (off, (cost, f, L), limit, grow, G) = S.is_out in
+          let (off, (cost, f, L), limit, grow, G) = S.ok in
           record {
             kept = calls.kept_section
                 m
@@ -139,10 +139,10 @@ module _ {O Key Recon Cond : Type 0} (m : Meaning Key Recon Cond) (codes : CodeL
           }
 
     -- its row is put
-    puts : (rows : Table O Key Recon Cond) (slots : Vec (Slot O Key Recon Cond) Global) (journal : Written O Key Recon Cond) (row : RowAt) → slots.items ≡ set s.slots.items seat Free → row ≡ d.row → Steps m s.table t2 d d2 seat outs.Put → SetsState s.rows rows row row_state.Live → SameKeys s.rows rows →
+    puts : (rows : Table O Key Recon Cond) (slots : Vec (Slot O Key Recon Cond) Global) (journal : Written O Key Recon Cond) (row : RowAt) → slots.items ≡ set s.slots.items seat Free → row ≡ d.row → StepDone m s.table t2 d d2 seat outs.Put → SetsState s.rows rows row row_state.Live → SameKeys s.rows rows →
         journal.events ≡ s.journal.events ++ Put seat row ∷ [] → journal.spare + 1 ≡ s.journal.spare → IsState m (with_fields m s t2 rows slots journal)
     puts rows slots journal row items r S states keys events spare =
-        let (off, adds, limit, grow, er) = S.is_out in
+        let (off, adds, limit, grow, er) = S.ok in
         let (cost, f, A) = adds key has.1 in
         record {
           kept = calls.kept_put
@@ -191,7 +191,7 @@ module _ {O Key Recon Cond : Type 0} (m : Meaning Key Recon Cond) (codes : CodeL
   put_row Free t2 slots row within h r = absurd h
   put_row (Insert key d) t2 slots row within (d2, items, S) r =
       let e : get_or slots seat Free ≡ Insert key d2 = ap (λ l. get_or l seat Free) items ∙ get_or-set_same s.slots.items seat (Insert key d2) Free within in
-      let (off, adds, limit, grow, er) = S.is_out in
+      let (off, adds, limit, grow, er) = S.ok in
       subst (λ (x : Slot O Key Recon Cond). IsRowOf x row) e r ∙ er
   put_row (Scan x) t2 slots row within h r = absurd h
 
@@ -228,7 +228,7 @@ module _ {O Key Recon Cond : Type 0} (m : Meaning Key Recon Cond) (codes : CodeL
         StepsFrom m s.table t2 s.slots.items slots seat out slot → IsOutOf seen (seen_as s.journal.events (map stage_of slots) t2 s.origin) seat out (stage_of slot)
     seen_step out Free t2 slots e n h = absurd h
     seen_step out (Scan x) t2 slots e n h = absurd h
-    seen_step out (Insert key d) t2 slots e n (d2, items, S) = go out n S.is_out
+    seen_step out (Insert key d) t2 slots e n (d2, items, S) = go out n S.ok
       where
         go : (o : InsertOut) → (o ≡ outs.Put → ⊥) → IsStepOut m s.table t2 d d2 seat o → IsOutOf seen (seen_as s.journal.events (map stage_of slots) t2 s.origin) seat o (descending key d)
         go outs.Descended n (stood, same, G) =
@@ -247,7 +247,7 @@ module _ {O Key Recon Cond : Type 0} (m : Meaning Key Recon Cond) (codes : CodeL
     seen_put Free t2 between slots row events e h r items ev = absurd h
     seen_put (Scan x) t2 between slots row events e h r items ev = absurd h
     seen_put (Insert key d) t2 between slots row events e (d2, made, S) r items ev =
-        let (off, adds, limit, grow, er) = S.is_out in
+        let (off, adds, limit, grow, er) = S.ok in
         let all = set_twice s.slots.items between slots seat (Insert key d2) Free made items in (
           at_table (λ t. StoodFor t d seat outs.Put) off,
           (

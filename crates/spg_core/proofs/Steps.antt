@@ -37,7 +37,7 @@ use Rattle.spg_core.specs.declared.slot.Slot.TheVariants.{Free}
 use Rattle.spg_core.specs.declared.state.State.TheInside.{Inside}
 use Rattle.spg_core.specs.Slot.{stage_of}
 use Rattle.spg_core.specs.Kept.{fields_of, seen_of, IsUnswept, IsState}
-use Rattle.spg_core.specs.Seen.{Seen, past_of}
+use Rattle.spg_core.specs.Seen.{Seen, past_of, stage_at}
 use Rattle.spg_core.proofs.Slots.{stage_get, stages_set, stages_count, open_count-closed, open_count-set-le, stages_new}
 use Rattle.spg_core.proofs.Sweeps.{swept_counts}
 
@@ -96,6 +96,10 @@ module _ {O Key Recon Cond : Type 0} (m : Meaning Key Recon Cond) where
     -- what a seat has open, and what it has latched
     pub fits : (seat : ℕ) → StageFits m s.table past seat (stage_of (get_or s.slots.items seat Free))
     fits seat = subst (λ (x : Stage O Key Recon Cond). StageFits m s.table past seat x) (stage_get s.slots.items seat) (I.kept.stages seat)
+
+    -- as callers see it
+    pub seen_fits : (seen : Seen O Key Recon Cond) → seen_of s ≡ seen → (seat : ℕ) → StageFits m seen.table (past_of seen) seat (stage_at seen seat)
+    seen_fits seen view seat = subst (λ (v : Seen O Key Recon Cond). StageFits m v.table (past_of v) seat (stage_at v seat)) view (I.kept.stages seat)
 
     pub held : (seat : ℕ) → AreHeld s.table seat (rest_of s.table seat) (stage_holds (stage_of (get_or s.slots.items seat Free)))
     held seat = subst (λ (x : Stage O Key Recon Cond). AreHeld s.table seat (rest_of s.table seat) (stage_holds x)) (stage_get s.slots.items seat)

@@ -1,5 +1,5 @@
 -- What the operation in a seat's slot needs, and what a section of it does.
-use Rattle.std.specs.Prelude.{◌≡◌, ◌<◌, [], ℕ, List, Option, length, slice_set, slice_index_or, IfSome}
+use Rattle.std.specs.Prelude.{◌≡◌, ◌<◌, [], ℕ, List, length, slice_set, slice_index_or, IfSome}
 use Rattle.spg_base.specs.Row.{RowAt}
 use Rattle.spg_opclass.specs.Meaning.{Meaning}
 use Rattle.spg_rows.specs.Table as rows
@@ -14,12 +14,9 @@ use Rattle.spg_scan.specs.declared.walk.Closed.{Closed}
 use Rattle.spg_core.specs.declared.answer.InsertOut.{InsertOut}
 use Rattle.spg_core.specs.declared.slot.Slot.{Slot}
 use Rattle.spg_core.specs.declared.slot.Slot.TheVariants.{Free, Insert, Scan}
-use Rattle.spg_seats.specs.Descending.{Stands, HoldsIts, ChangesHeld}
-use Rattle.spg_seats.specs.Latching.{InsertHolds}
-use Rattle.spg_core.specs.Stepping.{IsOutgrown, IsStepOut, MakesAtMostOne}
-use Rattle.spg_core.specs.Telling.{StepTells}
-use Rattle.spg_core.specs.Ends.{TakesOne}
-use Rattle.spg_core.specs.Latches.{HoldsAfter}
+use Rattle.spg_seats.specs.Descending.{Stands}
+use Rattle.spg_core.specs.Stepping.{IsOutgrown}
+use Rattle.spg_core.specs.Telling.{StepDone}
 
 abbrev pub CanStep : {O Key Recon Cond : Type 0} → Meaning Key Recon Cond → Table → Slot O Key Recon Cond → Type 0
 CanStep m t Free = ⊥
@@ -31,20 +28,11 @@ IsOutgrownBy t Free = ⊥
 IsOutgrownBy t (Insert key d) = IsOutgrown t d
 IsOutgrownBy t (Scan s) = ⊥
 
--- a section of an insert: what comes of it and what it tells; what is latched then; which blocks it may change; it takes one of those that may come, and makes one inner tuple at most
-pub record Steps {Key Recon Cond : Type 0} (m : Meaning Key Recon Cond) (t t2 : Table) (d d2 : Descending Recon) (seat : ℕ) (out : InsertOut) : Type 0 where
-  pub is_out : IsStepOut m t t2 d d2 seat out
-  pub told : StepTells m t t2 d d2 seat out
-  pub latches : (rest : ℕ → Option ℕ) → InsertHolds t seat rest d → HoldsAfter t2 seat rest d2 out
-  pub within : HoldsIts t seat d → ChangesHeld t t2 seat
-  pub ends : TakesOne m t t2 d d2 out
-  pub makes : MakesAtMostOne t t2
-
 -- the insert in a slot does a section, and is in the slot then
 abbrev pub StepsFrom : {O Key Recon Cond : Type 0} → Meaning Key Recon Cond → Table → Table → List (Slot O Key Recon Cond) → List (Slot O Key Recon Cond) → ℕ → InsertOut → Slot O Key Recon Cond → Type 0
 StepsFrom m t t2 old new seat out Free = ⊥
 StepsFrom {O} {Key} {Recon} m t t2 old new seat out (Insert key d) =
-    (d2 : Descending Recon) × (new ≡ slice_set old seat (Insert key d2)) × Steps m t t2 d d2 seat out
+    (d2 : Descending Recon) × (new ≡ slice_set old seat (Insert key d2)) × StepDone m t t2 d d2 seat out
 StepsFrom m t t2 old new seat out (Scan s) = ⊥
 
 abbrev pub StepsSlot : {O Key Recon Cond : Type 0} → Meaning Key Recon Cond → Table → Table → List (Slot O Key Recon Cond) → List (Slot O Key Recon Cond) → ℕ → InsertOut → Type 0
