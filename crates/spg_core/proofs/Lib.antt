@@ -9,7 +9,6 @@ pub mod Ends
 pub mod Inners
 pub mod Rewriting
 pub mod Settles
-pub mod Founds
 pub mod Slots
 pub mod Sweeps
 pub mod Steps

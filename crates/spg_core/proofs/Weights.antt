@@ -24,7 +24,8 @@ use Rattle.spg_tree.specs.declared.stand.Stand.{Stand}
 use Rattle.spg_tree.specs.declared.stand.Stand.TheVariants.{Root}
 use Rattle.spg_descend.specs.Carried.{carried, root_of, IsCarried, WayFits}
 use Rattle.spg_descend.specs.Puts.{Fits}
-use Rattle.spg_seats.specs.Slots.{IsPresentWith, opened_keys}
+use Rattle.spg_rows.specs.Present.{IsPresentWith}
+use Rattle.spg_seats.specs.Slots.{opened_keys}
 use Rattle.spg_seats.proofs.Weighing.{IsWeighed, leaves_weigh}
 use Rattle.spg_core.specs.Stepping.{IsRootFull}
 use Rattle.spg_core.proofs.Stands.{root_range, root_tree}

@@ -8,7 +8,8 @@ use Rattle.spg_tree.specs.Table.{Table, sheets_of}
 use Rattle.spg_tree.specs.Descents.{Descending}
 use Rattle.spg_descend.specs.Carried.{IsCarried}
 use Rattle.spg_descend.specs.Leaves.{stand_block, parent_block}
-use Rattle.spg_scan.specs.Scanning.{Scanning, IsHeld, IsReadOut, IsClosing, emptied}
+use Rattle.spg_scan.specs.Scanning.{Scanning, IsClosing, emptied}
+use Rattle.spg_scan.specs.Reading.{IsHeld, IsReadOut}
 use Rattle.spg_scan.specs.declared.walk.ReadOut.{ReadOut}
 use Rattle.spg_scan.specs.declared.walk.Closed.{Closed}
 use Rattle.spg_core.specs.declared.answer.InsertOut.{InsertOut}

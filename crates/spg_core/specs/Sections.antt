@@ -15,9 +15,8 @@ use Rattle.spg_tree.specs.declared.stand.Stand.TheVariants.{Start}
 use Rattle.spg_descend.specs.Enters.{opened_for}
 use Rattle.spg_descend.specs.Follows.{IsAtInner}
 use Rattle.spg_descend.specs.Rules.{IsAtNoInner}
-use Rattle.spg_scan.specs.Scanning.{Scanning, IsReadOut}
-use Rattle.spg_seats.specs.Opening.{opened}
-use Rattle.spg_core.specs.Slot.{as_scan}
+use Rattle.spg_scan.specs.Scanning.{Scanning, opened}
+use Rattle.spg_scan.specs.Reading.{IsReadOut}
 use Rattle.spg_scan.specs.declared.walk.ReadOut.{ReadOut}
 use Rattle.spg_scan.specs.declared.walk.Closed.{Closed}
 use Rattle.spg_core.specs.declared.answer.InsertOut.{InsertOut}
@@ -120,7 +119,7 @@ abbrev pub ReadsFor : {O Key Recon Cond : Type 0} → Meaning Key Recon Cond →
 ReadsFor m old new seat item out free = ⊥
 ReadsFor m old new seat item out (descending key d) = ⊥
 ReadsFor {O} {Key} {Recon} {Cond} m old new seat item out (reading s) =
-    (s1 s2 : Scanning O Key Recon Cond) × (as_scan s1 ≡ s) × (table : rows.Table O Key Recon Cond) × ((row : RowAt) → rows.state_in table row ≡ state_of row (past_of old)) × IsReadOut m old.table table s1 s2 item seat out × (new ≡ moved old seat (reading (as_scan s2)) (untouched old.table)) × (stage_at new seat ≡ reading (as_scan s2))
+    (s2 : Scanning O Key Recon Cond) × (table : rows.Table O Key Recon Cond) × ((row : RowAt) → rows.state_in table row ≡ state_of row (past_of old)) × IsReadOut m old.table table s s2 item seat out × (new ≡ moved old seat (reading s2) (untouched old.table)) × (stage_at new seat ≡ reading s2)
 
 abbrev pub ReadsItem : {O Key Recon Cond : Type 0} → Meaning Key Recon Cond → Seen O Key Recon Cond → Seen O Key Recon Cond → ℕ → ℕ → ReadOut → Type 0
 ReadsItem m old new seat item out = ReadsFor m old new seat item out (stage_at old seat)

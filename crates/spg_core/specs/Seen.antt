@@ -5,7 +5,7 @@ use Rattle.spg_rows.specs.declared.event.Event.{Event}
 use Rattle.spg_rows.specs.History.{History}
 use Rattle.spg_tree.specs.Table.{Table, with_touched}
 use Rattle.spg_seats.specs.Slots.{Stage, stage_in}
-pub use Rattle.spg_seats.specs.Slots.{IsPresentWith}
+pub use Rattle.spg_rows.specs.Present.{IsPresentWith}
 
 -- the journal, the oldest event first; the stage of each of the 64 seats; the pages; with what the state was made
 pub record Seen (O Key Recon Cond : Type 0) : Type 0 where

@@ -4,19 +4,12 @@ use Rattle.spg_rows.specs.Table.{Table, SetsState, SetsKey}
 use Rattle.spg_rows.specs.declared.table.RowState.TheVariants as row_state
 use Rattle.spg_core.specs.declared.slot.Slot.{Slot}
 use Rattle.spg_core.specs.declared.slot.Slot.TheVariants as slot
-use Rattle.spg_scan.specs.Scanning.{Scanning}
-use Rattle.spg_seats.specs.Cover as cover
-use Rattle.spg_seats.specs.Reading.{hold_all}
 use Rattle.spg_core.specs.Stage.{Stage, free, descending, reading}
-
--- interim
-abbrev pub as_scan : {O Key Recon Cond : Type 0} → Scanning O Key Recon Cond → cover.Scanning O Key Recon Cond
-as_scan s = record { query = s.query; at = s.at; stamp = s.stamp; items = hold_all s.items; rows = s.rows; met = s.met }
 
 abbrev pub stage_of : {O Key Recon Cond : Type 0} → Slot O Key Recon Cond → Stage O Key Recon Cond
 stage_of slot.Free = free
 stage_of (slot.Insert key d) = descending key d
-stage_of (slot.Scan s) = reading (as_scan s)
+stage_of (slot.Scan s) = reading s
 
 -- the row of an insert is then free, and the others are as they were
 abbrev pub GivesBack : {O Key Recon Cond : Type 0} → Slot O Key Recon Cond → Table O Key Recon Cond → Table O Key Recon Cond → Type 0

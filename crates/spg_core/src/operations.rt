@@ -20,7 +20,7 @@ use spg_base::{List, Memory, Row, Rows, SeatNo};
 use spg_descend::release_latches;
 use spg_opclass::OpClass;
 use spg_rows::RowTable;
-use spg_scan::{Closed, ReadOut, Scan};
+use spg_scan::{Closed, ReadOut, Scan, Walk};
 use spg_tree::{PageTable, StepRefused};
 use std::alloc::Global;
 
