@@ -23,6 +23,32 @@ use Rattle.spg_core.proofs.Ends.{ends_somewhere, none_left}
 pub few_sections : (t : Table) (k : ℕ) → IsSound t → k ≤ most_sections (sheets_of t) + 1 → k + 0 < 2 ^ 64
 few_sections t k sound most = omega arith
 
+-- ---- latches and pages over more than one section
+
+pub others_same : (t : Table) (seat : ℕ) → OthersHold t t seat
+others_same t seat other b apart = (λ h. h, λ h. h)
+
+pub others_then : (t t1 t2 : Table) (seat : ℕ) → OthersHold t t1 seat → OthersHold t1 t2 seat → OthersHold t t2 seat
+others_then t t1 t2 seat a c other b apart = (λ h. (a other b apart).0 ((c other b apart).0 h), λ h. (c other b apart).1 ((a other b apart).1 h))
+
+-- a block that another seat has latched at the start is as it was after each section
+pub changes_then : (t t1 t2 : Table) (seat : ℕ) → OthersHold t t1 seat → ChangesHeld t t1 seat → ChangesHeld t1 t2 seat → ChangesHeld t t2 seat
+changes_then t t1 t2 seat others a c b = go (latch_at t b) refl
+  where
+    go : (l : Option ℕ) → latch_at t b ≡ l → (sheet_at t2 b ≡ sheet_at t b) ⊎ ((latch_at t b ≡ None) ⊎ (latch_at t b ≡ Some seat))
+    go None e = inr (inl e)
+    go (Some by) e = ⊎_elim
+        (λ q. inr (inr (e ∙ ap (λ n. Some n) q)))
+        (λ apart.
+        let now : latch_at t1 b ≡ Some by = (others by b apart).1 e in
+        let none : (l : Option ℕ) → latch_at t1 b ≡ l → (l ≡ None) ⊎ (l ≡ Some seat) → ⊥ = λ l is. ⊎_elim (λ q. absurd (cc (sym now ∙ is ∙ q))) (λ q. let f : Some by ≡ Some seat = sym now ∙ is ∙ q in apart (cc f)) in
+        ⊎_elim (λ q. ⊎_elim (λ p. inl (q ∙ p)) (λ h. inr h) (a b)) (λ h. absurd (none (latch_at t1 b) refl h)) (c b))
+        (cases_eq by seat)
+
+-- the insert was not sent back to its start
+abbrev IsNoRestart : InsertOut → Type 0
+IsNoRestart out = (block by : ℕ) → out ≡ Restarted block by → ⊥
+
 module _ {O Key Recon Cond : Type 0} where
   pub still_there : (s : Seen O Key Recon Cond) (seat : ℕ) → StillInserts s s seat
   still_there s seat = record { journal = refl; origin = refl; insert = λ row key is. is }
@@ -102,28 +128,6 @@ module _ {O Key Recon Cond : Type 0} where
       go (descending k d) h = ((others by block h.0.1).1 h.0.0, h.0.1)
       go (reading s) h = absurd h
 
-  -- ---- latches and pages over more than one section
-
-  pub others_same : (t : Table) (seat : ℕ) → OthersHold t t seat
-  others_same t seat other b apart = (λ h. h, λ h. h)
-
-  pub others_then : (t t1 t2 : Table) (seat : ℕ) → OthersHold t t1 seat → OthersHold t1 t2 seat → OthersHold t t2 seat
-  others_then t t1 t2 seat a c other b apart = (λ h. (a other b apart).0 ((c other b apart).0 h), λ h. (c other b apart).1 ((a other b apart).1 h))
-
-  -- a block that another seat has latched at the start is as it was after each section
-  pub changes_then : (t t1 t2 : Table) (seat : ℕ) → OthersHold t t1 seat → ChangesHeld t t1 seat → ChangesHeld t1 t2 seat → ChangesHeld t t2 seat
-  changes_then t t1 t2 seat others a c b = go (latch_at t b) refl
-    where
-      go : (l : Option ℕ) → latch_at t b ≡ l → (sheet_at t2 b ≡ sheet_at t b) ⊎ ((latch_at t b ≡ None) ⊎ (latch_at t b ≡ Some seat))
-      go None e = inr (inl e)
-      go (Some by) e = ⊎_elim
-          (λ q. inr (inr (e ∙ ap (λ n. Some n) q)))
-          (λ apart.
-          let now : latch_at t1 b ≡ Some by = (others by b apart).1 e in
-          let none : (l : Option ℕ) → latch_at t1 b ≡ l → (l ≡ None) ⊎ (l ≡ Some seat) → ⊥ = λ l is. ⊎_elim (λ q. absurd (cc (sym now ∙ is ∙ q))) (λ q. let f : Some by ≡ Some seat = sym now ∙ is ∙ q in apart (cc f)) in
-          ⊎_elim (λ q. ⊎_elim (λ p. inl (q ∙ p)) (λ h. inr h) (a b)) (λ h. absurd (none (latch_at t1 b) refl h)) (c b))
-          (cases_eq by seat)
-
   -- ---- the insert comes to its end
 
   pub ends_from : (m : Meaning Key Recon Cond) → EachIsRanked m → (seen : Seen O Key Recon Cond) (seat : ℕ) → Shape m (sheets_of seen.table) → IsInserting (stage_at seen seat) → (k : ℕ) × (k ≤ most_sections (sheets_of seen.table) + 1) × SeatEnds m seen seat k
@@ -141,10 +145,6 @@ module _ {O Key Recon Cond : Type 0} where
       go free a = a
       go (descending key d) a = none_left m seen.table d d.stand a
       go (reading s) a = a
-
-  -- the insert was not sent back to its start
-  abbrev IsNoRestart : InsertOut → Type 0
-  IsNoRestart out = (block by : ℕ) → out ≡ Restarted block by → ⊥
 
   open_still : (m : Meaning Key Recon Cond) (seen : Seen O Key Recon Cond) (seat n : ℕ) (out : InsertOut) → SeatThenEnds m seen seat n out → (out ≡ Put → ⊥) → IsNoRestart out → SeatEnds m seen seat n
   open_still m seen seat n Descended h no_put on = h

@@ -39,7 +39,7 @@ use Rattle.spg_core.proofs.Slots.{set_twice, stages_set, stage_set, stage_is, pa
 use Rattle.spg_core.proofs.Steps.{with_fields, past, sane, seats, fits, held, low, room_on, room_ended, unswept_then, insert_claimed}
 
 -- what a seat has latched is its own, and what it has not is not
-pub none_held : {O Key Recon Cond : Type 0} (t t2 : pages.Table) (seat : ℕ) → AreHeld t2 seat (rest_of t seat) (λ b. false) → HasNone t2 seat
+pub none_held : (t t2 : pages.Table) (seat : ℕ) → AreHeld t2 seat (rest_of t seat) (λ b. false) → HasNone t2 seat
 none_held t t2 seat h b e = h.others b (sym (h.latch b) ∙ e)
 
 module _ {O Key Recon Cond : Type 0} (m : Meaning Key Recon Cond) (codes : CodeLaw m) (s : Inside O Key Recon Cond) (I : IsState m s) (seat : ℕ) where
@@ -286,21 +286,19 @@ module _ {O Key Recon Cond : Type 0} (m : Meaning Key Recon Cond) (codes : CodeL
     latches_step out (Scan x) t2 slots e n h = absurd h
     latches_step out (Insert key d) t2 slots e n (d2, items, S) = go out n (S.latches (rest_of s.table seat) (its key d d2 t2 e))
       where
-        L = latches_law O Key Recon Cond
-
         at_stage : HasLatches t2 seat (descending key d2) → HasLatches t2 seat (stage_in (map stage_of slots) seat)
         at_stage h = subst (λ (x : Stage O Key Recon Cond). HasLatches t2 seat x) (sym (moved_by d d2 key t2 slots e items).1) h
 
         go : (o : InsertOut) → (o ≡ outs.Put → ⊥) → HoldsAfter t2 seat (rest_of s.table seat) d2 o → LatchesAfter (seen_as s.journal.events (map stage_of slots) t2 s.origin) seat o
-        go outs.Descended n H = at_stage (L.ends s.table t2 seat _ H)
-        go outs.Restructured n H = at_stage (L.ends s.table t2 seat _ H)
-        go (outs.Restarted block by) n H = none_held {O = O} {Key = Key} {Recon = Recon} {Cond = Cond} s.table t2 seat H.0
+        go outs.Descended n H = at_stage ((latches_law O Key Recon Cond).ends s.table t2 seat _ H)
+        go outs.Restructured n H = at_stage ((latches_law O Key Recon Cond).ends s.table t2 seat _ H)
+        go (outs.Restarted block by) n H = none_held s.table t2 seat H.0
         go outs.Put n H = absurd (n refl)
 
     pub latches_put : (slot : Slot O Key Recon Cond) (t2 : pages.Table) (slots : List (Slot O Key Recon Cond)) → get_or s.slots.items seat Free ≡ slot → StepsFrom m s.table t2 s.slots.items slots seat outs.Put slot → HasNone t2 seat
     latches_put Free t2 slots e h = absurd h
     latches_put (Scan x) t2 slots e h = absurd h
-    latches_put (Insert key d) t2 slots e (d2, items, S) = none_held {O = O} {Key = Key} {Recon = Recon} {Cond = Cond} s.table t2 seat (S.latches (rest_of s.table seat) (its key d d2 t2 e))
+    latches_put (Insert key d) t2 slots e (d2, items, S) = none_held s.table t2 seat (S.latches (rest_of s.table seat) (its key d d2 t2 e))
 
     pub others_step : (out : InsertOut) (slot : Slot O Key Recon Cond) (t2 : pages.Table) (slots : List (Slot O Key Recon Cond)) → get_or s.slots.items seat Free ≡ slot → StepsFrom m s.table t2 s.slots.items slots seat out slot → OthersHold seen.table t2 seat
     others_step out Free t2 slots e h = absurd h

@@ -1,7 +1,7 @@
 -- The slots of the seats: what each says, how many are open, and the stages that contracts see.
 use Rattle.std.proofs.Common.{◌≡◌, ◌≢◌, ◌<◌, ◌≤◌, ◌+◌, ℕ, zero, suc, true, false, cond, List, [], ◌∷◌, ◌++◌, Bool, length, get_or, set, replicate, reverse, refl, sym, ap, ◌∙◌, arith, get_or-set_same, length-set, map}
 use Rattle.std.proofs.lemmas.Bool.{false≢true}
-use Rattle.std.proofs.lemmas.List.{map-set, length-map}
+use Rattle.std.proofs.lemmas.List.{map-set}
 use Rattle.spg_base.specs.declared.recorded.Origin.{Origin}
 use Rattle.spg_opclass.specs.Meaning.{Meaning}
 use Rattle.spg_rows.specs.declared.event.Event.{Event}
@@ -138,7 +138,10 @@ module _ {O Key Recon Cond : Type 0} where
   stages_new zero = refl
   stages_new (suc n) = ap (λ ys. free ∷ ys) (stages_new n)
 
-  pub all_free : (n i : ℕ) → ◌≡◌ {A = Stage O Key Recon Cond} (get_or (replicate n free) i free) free
+  all_free : (n i : ℕ) → ◌≡◌ {A = Stage O Key Recon Cond} (get_or (replicate n free) i free) free
   all_free zero i = refl
   all_free (suc n) zero = refl
   all_free (suc n) (suc i) = all_free n i
+
+  pub all_stages_free : (n i : ℕ) → ◌≡◌ {A = Stage O Key Recon Cond} (get_or (map stage_of (replicate n Free)) i free) free
+  all_stages_free n i = ap (λ l. get_or l i free) (stages_new n) ∙ all_free n i

@@ -1,5 +1,5 @@
 -- What the fields of a state keep: more room, the same pages and slots, and what each seat may do.
-use Rattle.std.proofs.Common.{◌≡◌, ◌≢◌, ◌<◌, ◌≤◌, ◌+◌, ◌⊎◌, ⊎_elim, ℕ, Bool, true, false, List, [], ◌∷◌, ◌++◌, length, get_or, set, reverse, replicate, map, Option, Some, None, Vec, refl, sym, ap, ◌∙◌, subst, arith}
+use Rattle.std.proofs.Common.{◌≡◌, ◌≢◌, ◌<◌, ◌≤◌, ◌+◌, ◌⊎◌, ⊎_elim, ℕ, zero, suc, Bool, true, false, List, [], ◌∷◌, ◌++◌, length, get_or, set, reverse, replicate, map, Option, Some, None, Vec, refl, sym, ap, ◌∙◌, subst, arith}
 use Rattle.std.proofs.Common.{Result, Ok, Err}
 use Rattle.std.specs.Result.{OnOk, OnErr, IsErrAnd}
 use Rattle.std.proofs.lemmas.Bool.{false≢true}
@@ -48,7 +48,7 @@ held_on t t2 seat rest holds same h = record { latch = λ b. same b ∙ h.latch 
 -- a seat that has something open is one of the seats
 pub open_within : {O Key Recon Cond : Type 0} (stages : List (Stage O Key Recon Cond)) (seat : ℕ) → is_open (get_or stages seat free) ≡ true → seat < length stages
 open_within [] seat was = absurd (false≢true was)
-open_within (x ∷ xs) 0 was = omega arith
+open_within (x ∷ xs) zero was = omega arith
 open_within (x ∷ xs) (suc seat) was = omega (arith, open_within xs seat was)
 
 module _ {O Key Recon Cond : Type 0} (m : Meaning Key Recon Cond) where

@@ -22,6 +22,9 @@ returns-then-not-is_live-clause-ok g c =
     let past = past_is s c.args.self.now c.self.view_is 0 in
     (λ live. false≢true (sym c.if-not-is_live.true ∙ c.is_live.ensures.1 (c.state.ensures ∙ c.self.invariant.kept.tells.states c.args.row ∙ sym (ap (state_of c.args.row) past) ∙ live)), refl)
 
+pub kill-requires : goal.kill-requires
+kill-requires g c = sym c.state.ensures ∙ c.is_live.ensures.0 c.if-not-is_live.false
+
 pub invariant_of-self : goal.invariant_of-self
 invariant_of-self g c = kept_with g.O.OpClass.meaning c.self.inside c.self.invariant c.self.inside.rows c.reserve.new.self refl c.reserve.ensures.events c.reserve.ensures.room
 
@@ -29,7 +32,7 @@ pub returns-in_err-reserve-clause-err : goal.returns-in_err-reserve-clause-err
 returns-in_err-reserve-clause-err g c =
     let s = c.self.inside in
     let e = ap (λ j. seen_as j (map stage_of s.slots.items) s.table s.origin) c.reserve.ensures.events ∙ c.self.view_is in
-    on_err c.from_residual-in_err-reserve.result e
+    on_err c.from_residual.result e
 
 pub invariant_of-self-2 : goal.invariant_of-self-2
 invariant_of-self-2 g c =

@@ -1,4 +1,4 @@
-use Rattle.std.proofs.Common.{rules, Option, ◌<◌, ◌≡◌, ◌++◌, ◌∷◌, [], Some, refl, sym, ap, ◌∙◌, subst, reverse, get_or, map}
+use Rattle.std.proofs.Common.{rules, true, inl, Option, ◌<◌, ◌≡◌, ◌++◌, ◌∷◌, [], Some, refl, sym, ap, ◌∙◌, subst, reverse, get_or, map}
 use Rattle.std.proofs.lemmas.Bool.{false≢true}
 use Rattle.std.proofs.lemmas.Result.{err_from_is_err_and}
 use Rattle.spg_base.specs.Row.{RowAt}
@@ -48,6 +48,9 @@ pub returns-in_err-claimed-clause-row_used : goal.returns-in_err-claimed-clause-
 returns-in_err-claimed-clause-row_used g c =
     let refused = err_from_is_err_and c.from_residual-in_err-claimed.result c.from_residual-in_err-claimed.ensures.1 in
     (λ h. absurd (cc (refused.1, refused.2, h)), λ h. absurd (unused g ((goal.at.returns-in_err-claimed-clause-row_used g c).After-is_free) c.if-not-is_free.false h))
+
+pub claim-requires : goal.claim-requires
+claim-requires g c = inl (sym c.state.ensures ∙ c.is_free.ensures.0 c.if-not-is_free.false)
 
 pub invariant_of-self : goal.invariant_of-self
 invariant_of-self g c = kept_with g.O.OpClass.meaning c.self.inside c.self.invariant c.self.inside.rows c.reserve.new.self refl c.reserve.ensures.events c.reserve.ensures.room
