@@ -149,8 +149,8 @@ module _ {Key Recon Cond : Type 0} (m : Meaning Key Recon Cond) (t : Table) (d :
 
   -- near the end the node that is followed leads nowhere
   near_leads : (n node : ℕ) (rest : List ℕ) (by_turn : Bool) → IsNamed m t d node rest by_turn → IsNearEnd m t d n → (link_of t x node ≡ None) × (2 ≤ n)
-  near_leads n node rest by_turn (inl (absent, turn)) (i, inl (two, (other, left, (r, er, ea), nowhere, plain))) = absurd (let f : None ≡ Some r = sym absent ∙ er in cc)
-  near_leads n node rest by_turn (inl (absent, turn)) (i, inr (three, (r, child, er, goes, others, plain))) = absurd (let f : None ≡ Some r = sym absent ∙ er in cc)
+  near_leads n node rest by_turn (inl (absent, turn, none, turned)) (i, inl (two, (other, left, (r, er, ea), nowhere, plain))) = absurd (let f : None ≡ Some r = sym absent ∙ er in cc)
+  near_leads n node rest by_turn (inl (absent, turn, none, turned)) (i, inr (three, (r, child, er, goes, others, plain))) = absurd (let f : None ≡ Some r = sym absent ∙ er in cc)
   near_leads n node rest by_turn (inr (answer, is, e, turned)) (i, inl (two, (other, left, was, nowhere, plain))) =
       let same : answer ≡ other = same_match answer other rest left (one_answer m t d (Match answer rest) (Match other left) is was) in
       let here : node ≡ answer = rw plain at e in

@@ -1,10 +1,8 @@
 -- What is latched in a new table, and where an insert that holds its blocks may stand.
-use Rattle.std.proofs.Common.{◌≡◌, ◌⊎◌, ◌||◌, ℕ, zero, suc, ⊎_elim, true, false, cond, nat_eq, Bool, List, Option, Some, None, get_or, replicate, refl, sym, ap, ◌∙◌, subst}
+use Rattle.std.proofs.Common.{◌≡◌, ℕ, zero, suc, ⊎_elim, true, cond, Option, Some, None, get_or, replicate, refl, sym, ap, ◌∙◌, subst}
 use Rattle.std.proofs.lemmas.Bool.{eq-eqb, or_left, or_right}
-use Rattle.spg_forest.specs.View.{Place}
-use Rattle.spg_tree.specs.Table.{Table, latch_at}
+use Rattle.spg_tree.specs.Table.{Table}
 use Rattle.spg_tree.specs.Descents.{Descending}
-use Rattle.spg_tree.specs.declared.stand.Stand.{Stand}
 use Rattle.spg_descend.specs.Held.{IsNoOthers, StandsFree}
 use Rattle.spg_descend.specs.Leaves.{stand_block, parent_block, is_held}
 use Rattle.spg_seats.specs.Descending.{holds_block}
@@ -27,7 +25,7 @@ held_some o b e = ap (λ (x : Option ℕ). is_held x b) e ∙ eq-eqb b b refl
 pub stands_open : {Recon : Type 0} (t t1 : Table) (seat : ℕ) (rest : ℕ → Option ℕ) (d d2 : Descending Recon) (z : ℕ) → InsertHolds t seat rest d → StandsFree t t1 d d2 seat → stand_block d2.stand ≡ Some z → IsNoOthers t seat z
 stands_open {Recon} t t1 seat rest d d2 z h free at = ⊎_elim
     (λ e. own_open t seat rest d z h (or_left (is_held (stand_block d.stand) z) (is_held (parent_block d.parent) z) (held_some (stand_block d.stand) z (ap stand_block (sym e) ∙ at))))
-    (λ (y, e, among, home).
+    (λ (y, e, (among, home)).
     let there : Some y.block ≡ Some z = ap stand_block (sym e) ∙ at in
     let same : y.block ≡ z = cc in
     ⊎_elim

@@ -1,18 +1,17 @@
 -- An insert at an inner tuple that gains a node, or that is split.
-use Rattle.std.proofs.Common.{◌≡◌, ℕ, ◌<◌, Bool, ⊎_elim, Option, Some, None, length, sym, ap, ◌∙◌, subst, inl}
+use Rattle.std.proofs.Common.{◌≡◌, ℕ, Bool, ⊎_elim, Option, Some, None, sym, ap, ◌∙◌, subst, inl}
 use Rattle.std.specs.Prelude.{ℤ}
 use Rattle.spg_opclass.specs.Meaning.{Meaning}
 use Rattle.spg_forest.specs.View.{Place}
 use Rattle.spg_forest.specs.Pages.{moved}
 use Rattle.spg_forest.specs.Shape.{Shape}
 use Rattle.spg_forest.specs.Section.{Leaves, Cost}
-use Rattle.spg_tree.specs.Table.{Table, sheets_of, latch_at}
+use Rattle.spg_tree.specs.Table.{Table, sheets_of}
 use Rattle.spg_tree.specs.Descents.{Descending, in_nulls}
 use Rattle.spg_tree.specs.declared.stand.Stand.{Stand}
 use Rattle.spg_tree.specs.declared.stand.Stand.TheVariants.{Start, Root, At, Empty}
 use Rattle.spg_descend.specs.Carried.{root_of, IsCarried}
-use Rattle.spg_descend.specs.Follows.{IsAtInner, IsOpenTo, tuple_place, latched}
-use Rattle.spg_descend.specs.Leaves.{released, stand_block, parent_block}
+use Rattle.spg_descend.specs.Follows.{IsAtInner, tuple_place}
 use Rattle.spg_descend.specs.Puts.{IsQuiet}
 use Rattle.spg_move.specs.Answers.{IsInnerOf}
 use Rattle.spg_move.specs.Nodes.{node_cost, IsNodeAdded}
@@ -54,7 +53,11 @@ widen_out {Key} {Recon} m t t1 d d2 seat at label H of_key stands i added = ⊎_
     (λ (e, quiet, makes, link, W).
     stays_out m t t1 d d2 seat node_cost H stands i quiet (ap (λ (x : Descending Recon). x.row) e) (ap (λ (x : Descending Recon). in_nulls x) e) (ap (λ (x : Descending Recon). x.stand) e) (ap (λ (x : Descending Recon). x.parent) e) link W.leaves W.carries)
     (λ (big, y, e, ticked, makes, parity, led, W).
-    let stand : d2.stand ≡ At y = ap (λ (x : Descending Recon). x.stand) e in
-    (off_start t d i, (node_cost, moved (tuple_place d.stand) y, W.leaves), ticked.limit, kinds_grow t t1 d ticked.roots,
-    led_goes m t t1 d d2 y of_key (inner_root m t d H stands i) ticked (ap (λ (x : Descending Recon). x.row) e) (ap (λ (x : Descending Recon). in_nulls x) e) stand (ap (λ (x : Descending Recon). x.parent) e) W.leaves.section.shape (subst (λ (s : Stand). IsAtInner t1 s) stand W.inner) led W.carries))
+    let stand : d2.stand ≡ At y = ap (λ (x : Descending Recon). x.stand) e in (
+      off_start t d i,
+      (node_cost, moved (tuple_place d.stand) y, W.leaves),
+      ticked.limit,
+      kinds_grow t t1 d ticked.roots,
+      led_goes m t t1 d d2 y of_key (inner_root m t d H stands i) ticked (ap (λ (x : Descending Recon). x.row) e) (ap (λ (x : Descending Recon). in_nulls x) e) stand (ap (λ (x : Descending Recon). x.parent) e) W.leaves.section.shape (subst (λ (s : Stand). IsAtInner t1 s) stand W.inner) led W.carries,
+    ))
     added

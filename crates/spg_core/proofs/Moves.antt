@@ -1,22 +1,21 @@
 -- What comes of a section of an insert.
-use Rattle.std.proofs.Common.{◌≡◌, ℕ, ◌<◌, Bool, true, false, List, ◌⊎◌, ⊎_elim, Option, Some, None, length, refl, sym, ap, ◌∙◌, subst, inl, inr, arith, cond}
+use Rattle.std.proofs.Common.{◌≡◌, ℕ, ◌<◌, Bool, true, false, List, ◌⊎◌, ⊎_elim, Option, Some, None, length, refl, sym, ap, ◌∙◌, subst, inl, inr, arith}
 use Rattle.spg_opclass.specs.Meaning.{Meaning}
 use Rattle.spg_forest.specs.View.{Place}
 use Rattle.spg_forest.specs.Tuples.{Live}
 use Rattle.spg_forest.specs.Pages.{place, moved}
 use Rattle.spg_forest.specs.Sheets.{Sheet, Sheets, sheet_at, links}
 use Rattle.spg_forest.specs.Shape.{Shape, IsRestOf}
-use Rattle.spg_forest.specs.Section.{Adds, Leaves, Cost}
 use Rattle.spg_forest.specs.Follows.{GoesBelow}
 use Rattle.spg_page.specs.Kinds.{IsInner}
 use Rattle.spg_page.specs.Reads.{frame_in}
-use Rattle.spg_tree.specs.Table.{Table, sheets_of, tuple_at, latch_at, with_latch}
+use Rattle.spg_tree.specs.Table.{Table, sheets_of, tuple_at, latch_at}
 use Rattle.spg_tree.specs.Descents.{Descending, in_nulls, placed}
 use Rattle.spg_tree.specs.declared.stand.Stand.{Stand}
 use Rattle.spg_tree.specs.declared.stand.Stand.TheVariants.{Start, Root, At, Empty}
 use Rattle.spg_descend.specs.Carried.{carried, root_of, IsCarried}
 use Rattle.spg_descend.specs.Enters.{CarriesOn}
-use Rattle.spg_descend.specs.Leaves.{released, stand_block, parent_block, is_held}
+use Rattle.spg_descend.specs.Leaves.{released, stand_block, parent_block}
 use Rattle.spg_descend.specs.Follows.{IsAtInner, tuple_place, link_of, stand_below, latched, left_behind, table_below, FollowsNode, CarriesBelow}
 use Rattle.spg_descend.specs.Below.{IsChainBelow, IsAtChain, IsTicked}
 use Rattle.spg_descend.specs.Makes.{MakesNone, MakesOne}

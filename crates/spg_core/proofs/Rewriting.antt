@@ -1,8 +1,7 @@
 -- What a section that changed pages leaves, before the latches of the insert are settled.
-use Rattle.std.proofs.Common.{◌≡◌, ◌≤◌, ℕ, List, Option, Some, None, length, sym, ap, subst, inl, inr}
+use Rattle.std.proofs.Common.{◌≡◌, ◌≤◌, ℕ, Option, length, sym, ap, subst, inl, inr}
 use Rattle.spg_opclass.specs.Meaning.{Meaning}
 use Rattle.spg_opclass.specs.Laws.{AddLaw, SplitLaw}
-use Rattle.spg_forest.specs.View.{Place}
 use Rattle.spg_forest.specs.Pages.{moved}
 use Rattle.spg_forest.specs.Shape.{Shape}
 use Rattle.spg_forest.specs.Tuples.{IsAmong}
@@ -33,12 +32,12 @@ module _ {Key Recon Cond : Type 0} (m : Meaning Key Recon Cond) (t t1 : Table) (
   rewritten_latches outs.Restructured (inl (i, main, inl (at, label, answered, inl (e, quiet, makes, link, W), table))) = quiet.latches
   rewritten_latches outs.Restructured (inl (i, main, inl (at, label, answered, inr (big, y, e, ticked, makes, parity, led, W), table))) = ticked.latches
   rewritten_latches outs.Restructured (inl (i, main, inr (up, labels, child, low, answered, P, table))) = P.quiet.latches
-  rewritten_latches outs.Restructured (inr (rule, inl (low, (calm, makes, ways), table))) = calm.latches
-  rewritten_latches outs.Restructured (inr (rule, inr (below, split, ticked, table))) = ticked.latches
+  rewritten_latches outs.Restructured (inr (rule, inl (low, (calm, makes, ways), table, cause, rise))) = calm.latches
+  rewritten_latches outs.Restructured (inr (rule, inr (below, split, ticked, table, cause, rise))) = ticked.latches
   rewritten_latches outs.Put (e, inl (rule, (fits, puts, quiet, makes), table)) = quiet.latches
   rewritten_latches outs.Put (e, inr (inl (rule, moves, ticked, makes, table))) = ticked.latches
-  rewritten_latches outs.Put (e, inr (inr (rule, inl (low, (parts, calm, makes, same), table)))) = calm.latches
-  rewritten_latches outs.Put (e, inr (inr (rule, inr (below, split, ticked, table)))) = ticked.latches
+  rewritten_latches outs.Put (e, inr (inr (rule, inl (low, (parts, calm, makes, same), table, cause, rise)))) = calm.latches
+  rewritten_latches outs.Put (e, inr (inr (rule, inr (below, split, ticked, table, cause, rise)))) = ticked.latches
 
   -- the tuple above stays
   pub rewritten_parent : (out : InsertOut) → Rewrites m t t1 d d2 seat out → d2.parent ≡ d.parent
@@ -47,10 +46,10 @@ module _ {Key Recon Cond : Type 0} (m : Meaning Key Recon Cond) (t t1 : Table) (
   rewritten_parent outs.Restructured (inl (i, main, inl (at, label, answered, inl (e, quiet, makes, link, W), table))) = ap (λ (x : Descending Recon). x.parent) e
   rewritten_parent outs.Restructured (inl (i, main, inl (at, label, answered, inr (big, y, e, ticked, makes, parity, led, W), table))) = ap (λ (x : Descending Recon). x.parent) e
   rewritten_parent outs.Restructured (inl (i, main, inr (up, labels, child, low, answered, P, table))) = ap (λ (x : Descending Recon). x.parent) P.after
-  rewritten_parent outs.Restructured (inr (rule, inl (low, (calm, makes, inl (e, W)), table))) = ap (λ (x : Descending Recon). x.parent) e
-  rewritten_parent outs.Restructured (inr (rule, inl (low, (calm, makes, inr (e, W)), table))) = ap (λ (x : Descending Recon). x.parent) e
-  rewritten_parent outs.Restructured (inr (rule, inr (below, (z, makes, inl (e, W)), ticked, table))) = ap (λ (x : Descending Recon). x.parent) e
-  rewritten_parent outs.Restructured (inr (rule, inr (below, (z, makes, inr (e, W)), ticked, table))) = ap (λ (x : Descending Recon). x.parent) e
+  rewritten_parent outs.Restructured (inr (rule, inl (low, (calm, makes, inl (e, W)), table, cause, rise))) = ap (λ (x : Descending Recon). x.parent) e
+  rewritten_parent outs.Restructured (inr (rule, inl (low, (calm, makes, inr (e, W)), table, cause, rise))) = ap (λ (x : Descending Recon). x.parent) e
+  rewritten_parent outs.Restructured (inr (rule, inr (below, (z, makes, inl (e, W)), ticked, table, cause, rise))) = ap (λ (x : Descending Recon). x.parent) e
+  rewritten_parent outs.Restructured (inr (rule, inr (below, (z, makes, inr (e, W)), ticked, table, cause, rise))) = ap (λ (x : Descending Recon). x.parent) e
   rewritten_parent outs.Put (e, ways) = ap (λ (x : Descending Recon). x.parent) e
 
   -- and where the leaf is not put the insert stands at an inner tuple
@@ -58,10 +57,10 @@ module _ {Key Recon Cond : Type 0} (m : Meaning Key Recon Cond) (t t1 : Table) (
   rewritten_inner (inl (i, main, inl (at, label, answered, inl (e, quiet, makes, link, W), table))) = W.inner
   rewritten_inner (inl (i, main, inl (at, label, answered, inr (big, y, e, ticked, makes, parity, led, W), table))) = W.inner
   rewritten_inner (inl (i, main, inr (up, labels, child, low, answered, P, table))) = P.inner
-  rewritten_inner (inr (rule, inl (low, (calm, makes, inl (e, W)), table))) = W.inner
-  rewritten_inner (inr (rule, inl (low, (calm, makes, inr (e, W)), table))) = W.inner
-  rewritten_inner (inr (rule, inr (below, (z, makes, inl (e, W)), ticked, table))) = subst (λ (s : Stand). IsAtInner t1 s) (sym (ap (λ (x : Descending Recon). x.stand) e)) W.inner
-  rewritten_inner (inr (rule, inr (below, (z, makes, inr (e, W)), ticked, table))) = subst (λ (s : Stand). IsAtInner t1 s) (sym (ap (λ (x : Descending Recon). x.stand) e)) W.inner
+  rewritten_inner (inr (rule, inl (low, (calm, makes, inl (e, W)), table, cause, rise))) = W.inner
+  rewritten_inner (inr (rule, inl (low, (calm, makes, inr (e, W)), table, cause, rise))) = W.inner
+  rewritten_inner (inr (rule, inr (below, (z, makes, inl (e, W)), ticked, table, cause, rise))) = subst (λ (s : Stand). IsAtInner t1 s) (sym (ap (λ (x : Descending Recon). x.stand) e)) W.inner
+  rewritten_inner (inr (rule, inr (below, (z, makes, inr (e, W)), ticked, table, cause, rise))) = subst (λ (s : Stand). IsAtInner t1 s) (sym (ap (λ (x : Descending Recon). x.stand) e)) W.inner
 
   -- one inner tuple is made at most
   pub rewritten_makes : (out : InsertOut) → Rewrites m t t1 d d2 seat out → MakesAtMostOne t t1
@@ -69,13 +68,13 @@ module _ {Key Recon Cond : Type 0} (m : Meaning Key Recon Cond) (t t1 : Table) (
   rewritten_makes (outs.Restarted block by) R = absurd R
   rewritten_makes outs.Restructured (inl (i, main, inl (at, label, answered, inl (e, quiet, makes, link, W), table))) = (tuple_place d.stand, λ x off inner. makes x inner)
   rewritten_makes outs.Restructured (inl (i, main, inl (at, label, answered, inr (big, y, e, ticked, makes, parity, led, W), table))) = (y, makes)
-  rewritten_makes outs.Restructured (inl (i, main, inr (up, labels, child, low, answered, P, table))) = (P.lower.0, P.lower.1.1.0)
-  rewritten_makes outs.Restructured (inr (rule, inl (low, (calm, makes, ways), table))) = (tuple_place d.stand, makes)
-  rewritten_makes outs.Restructured (inr (rule, inr (below, (z, makes, ways), ticked, table))) = (z, makes_below t t1 d.parent z makes)
+  rewritten_makes outs.Restructured (inl (i, main, inr (up, labels, child, low, answered, P, table))) = (P.lower.0, P.lower.2)
+  rewritten_makes outs.Restructured (inr (rule, inl (low, (calm, makes, ways), table, cause, rise))) = (tuple_place d.stand, makes)
+  rewritten_makes outs.Restructured (inr (rule, inr (below, (z, makes, ways), ticked, table, cause, rise))) = (z, makes_below t t1 d.parent z makes)
   rewritten_makes outs.Put (e, inl (rule, (fits, puts, quiet, makes), table)) = (tuple_place d.stand, λ x off inner. makes x inner)
   rewritten_makes outs.Put (e, inr (inl (rule, moves, ticked, makes, table))) = (tuple_place d.stand, λ x off inner. makes x inner)
-  rewritten_makes outs.Put (e, inr (inr (rule, inl (low, (parts, calm, makes, same), table)))) = (tuple_place d.stand, makes)
-  rewritten_makes outs.Put (e, inr (inr (rule, inr (below, (z, makes, splits, same), ticked, table)))) = (z, makes_below t t1 d.parent z makes)
+  rewritten_makes outs.Put (e, inr (inr (rule, inl (low, (parts, calm, makes, same), table, cause, rise)))) = (tuple_place d.stand, makes)
+  rewritten_makes outs.Put (e, inr (inr (rule, inr (below, (z, makes, splits, same), ticked, table, cause, rise)))) = (z, makes_below t t1 d.parent z makes)
 
   module _ (H : Shape m (sheets_of t)) (K : (key : Option Key) × IsCarried m (sheets_of t) d key) (at : Stands t d) where
     pub rewritten_out : (out : InsertOut) → Rewrites m t t1 d d2 seat out → IsStepOut m t t1 d d2 seat out
@@ -84,14 +83,14 @@ module _ {Key Recon Cond : Type 0} (m : Meaning Key Recon Cond) (t t1 : Table) (
     rewritten_out outs.Restructured (inl (i, main, inl (n, label, answered, added, table))) = widen_out m t t1 d d2 seat n label H K at i added
     rewritten_out outs.Restructured (inl (i, main, inr (up, labels, child, low, answered, P, table))) = stays_out m t t1 d d2 seat tuples.split_cost H at i P.quiet
         (ap (λ (x : Descending Recon). x.row) P.after) (ap (λ (x : Descending Recon). in_nulls x) P.after) (ap (λ (x : Descending Recon). x.stand) P.after) (ap (λ (x : Descending Recon). x.parent) P.after) P.link P.leaves P.carries
-    rewritten_out outs.Restructured (inr ((off, room, long), inl (low, split, table))) = root_out m t t1 d d2 seat at off low (root_full m t d H at off room low) split
-    rewritten_out outs.Restructured (inr ((off, room, long), inr (below, split, ticked, table))) = chain_out m t t1 d d2 seat K off (below_root t d at off below) ticked split
+    rewritten_out outs.Restructured (inr ((off, room, long), inl (low, split, table, cause, rise))) = root_out m t t1 d d2 seat at off low (root_full m t d H at off room low) split
+    rewritten_out outs.Restructured (inr ((off, room, long), inr (below, split, ticked, table, cause, rise))) = chain_out m t t1 d d2 seat K off (below_root t d at off below) ticked split
     rewritten_out outs.Put (e, inl ((off, fits), (fitted, puts, quiet, makes), table)) = (off, (λ key C. (cost_at d.stand, (λ x. x), puts key C)), quiet.limit, kinds_grow t t1 d quiet.roots, ap (λ (x : Descending Recon). x.row) e)
     rewritten_out outs.Put (e, inr (inl ((off, room, short), moves, ticked, makes, table))) =
         (off, (λ key C. let (y, A) = moves key C in (move_cost, moved (tuple_place d.stand) y, A)), ticked.limit, kinds_grow t t1 d ticked.roots, ap (λ (x : Descending Recon). x.row) e)
-    rewritten_out outs.Put (e, inr (inr ((off, room, long), inl (low, (parts, calm, makes, same), table)))) =
+    rewritten_out outs.Put (e, inr (inr ((off, room, long), inl (low, (parts, calm, makes, same), table, cause, rise)))) =
         (off, (λ key C. (split_cost d.stand 1, (λ x. x), parts key C)), calm.limit, calm_grow t t1 d calm (root_full m t d H at off room low), ap (λ (x : Descending Recon). x.row) e)
-    rewritten_out outs.Put (e, inr (inr ((off, room, long), inr (below, (z, makes, splits, same), ticked, table)))) =
+    rewritten_out outs.Put (e, inr (inr ((off, room, long), inr (below, (z, makes, splits, same), ticked, table, cause, rise)))) =
         (off, (λ key C. (split_cost d.stand 1, moved (tuple_place d.stand) z, splits key C)), ticked.limit, kinds_grow t t1 d ticked.roots, ap (λ (x : Descending Recon). x.row) e)
 
     -- it takes one of the sections that may come
@@ -100,8 +99,8 @@ module _ {Key Recon Cond : Type 0} (m : Meaning Key Recon Cond) (t t1 : Table) (
     rewritten_ends adds splits (outs.Restarted block by) R = absurd R
     rewritten_ends adds splits outs.Restructured (inl (i, main, inl (n, label, answered, added, table))) = widen_ends m adds t t1 d d2 n label H K at i main answered added
     rewritten_ends adds splits outs.Restructured (inl (i, main, inr (up, labels, child, low, answered, P, table))) = split_ends m splits t t1 d d2 up labels child low H K at i main answered P
-    rewritten_ends adds splits outs.Restructured (inr ((off, room, long), inl (low, split, table))) = root_ends m t t1 d d2 H (root_leaves m t d H at off low) off.1 split
-    rewritten_ends adds splits outs.Restructured (inr ((off, room, long), inr (below, split, ticked, table))) =
+    rewritten_ends adds splits outs.Restructured (inr ((off, room, long), inl (low, split, table, cause, rise))) = root_ends m t t1 d d2 H (root_leaves m t d H at off low) off.1 split
+    rewritten_ends adds splits outs.Restructured (inr ((off, room, long), inr (below, split, ticked, table, cause, rise))) =
         chain_ends m t t1 d d2 H (chain_leaves t (in_nulls d) d.stand d.parent (at_chain t d at off below (not_empty t d room))) off.1 split
     rewritten_ends adds splits outs.Put R = λ n h. tt
 

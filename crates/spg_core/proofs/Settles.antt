@@ -46,7 +46,6 @@ more_blocks : (o : Option ℕ) (n k : ℕ) → n ≤ k → IfSome o (λ b. b < n
 more_blocks None n k le h = tt
 more_blocks (Some b) n k le h = omega arith
 
-
 -- the blocks of the latches that are taken and given free are there
 pub record AreThere {Recon : Type 0} (t : Table) (d d2 : Descending Recon) : Type 0 where
   pub here : IfSome (stand_block d2.stand) (λ b. b < length t.pages)
@@ -70,8 +69,8 @@ module _ {Key Recon Cond : Type 0} (m : Meaning Key Recon Cond) (t t1 : Table) (
   -- where it stays as it was
   put_there : length t.pages ≤ length t1.pages → d2 ≡ d → AreThere t1 d d2
   put_there le e = subst (λ (x : Descending Recon). AreThere t1 d x) (sym e) (
-    let here = more_blocks (stand_block d.stand) (length t.pages) (length t1.pages) le (here_there m t (in_nulls d) d.stand d.parent H at) in
-    record { here = here; above = more_blocks (parent_block d.parent) (length t.pages) (length t1.pages) le (above_there t (in_nulls d) d.stand d.parent at); was = here })
+      let here = more_blocks (stand_block d.stand) (length t.pages) (length t1.pages) le (here_there m t (in_nulls d) d.stand d.parent H at) in
+      record { here = here; above = more_blocks (parent_block d.parent) (length t.pages) (length t1.pages) le (above_there t (in_nulls d) d.stand d.parent at); was = here })
 
   pub does_there : (seat : ℕ) (out : InsertOut) → ((key : Option Key) × IsCarried m (sheets_of t) d key) → Does m t t1 d d2 seat out → AreThere t1 d d2
   does_there seat outs.Descended K D = let (stood, same, (row, nulls, there, carries)) = D.ok in same_there same there

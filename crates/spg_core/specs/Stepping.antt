@@ -8,12 +8,10 @@ use Rattle.spg_forest.specs.Sheets.{sheet_at}
 use Rattle.spg_forest.specs.Section.{Adds, Leaves, Cost}
 use Rattle.spg_tree.specs.Table.{Table, sheets_of, latch_at, tuple_at}
 use Rattle.spg_tree.specs.Descents.{Descending, in_nulls}
-use Rattle.spg_tree.specs.declared.stand.Stand.{Stand}
-use Rattle.spg_tree.specs.declared.stand.Stand.TheVariants.{Start, Root, At, Empty}
+use Rattle.spg_tree.specs.declared.stand.Stand.TheVariants.{Start, Root}
 use Rattle.spg_descend.specs.Carried.{carried, root_of, IsCarried}
-use Rattle.spg_descend.specs.Below.{IsLink}
 use Rattle.spg_descend.specs.Follows.{IsAtInner}
-use Rattle.spg_descend.specs.Puts.{IsAtLeaves, IsAtEmpty, Fits}
+use Rattle.spg_descend.specs.Puts.{Fits}
 use Rattle.spg_descend.specs.Rules.{IsAtNoInner}
 use Rattle.spg_forest.specs.Shape.{IsRestOf}
 use Rattle.spg_forest.specs.Sheets.{links}
@@ -25,8 +23,8 @@ use Rattle.spg_descend.specs.Follows.{tuple_place}
 use Rattle.spg_descend.specs.Answers.{IsAnswered}
 use Rattle.spg_descend.specs.Makes.{MakesOne}
 use Rattle.spg_seats.specs.Descending.{HasInnerRoot, Stands}
-use Rattle.spg_core.specs.declared.inner.Chosen.{Chosen}
-use Rattle.spg_core.specs.declared.inner.Chosen.TheVariants.{Node, Add, Split}
+use Rattle.spg_core.specs.declared.choose.Chosen.{Chosen}
+use Rattle.spg_core.specs.declared.choose.Chosen.TheVariants.{Node, Add, Split}
 use Rattle.spg_core.specs.declared.answer.InsertOut.{InsertOut}
 use Rattle.spg_core.specs.declared.answer.InsertOut.TheVariants.{Descended, Restructured, Restarted, Put}
 

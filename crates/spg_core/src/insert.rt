@@ -186,6 +186,6 @@ pub(crate) fn step<O: OpClass>(
     let was = stand_block(descent.stand());
     let out = section(alloc, class, table, descent, seat)?;
     let _count = table.page_count();
-    settle_latches(table, descent, was, seat, out);
+    settle_latches(table, descent, was, seat, &out);
     Ok(out)
 }

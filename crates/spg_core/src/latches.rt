@@ -96,13 +96,13 @@ pub(crate) fn settle_latches<O: OpClass>(
     descent: &Descent<O>,
     was: Option<Block>,
     seat: SeatNo,
-    out: InsertOut,
+    out: &InsertOut,
 )
     requires here { IfSome (stand_block descent.now.stand) (λ b. b < length table.old.pages) }
     requires above { IfSome (parent_block descent.now.parent) (λ b. b < length table.old.pages) }
     requires was { IfSome was (λ b. b < length table.old.pages) }
     ensures table { IsButLatches table.old table.new }
-    ensures settled { Settles table.old table.new descent.now was seat out }
+    ensures settled { Settles table.old table.new descent.now was seat out.now }
 {
     match out {
         InsertOut::Descended | InsertOut::Restarted { .. } => {}

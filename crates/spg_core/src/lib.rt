@@ -2,6 +2,7 @@
 #![tactic(auto)]
 
 mod answer;
+mod choose;
 mod inner;
 mod insert;
 mod latches;

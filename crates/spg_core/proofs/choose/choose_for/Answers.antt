@@ -12,7 +12,7 @@ use Rattle.spg_tree.specs.Table.{tuple_at}
 use Rattle.spg_descend.specs.Follows.{tuple_place}
 use Rattle.spg_descend.proofs.FollowLaw.{is_within, has_label}
 use Rattle.spg_core.proofs.Chooses.{node_there, rest_ok, goes}
-use Rattle.spg_core.proofs.inner.choose_for.Goals as goal
+use Rattle.spg_core.proofs.choose.choose_for.Goals as goal
 
 pub view_at-requires-clause-offset : goal.view_at-requires-clause-offset
 view_at-requires-clause-offset g c =
