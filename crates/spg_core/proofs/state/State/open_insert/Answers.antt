@@ -24,9 +24,9 @@ use Rattle.spg_core.proofs.state.State.open_insert.Goals.{After-is_free}
 
 -- a free row is not used
 unused : (g : Over) (c : After-is_free g) → c.is_free.result ≡ true → IsUsed (past_of c.args.self.now) c.args.row → ⊥
-unused g c yes used =
+unused g c is used =
     let s = c.self.inside in
-    unused_row g.O.OpClass.meaning s c.self.invariant c.args.row (sym c.state.ensures ∙ c.is_free.ensures.0 yes) (subst (λ (p : History _ _ _ _). IsUsed p c.args.row) (past_is s c.args.self.now c.self.view_is 0) used)
+    unused_row g.O.OpClass.meaning s c.self.invariant c.args.row (sym c.state.ensures ∙ c.is_free.ensures.0 is) (subst (λ (p : History _ _ _ _). IsUsed p c.args.row) (past_is s c.args.self.now c.self.view_is 0) used)
 
 pub returns-then-not-is_free-clause-row_used : goal.returns-then-not-is_free-clause-row_used
 returns-then-not-is_free-clause-row_used g c =

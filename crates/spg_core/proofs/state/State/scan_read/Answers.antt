@@ -1,11 +1,11 @@
-use Rattle.std.proofs.Common.{◌≡◌, ◌<◌, subst, get_or, refl, sym, ap, ◌∙◌}
+use Rattle.std.proofs.Common.{◌≡◌, ◌<◌, subst, get_or, map, refl, sym, ap, ◌∙◌}
 use Rattle.spg_tree.specs.Table.{Table, with_touched}
 use Rattle.spg_core.specs.declared.slot.Slot.TheVariants.{Free}
 use Rattle.spg_core.specs.Slot.{stage_of}
 use Rattle.spg_core.specs.Stage.{Stage, held_count}
 use Rattle.spg_core.specs.Sections.{ReadsFor}
 use Rattle.spg_core.specs.Kept.{IsState}
-use Rattle.spg_core.proofs.Slots.{stage_is}
+use Rattle.spg_core.proofs.Slots.{stage_is, seen_as}
 use Rattle.spg_core.proofs.Steps.{with_fields, fits, kept_same}
 use Rattle.spg_core.proofs.Scans.{can_read, kept_reads, reads_seen}
 use Rattle.spg_core.proofs.state.State.scan_read.Goals as goal
@@ -34,5 +34,6 @@ returns-clause-ok g c =
     let s = c.self.inside in
     let seen = c.args.self.now in
     let seat = c.args.seat in
-    subst (λ (x : Stage _ _ _ _). ReadsFor m seen _ seat c.args.item c.in_ok-out.out x) (sym (stage_is s seen c.self.view_is seat))
+    let new = seen_as s.journal.events (map stage_of c.read_slot.new.slots.items) c.set_touched.new.self s.origin in
+    subst (λ (x : Stage _ _ _ _). ReadsFor m seen new seat c.args.item c.in_ok-out.out x) (sym (stage_is s seen c.self.view_is seat))
     (reads_seen m s c.self.invariant seat seen c.self.view_is c.args.item c.in_ok-out.out c.read_slot.new.slots.items c.set_touched.new.self (c.set_touched.ensures ∙ ap (λ ts. with_touched s.table ts) c.new.ensures) (get_or s.slots.items seat Free) refl c.in_ok-out.ensures.ok)
