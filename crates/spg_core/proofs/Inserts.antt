@@ -27,7 +27,7 @@ use Rattle.spg_core.specs.declared.state.State.TheInside.{Inside}
 use Rattle.spg_core.specs.Stepping.{SamePages, MakesAtMostOne, GoesOn, RootsGrow, IsOutgrown, IsStepOut}
 use Rattle.spg_core.specs.Telling.{StepTells, StepDone}
 use Rattle.spg_core.specs.Ends.{EndsWithin, StageEnds, SeatEnds, SeatThenEnds}
-use Rattle.spg_core.specs.Operations.{CanStep, IsOutgrownBy, StepsFrom, IsRowOf}
+use Rattle.spg_core.specs.Operations.{CanStep, IsOutgrownBy, StepsFrom, IsInsert, IsRowOf}
 use Rattle.spg_core.specs.Sections.{IsOutOf, IsHeavyFor, StoodFor, TellsFor, LatchesAfter, HasNone, OthersHold}
 use Rattle.spg_core.specs.Latches.{HoldsAfter}
 use Rattle.spg_core.specs.Slot.{stage_of}
@@ -205,9 +205,15 @@ module _ {O Key Recon Cond : Type 0} (m : Meaning Key Recon Cond) (codes : CodeL
 
   -- the row of the insert in a slot is claimed
   pub row_claimed : (slot : Slot O Key Recon Cond) (row : RowAt) → StageFits m s.table before seat (stage_of slot) → IsRowOf slot row → state_in s.rows row ≡ row_state.Claimed
-  row_claimed Free row has r = absurd r
-  row_claimed (Insert key d) row has r = ap (λ (x : RowAt). state_in s.rows x) r ∙ insert_claimed m s I seat d.row key has.0
-  row_claimed (Scan x) row has r = absurd r
+  row_claimed Free row fit r = absurd r
+  row_claimed (Insert key d) row fit r = ap (λ (x : RowAt). state_in s.rows x) r ∙ insert_claimed m s I seat d.row key fit.0
+  row_claimed (Scan x) row fit r = absurd r
+
+  -- it is an insert still
+  pub steps_insert : (slot : Slot O Key Recon Cond) (t2 : pages.Table) (slots : List (Slot O Key Recon Cond)) (out : InsertOut) → seat < length s.slots.items → StepsFrom m s.table t2 s.slots.items slots seat out slot → IsInsert (get_or slots seat Free)
+  steps_insert Free t2 slots out there h = absurd h
+  steps_insert (Insert key d) t2 slots out there (d2, items, S) = subst (λ (x : Slot O Key Recon Cond). IsInsert x) (sym (ap (λ l. get_or l seat Free) items ∙ get_or-set_same s.slots.items seat (Insert key d2) Free there)) tt
+  steps_insert (Scan x) t2 slots out there h = absurd h
 
   pub steps_length : (slot : Slot O Key Recon Cond) (t2 : pages.Table) (slots : List (Slot O Key Recon Cond)) (out : InsertOut) → StepsFrom m s.table t2 s.slots.items slots seat out slot → length slots ≡ 64
   steps_length Free t2 slots out h = absurd h
@@ -286,7 +292,7 @@ module _ {O Key Recon Cond : Type 0} (m : Meaning Key Recon Cond) (codes : CodeL
     latches_step out (Scan x) t2 slots e n h = absurd h
     latches_step out (Insert key d) t2 slots e n (d2, items, S) = go out n (S.latches (rest_of s.table seat) (its key d d2 t2 e))
       where
-        at_stage : HasLatches t2 seat (descending key d2) → HasLatches t2 seat (stage_in (map stage_of slots) seat)
+        at_stage : HasLatches {O = O} {Key = Key} {Recon = Recon} {Cond = Cond} t2 seat (descending key d2) → HasLatches t2 seat (stage_in (map stage_of slots) seat)
         at_stage h = subst (λ (x : Stage O Key Recon Cond). HasLatches t2 seat x) (sym (moved_by d d2 key t2 slots e items).1) h
 
         go : (o : InsertOut) → (o ≡ outs.Put → ⊥) → HoldsAfter t2 seat (rest_of s.table seat) d2 o → LatchesAfter (seen_as s.journal.events (map stage_of slots) t2 s.origin) seat o

@@ -14,7 +14,7 @@ use Rattle.spg_core.specs.Stepping.{IsNearLimit, MakesAtMostOne}
 use Rattle.spg_core.specs.Ends.{SeatEnds, SeatThenEnds}
 use Rattle.spg_core.proofs.Slots.{stage_is, table_is, inserting_open}
 use Rattle.spg_core.proofs.Steps.{kept_same, seats, fits, low, room_left}
-use Rattle.spg_core.proofs.Inserts.{can_step, heavy_for, kept_step, put_row, kept_put, row_claimed, steps_length, seen_step, seen_put, tells_step, tells_put, latches_step, latches_put, others_step, within_step, ends_step, makes_step}
+use Rattle.spg_core.proofs.Inserts.{can_step, heavy_for, kept_step, put_row, kept_put, row_claimed, steps_insert, steps_length, seen_step, seen_put, tells_step, tells_put, latches_step, latches_put, others_step, within_step, ends_step, makes_step}
 use Rattle.spg_core.proofs.state.State.insert_step.Goals as goal
 use Rattle.spg_core.proofs.state.State.insert_step.Goals.{then-has_ended, else-has_ended}
 
@@ -64,6 +64,16 @@ pub end_insert-row-requires-clause-seats : goal.end_insert-row-requires-clause-s
 end_insert-row-requires-clause-seats g c =
     let s = c.self.inside in
     steps_length g.O.OpClass.meaning g.O.OpClass.codes s c.self.invariant c.args.seat (get_or s.slots.items c.args.seat Free) c.step_slot.new.table c.step_slot.new.slots.items c.in_ok-out.out c.in_ok-out.ensures.ok
+
+pub end_insert-row-requires-clause-insert : goal.end_insert-row-requires-clause-insert
+end_insert-row-requires-clause-insert g c =
+    let m = g.O.OpClass.meaning in
+    let s = c.self.inside in
+    let seat = c.args.seat in
+    let slot = get_or s.slots.items seat Free in
+    let was = inserting_open (stage_of slot) (subst (λ (x : Stage _ _ _ _). IsInserting x) (stage_is s c.args.self.now c.self.view_is seat) c.requires.inserting) in
+    let there : seat < length s.slots.items = omega (arith, seats m s c.self.invariant, low m s c.self.invariant seat was) in
+    steps_insert m g.O.OpClass.codes s c.self.invariant seat slot c.step_slot.new.table c.step_slot.new.slots.items c.in_ok-out.out there c.in_ok-out.ensures.ok
 
 pub put-requires : goal.put-requires
 put-requires g c =

@@ -14,6 +14,31 @@ returns-in-Put-clause-ok g c = (
   subst (λ (o : InsertOut). LatchesAfter c.insert_step.new.self c.args.seat o) c.in-Put.is c.in_ok-insert_step.ensures.latches,
 )
 
+pub returns-in-Put-clause-others : goal.returns-in-Put-clause-others
+returns-in-Put-clause-others g c = others_then c.args.self.now.table c.loop-turn.self.table c.insert_step.new.self.table c.args.seat c.loop-turn.invariant.others c.insert_step.ensures.others
+
+pub returns-in-Put-clause-within : goal.returns-in-Put-clause-within
+returns-in-Put-clause-within g c = changes_then c.args.self.now.table c.loop-turn.self.table c.insert_step.new.self.table c.args.seat c.loop-turn.invariant.others c.loop-turn.invariant.within c.insert_step.ensures.within
+
+pub returns-in-Restarted-clause-ok : goal.returns-in-Restarted-clause-ok
+returns-in-Restarted-clause-ok g c =
+    let no_put : c.in_ok-insert_step.field-0 ≡ Put → ⊥ = search rules in
+    let (latched, other) = restarted_by c.loop-turn.self c.insert_step.new.self c.args.seat c.in_ok-insert_step.field-0 c.in-Restarted.block c.in-Restarted.by c.in_ok-insert_step.ensures.ok c.in-Restarted.is c.insert_step.ensures.others in (
+      goes_further c.args.self.now c.loop-turn.self c.insert_step.new.self c.args.seat c.in_ok-insert_step.field-0 c.loop-turn.invariant.goes c.in_ok-insert_step.ensures.ok no_put,
+      subst (λ (o : InsertOut). LatchesAfter c.insert_step.new.self c.args.seat o) c.in-Restarted.is c.in_ok-insert_step.ensures.latches,
+      latched,
+      other,
+    )
+
+pub returns-in-Restarted-clause-others : goal.returns-in-Restarted-clause-others
+returns-in-Restarted-clause-others g c = others_then c.args.self.now.table c.loop-turn.self.table c.insert_step.new.self.table c.args.seat c.loop-turn.invariant.others c.insert_step.ensures.others
+
+pub returns-in-Restarted-clause-within : goal.returns-in-Restarted-clause-within
+returns-in-Restarted-clause-within g c = changes_then c.args.self.now.table c.loop-turn.self.table c.insert_step.new.self.table c.args.seat c.loop-turn.invariant.others c.loop-turn.invariant.within c.insert_step.ensures.within
+
+pub returns-in_err-insert_step-clause-others : goal.returns-in_err-insert_step-clause-others
+returns-in_err-insert_step-clause-others g c = others_then c.args.self.now.table c.loop-turn.self.table c.insert_step.new.self.table c.args.seat c.loop-turn.invariant.others c.insert_step.ensures.others
+
 pub loop-turn-preserved : goal.loop-turn-preserved
 loop-turn-preserved g c =
     let no_put : c.in_ok-insert_step.field-0 ≡ Put → ⊥ = search rules in
