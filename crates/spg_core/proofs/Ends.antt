@@ -135,7 +135,7 @@ enters_ends {Key} {Recon} m t t2 d d2 start same e = λ n h.
 -- ---- a node is followed
 
 -- the answer that the class gives is one
-one_answer : {Key Recon Cond : Type 0} (m : Meaning Key Recon Cond) (t : Table) (d : Descending Recon) (a b : Choice) → IsAnswered m t d a → IsAnswered m t d b → a ≡ b
+pub one_answer : {Key Recon Cond : Type 0} (m : Meaning Key Recon Cond) (t : Table) (d : Descending Recon) (a b : Choice) → IsAnswered m t d a → IsAnswered m t d b → a ≡ b
 one_answer {Key} {Recon} m t d a b (r, er, ea) (s, es, eb) =
     let same : r ≡ s = (let f : Some r ≡ Some s = sym er ∙ es in cc) in
     sym ea ∙ ap (λ (q : Recon). m.answer q (frame_in (tuple_at t (tuple_place d.stand))) d.rest) same ∙ eb

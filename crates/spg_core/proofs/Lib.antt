@@ -9,6 +9,7 @@ pub mod Ends
 pub mod Inners
 pub mod Rewriting
 pub mod Settles
+pub mod Ticks
 pub mod Slots
 pub mod Sweeps
 pub mod Steps

@@ -11,3 +11,4 @@ pub mod Through
 pub mod Counts
 pub mod Ends
 pub mod Telling
+pub mod Refusing

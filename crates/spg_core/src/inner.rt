@@ -1,13 +1,14 @@
-ghost use Rattle.std.specs.Prelude.{◌≡◌, Option, IfOk, OnErr, IsErrOf, ◌+◌, ◌^◌};
+ghost use Rattle.std.specs.Prelude.{◌≡◌, ◌⊎◌, Option, IfOk, OnErr, IsErrOf, ◌+◌, ◌^◌};
 ghost use Rattle.spg_forest.specs.Shape.{Shape};
 ghost use Rattle.spg_tree.specs.Table.{sheets_of};
-ghost use Rattle.spg_tree.specs.declared.stand.StepRefused.TheVariants.{IndexFull, ClockFull};
+ghost use Rattle.spg_tree.specs.declared.stand.StepRefused.TheVariants.{IndexFull, ClockFull, Memory as NoMemory};
 ghost use Rattle.spg_descend.specs.Carried.{IsCarried};
 ghost use Rattle.spg_descend.specs.Follows.{IsAtInner};
 ghost use Rattle.spg_seats.specs.Descending.{Stands};
 ghost use Rattle.spg_core.specs.declared.choose.Chosen.TheVariants.{Node, Add};
 ghost use Rattle.spg_core.specs.Stepping.{IsOutgrown, IsNearLimit, IsChosen};
 ghost use Rattle.spg_core.specs.Telling.{Does};
+ghost use Rattle.spg_core.specs.Refusing.{FindsNoPage, Ticks};
 
 use crate::answer::InsertOut;
 use crate::choose::{Chosen, choose};
@@ -63,6 +64,9 @@ fn widen<O: OpClass>(
     ensures does { IfOk result (λ out. Does O.meaning table.old table.new descent.old descent.new seat out) }
     ensures full { IsErrOf result IndexFull → IsOutgrown table.old descent.old × IsNearLimit table.old }
     ensures clock { IsErrOf result ClockFull → IsOutgrown table.old descent.old × (table.old.clock + 1 ≡ 2 ^ 48) }
+    ensures full_where { IsErrOf result IndexFull → FindsNoPage O.meaning table.old descent.old seat }
+    ensures clock_where { IsErrOf result ClockFull → Ticks O.meaning table.old descent.old }
+    ensures clock_first { Ticks O.meaning table.old descent.old → table.old.clock + 1 ≡ 2 ^ 48 → IsErrOf result ClockFull ⊎ IsErrOf result NoMemory }
     ensures err { OnErr result (table.new ≡ table.old) }
     ensures err_descent { OnErr result (descent.new ≡ descent.old) }
 {
@@ -86,6 +90,9 @@ fn apply<O: OpClass>(
     ensures does { IfOk result (λ out. Does O.meaning table.old table.new descent.old descent.new seat out) }
     ensures full { IsErrOf result IndexFull → IsOutgrown table.old descent.old × IsNearLimit table.old }
     ensures clock { IsErrOf result ClockFull → IsOutgrown table.old descent.old × (table.old.clock + 1 ≡ 2 ^ 48) }
+    ensures full_where { IsErrOf result IndexFull → FindsNoPage O.meaning table.old descent.old seat }
+    ensures clock_where { IsErrOf result ClockFull → Ticks O.meaning table.old descent.old }
+    ensures clock_first { Ticks O.meaning table.old descent.old → table.old.clock + 1 ≡ 2 ^ 48 → IsErrOf result ClockFull ⊎ IsErrOf result NoMemory }
     ensures err { OnErr result (table.new ≡ table.old) }
     ensures err_descent { OnErr result (descent.new ≡ descent.old) }
 {
@@ -133,6 +140,9 @@ pub(crate) fn at_inner<O: OpClass>(
     ensures does { IfOk result (λ out. Does O.meaning table.old table.new descent.old descent.new seat out) }
     ensures full { IsErrOf result IndexFull → IsOutgrown table.old descent.old × IsNearLimit table.old }
     ensures clock { IsErrOf result ClockFull → IsOutgrown table.old descent.old × (table.old.clock + 1 ≡ 2 ^ 48) }
+    ensures full_where { IsErrOf result IndexFull → FindsNoPage O.meaning table.old descent.old seat }
+    ensures clock_where { IsErrOf result ClockFull → Ticks O.meaning table.old descent.old }
+    ensures clock_first { Ticks O.meaning table.old descent.old → table.old.clock + 1 ≡ 2 ^ 48 → IsErrOf result ClockFull ⊎ IsErrOf result NoMemory }
     ensures err { OnErr result (table.new ≡ table.old) }
     ensures err_descent { OnErr result (descent.new ≡ descent.old) }
 {

@@ -1,8 +1,8 @@
-ghost use Rattle.std.specs.Prelude.{◌≡◌, ℕ, Option, IfOk, OnErr, IsErrOf, ◌+◌, ◌^◌};
+ghost use Rattle.std.specs.Prelude.{◌≡◌, ◌⊎◌, ℕ, Option, IfOk, OnErr, IsErrOf, ◌+◌, ◌^◌};
 ghost use Rattle.spg_forest.specs.Shape.{Shape};
 ghost use Rattle.spg_tree.specs.Table.{sheets_of};
 ghost use Rattle.spg_tree.specs.declared.stand.Stand.TheVariants.{Start};
-ghost use Rattle.spg_tree.specs.declared.stand.StepRefused.TheVariants.{IndexFull, ClockFull};
+ghost use Rattle.spg_tree.specs.declared.stand.StepRefused.TheVariants.{IndexFull, ClockFull, Memory as NoMemory};
 ghost use Rattle.spg_descend.specs.declared.rule.Rule.TheVariants as rules;
 ghost use Rattle.spg_descend.specs.Carried.{IsCarried};
 ghost use Rattle.spg_split.specs.Splits.{IsAtRoot};
@@ -10,6 +10,7 @@ ghost use Rattle.spg_seats.specs.Descending.{Stands, HoldsIts, ChangesHeld};
 ghost use Rattle.spg_seats.specs.Latching.{InsertHolds};
 ghost use Rattle.spg_core.specs.Stepping.{IsOutgrown, IsNearLimit, IsStepOut, MakesAtMostOne};
 ghost use Rattle.spg_core.specs.Telling.{IsRuleFor, StepTells, Does};
+ghost use Rattle.spg_core.specs.Refusing.{FindsNoPage, Ticks};
 ghost use Rattle.spg_core.specs.Ends.{TakesOne};
 ghost use Rattle.spg_core.specs.Latches.{HoldsAfter};
 
@@ -52,6 +53,9 @@ fn put<O: OpClass>(
     ensures does { IfOk result (λ out. Does O.meaning table.old table.new descent.now descent.now seat out) }
     ensures full { IsErrOf result IndexFull → IsOutgrown table.old descent.now × IsNearLimit table.old }
     ensures clock { IsErrOf result ClockFull → ⊥ }
+    ensures full_where { IsErrOf result IndexFull → FindsNoPage O.meaning table.old descent.now seat }
+    ensures clock_where { IsErrOf result ClockFull → Ticks O.meaning table.old descent.now }
+    ensures clock_first { Ticks O.meaning table.old descent.now → table.old.clock + 1 ≡ 2 ^ 48 → IsErrOf result ClockFull ⊎ IsErrOf result NoMemory }
     ensures err { OnErr result (table.new ≡ table.old) }
 {
     match put_leaf(alloc, table, descent, seat)? {
@@ -74,6 +78,9 @@ fn move_away<O: OpClass>(
     ensures does { IfOk result (λ out. Does O.meaning table.old table.new descent.now descent.now seat out) }
     ensures full { IsErrOf result IndexFull → IsOutgrown table.old descent.now × IsNearLimit table.old }
     ensures clock { IsErrOf result ClockFull → IsOutgrown table.old descent.now × (table.old.clock + 1 ≡ 2 ^ 48) }
+    ensures full_where { IsErrOf result IndexFull → FindsNoPage O.meaning table.old descent.now seat }
+    ensures clock_where { IsErrOf result ClockFull → Ticks O.meaning table.old descent.now }
+    ensures clock_first { Ticks O.meaning table.old descent.now → table.old.clock + 1 ≡ 2 ^ 48 → IsErrOf result ClockFull ⊎ IsErrOf result NoMemory }
     ensures err { OnErr result (table.new ≡ table.old) }
 {
     move_chain(alloc, table, descent, seat)?;
@@ -96,6 +103,9 @@ fn divide_root<O: OpClass>(
     ensures does { IfOk result (λ out. Does O.meaning table.old table.new descent.old descent.new seat out) }
     ensures full { IsErrOf result IndexFull → IsOutgrown table.old descent.old × IsNearLimit table.old }
     ensures clock { IsErrOf result ClockFull → ⊥ }
+    ensures full_where { IsErrOf result IndexFull → FindsNoPage O.meaning table.old descent.old seat }
+    ensures clock_where { IsErrOf result ClockFull → Ticks O.meaning table.old descent.old }
+    ensures clock_first { Ticks O.meaning table.old descent.old → table.old.clock + 1 ≡ 2 ^ 48 → IsErrOf result ClockFull ⊎ IsErrOf result NoMemory }
     ensures err { OnErr result (table.new ≡ table.old) }
     ensures err_descent { OnErr result (descent.new ≡ descent.old) }
 {
@@ -121,6 +131,9 @@ fn divide_chain<O: OpClass>(
     ensures does { IfOk result (λ out. Does O.meaning table.old table.new descent.old descent.new seat out) }
     ensures full { IsErrOf result IndexFull → IsOutgrown table.old descent.old × IsNearLimit table.old }
     ensures clock { IsErrOf result ClockFull → IsOutgrown table.old descent.old × (table.old.clock + 1 ≡ 2 ^ 48) }
+    ensures full_where { IsErrOf result IndexFull → FindsNoPage O.meaning table.old descent.old seat }
+    ensures clock_where { IsErrOf result ClockFull → Ticks O.meaning table.old descent.old }
+    ensures clock_first { Ticks O.meaning table.old descent.old → table.old.clock + 1 ≡ 2 ^ 48 → IsErrOf result ClockFull ⊎ IsErrOf result NoMemory }
     ensures err { OnErr result (table.new ≡ table.old) }
     ensures err_descent { OnErr result (descent.new ≡ descent.old) }
 {
@@ -145,6 +158,9 @@ fn section<O: OpClass>(
     ensures does { IfOk result (λ out. Does O.meaning table.old table.new descent.old descent.new seat out) }
     ensures full { IsErrOf result IndexFull → IsOutgrown table.old descent.old × IsNearLimit table.old }
     ensures clock { IsErrOf result ClockFull → IsOutgrown table.old descent.old × (table.old.clock + 1 ≡ 2 ^ 48) }
+    ensures full_where { IsErrOf result IndexFull → FindsNoPage O.meaning table.old descent.old seat }
+    ensures clock_where { IsErrOf result ClockFull → Ticks O.meaning table.old descent.old }
+    ensures clock_first { Ticks O.meaning table.old descent.old → table.old.clock + 1 ≡ 2 ^ 48 → IsErrOf result ClockFull ⊎ IsErrOf result NoMemory }
     ensures err { OnErr result (table.new ≡ table.old) }
     ensures err_descent { OnErr result (descent.new ≡ descent.old) }
 {
@@ -180,6 +196,9 @@ pub(crate) fn step<O: OpClass>(
     ensures makes { IfOk result (λ _. MakesAtMostOne table.old table.new) }
     ensures full { IsErrOf result IndexFull → IsOutgrown table.old descent.old × IsNearLimit table.old }
     ensures clock { IsErrOf result ClockFull → IsOutgrown table.old descent.old × (table.old.clock + 1 ≡ 2 ^ 48) }
+    ensures full_where { IsErrOf result IndexFull → FindsNoPage O.meaning table.old descent.old seat }
+    ensures clock_where { IsErrOf result ClockFull → Ticks O.meaning table.old descent.old }
+    ensures clock_first { Ticks O.meaning table.old descent.old → table.old.clock + 1 ≡ 2 ^ 48 → IsErrOf result ClockFull ⊎ IsErrOf result NoMemory }
     ensures err { OnErr result (table.new ≡ table.old) }
     ensures err_descent { OnErr result (descent.new ≡ descent.old) }
 {

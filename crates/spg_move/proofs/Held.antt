@@ -1,20 +1,20 @@
 -- No section at an inner tuple, and no move of a chain, touches a block that another seat has latched.
-use Rattle.std.proofs.Common.{◌≡◌, ℕ, ◌+◌, ◌-◌, ◌<◌, ◌≤◌, ◌||◌, nat_eq, nat_le, Bool, true, false, List, [], ◌∷◌, ◌++◌, ◌⊎◌, ⊎_elim, Option, Some, length, refl, sym, ap, ◌∙◌, subst, inl, inr, arith}
+use Rattle.std.proofs.Common.{◌≡◌, ℕ, ◌-◌, ◌<◌, ◌≤◌, ◌||◌, nat_eq, nat_le, Bool, true, false, List, [], ◌∷◌, ◌++◌, ◌⊎◌, ⊎_elim, Option, Some, length, refl, sym, ap, subst, inl, inr, arith}
 use Rattle.std.specs.List.{range_with_len}
 use Rattle.std.proofs.lemmas.Bool.{eq-eqb}
 use Rattle.spg_forest.specs.View.{Place}
 use Rattle.spg_forest.specs.Tuples.{Tuple, IsAmong}
 use Rattle.spg_forest.specs.Sheets.{size_of}
 use Rattle.spg_tree.specs.Table.{Table, sheet_at}
-use Rattle.spg_tree.specs.Descents.{Descending, in_nulls, placed, with_node}
+use Rattle.spg_tree.specs.Descents.{Descending, in_nulls}
 use Rattle.spg_tree.specs.declared.stand.Stand.{Stand}
 use Rattle.spg_tree.specs.declared.stand.Stand.TheVariants.{Start, Root, At, Empty}
 use Rattle.spg_descend.specs.Follows.{tuple_place}
-use Rattle.spg_descend.specs.Held.{IsNoOthers, TouchesFree, IsFreeHome, StandsFree}
+use Rattle.spg_descend.specs.Held.{IsNoOthers, TouchesFree, IsFreeHome}
 use Rattle.spg_descend.specs.Leaves.{stand_block, parent_block, is_held}
 use Rattle.spg_descend.proofs.Held.{MayTouch, picked_free, may_at, may_above, may_free, all_none, all_more, all_both, all_either, all_new, touches, touches_one}
 use Rattle.spg_split.specs.Homes.{another}
-use Rattle.spg_split.proofs.BlocksTouched.{left_among, right_among, range_among, another_cases}
+use Rattle.spg_move.proofs.Picks.{left_among, right_among, range_among, another_cases}
 use Rattle.spg_move.specs.Answers.{IsInnerOf}
 use Rattle.spg_move.specs.Splitting.{lower_want, fits_beside, split_touched, IsHome, IsParted}
 use Rattle.spg_move.specs.Widening.{node_want, blocks_shifted, widened_table, IsShifted}

@@ -1,6 +1,7 @@
 ghost use Rattle.std.specs.Prelude.{◌≡◌, ◌<◌, ◌+◌, ◌^◌, ◌↔◌, Option, Some as Just, OnOk, OnErr, IsErrOf};
 ghost use Rattle.spg_forest.specs.Tuples.{Live};
 ghost use Rattle.spg_forest.specs.Shape.{Shape};
+ghost use Rattle.spg_forest.specs.Exact.{IsExact};
 ghost use Rattle.spg_tree.specs.Table.{sheets_of};
 ghost use Rattle.spg_tree.specs.Pick.{IsFull};
 ghost use Rattle.spg_tree.specs.declared.stand.Stand.TheVariants.{At};
@@ -44,6 +45,7 @@ fn move_from<O: OpClass>(
     ensures ticked { OnOk result (IsTicked table.old table.new) }
     ensures makes { OnOk result (MakesNone table.old table.new) }
     ensures table { OnOk result (MovesTable table.old table.new descent.now seat) }
+    ensures exact { OnOk result (IsExact (sheets_of table.old) (sheets_of table.new) table.new.touched) }
     ensures full { IsErrOf result IndexFull → IsFull table.old (carried_want table.old descent.now seat) }
     ensures clock { IsErrOf result ClockFull → ⊥ }
     ensures err { OnErr result (table.new ≡ table.old) }
@@ -70,9 +72,9 @@ fn move_from<O: OpClass>(
 /// other leaf page. The old head becomes a redirect to the new one with the clock's moment, the other
 /// tuples become placeholders, the downlink of the tuple above is set, and the clock is raised. A dead
 /// tuple is a chain of no tuples. No inner tuple is made. `table` tells the whole table: the order of
-/// the chain and where it is, the blocks touched, which are those written, and the pages remembered,
-/// which are those after the pick; latches and counter stay as they are. Of the blocks touched, each but that where
-/// the insert stands and that of the tuple above was latched by no other seat. `ClockFull` comes
+/// the chain and where it is, and the pages remembered, which are those after the pick; latches and
+/// counter stay as they are. The blocks touched are exactly those written or added, each once; each but
+/// that where the insert stands and that of the tuple above was latched by no other seat. `ClockFull` comes
 /// exactly where the clock is 2^48 - 1, before a page is picked; `IndexFull` only where the pick of a
 /// leaf page for the chain with its new leaf, by this seat and not on the old block, needs a new page
 /// and there may be none. After a refusal the table is as it was.
@@ -92,6 +94,7 @@ pub fn move_chain<O: OpClass>(
     ensures ticked { OnOk result (IsTicked table.old table.new) }
     ensures makes { OnOk result (MakesNone table.old table.new) }
     ensures table { OnOk result (MovesTable table.old table.new descent.now seat) }
+    ensures exact { OnOk result (IsExact (sheets_of table.old) (sheets_of table.new) table.new.touched) }
     ensures full { IsErrOf result IndexFull → IsFull table.old (carried_want table.old descent.now seat) }
     ensures clock { IsErrOf result ClockFull → table.old.clock + 1 ≡ 2 ^ 48 }
     ensures clock_first { table.old.clock + 1 ≡ 2 ^ 48 → IsErrOf result ClockFull }

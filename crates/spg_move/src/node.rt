@@ -2,6 +2,7 @@ ghost use Rattle.std.specs.Prelude.{◌≡◌, ◌⊎◌, ◌≤◌, ◌+◌, �
 ghost use Rattle.spg_opclass.specs.declared.view.Choice.TheVariants.{Add};
 ghost use Rattle.spg_forest.specs.Sheets.{size_of};
 ghost use Rattle.spg_forest.specs.Shape.{Shape};
+ghost use Rattle.spg_forest.specs.Exact.{IsExact};
 ghost use Rattle.spg_tree.specs.Table.{sheets_of, tuples_at};
 ghost use Rattle.spg_tree.specs.Pick.{IsFull};
 ghost use Rattle.spg_tree.specs.Descents.{in_nulls, placed, with_node, IsParent};
@@ -80,8 +81,8 @@ fn note_shift<O: OpClass>(descent: &mut Descent<O>, to: Place)
 /// the one inner tuple that is made; the old place becomes a redirect to it with the clock's moment,
 /// the downlink of the tuple above is set, the clock is raised by one, and the insert stands at the new
 /// place, whose block is among those touched and is that of the tuple above or was latched by no other
-/// seat. In both cases the insert notes that it has added a node, and the touched blocks are those
-/// changed or added, each once; `table` tells the whole table. Of the blocks touched, each but that
+/// seat. In both cases the insert notes that it has added a node, and the touched blocks are exactly those
+/// written or added, each once; `table` tells the whole table. Of the blocks touched, each but that
 /// where the insert stands and that of the tuple above was latched by no other seat. `ClockFull` comes
 /// exactly where the longer tuple does not fit and the clock is 2^48 - 1, before a page is picked,
 /// unless memory is short before; `IndexFull` only where it does not fit and the pick of an inner page
@@ -105,6 +106,7 @@ pub fn add_node<O: OpClass>(
     ensures held { OnOk result (TouchesFree table.old table.new descent.old seat) }
     ensures stands { OnOk result (StandsFree table.old table.new descent.old descent.new seat) }
     ensures table { OnOk result (NodeTable table.old table.new descent.old descent.new at label seat) }
+    ensures exact { OnOk result (IsExact (sheets_of table.old) (sheets_of table.new) table.new.touched) }
     ensures full { IsErrOf result IndexFull → (FitsWider table.old descent.old at label → ⊥) × IsFull table.old (wider_want table.old descent.old at label seat) }
     ensures clock { IsErrOf result ClockFull → (FitsWider table.old descent.old at label → ⊥) × (table.old.clock + 1 ≡ 2 ^ 48) }
     ensures clock_first { (FitsWider table.old descent.old at label → ⊥) → table.old.clock + 1 ≡ 2 ^ 48 → IsErrOf result ClockFull ⊎ IsErrOf result Memory }

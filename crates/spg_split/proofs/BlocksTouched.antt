@@ -2,9 +2,10 @@
 use Rattle.std.proofs.Common.{◌≡◌, ℕ, zero, suc, ◌+◌, ◌-◌, ◌≤◌, ◌<◌, ◌||◌, nat_eq, nat_le, Bool, true, false, List, [], ◌∷◌, ◌++◌, ◌⊎◌, ⊎_elim, length, length-append, refl, sym, ◌∙◌, subst, inl, inr, arith}
 use Rattle.std.specs.Prelude.{if◌then◌else◌}
 use Rattle.std.specs.List.{range_with_len}
-use Rattle.std.proofs.lemmas.Bool.{cases_eq, cases_lt, leb-true, eqb-true}
+use Rattle.std.proofs.lemmas.Bool.{cases_eq, cases_lt, leb-true, eqb-true, eq-eqb, le-leb}
 use Rattle.std.proofs.lemmas.List.FromFn.{length-range_with_len}
 use Rattle.spg_forest.specs.Tuples.{IsAmong}
+use Rattle.spg_forest.specs.Exact.{AreOnce}
 use Rattle.spg_split.specs.declared.homes.Homes.{Homes}
 use Rattle.spg_split.specs.Homes.{another, blocks_touched}
 
@@ -79,3 +80,25 @@ away b p h before now e le hi hr none = record {
 
     new : before ≤ e → e < now → ⊥
     new g k = none (right_among e (((b ∷ p ∷ []) ++ another h.inner p before) ++ another h.rest b before) (range_with_len before (now - before)) (range_among (now - before) before e g (omega arith)))
+
+and_none : (a b : Bool) → a || b ≡ false → (a ≡ false) × (b ≡ false)
+and_none true b e = cc
+and_none false b e = (refl, e)
+
+-- one that is named is not the other one, and not new
+pub another_is : (e b o end : ℕ) → IsAmong e (another b o end) → (e ≡ b) × (b ≡ o → ⊥) × (b < end)
+another_is e b o end a = go (nat_eq b o || nat_le end b) refl a
+  where
+    go : (x : Bool) → nat_eq b o || nat_le end b ≡ x → IsAmong e (if x then [] else b ∷ []) → (e ≡ b) × (b ≡ o → ⊥) × (b < end)
+    go true q i = absurd i
+    go false q (inr i) = absurd i
+    go false q (inl i) =
+        let (x, y) = and_none (nat_eq b o) (nat_le end b) q in
+        (i, (λ k. let c : true ≡ false = sym (eq-eqb b o k) ∙ x in cc), ⊎_elim (λ h. h) (λ h. absurd (let c : true ≡ false = sym (le-leb end b h) ∙ y in cc)) (cases_lt b end))
+
+pub another_once : (b o end : ℕ) → AreOnce (another b o end)
+another_once b o end = go (nat_eq b o || nat_le end b)
+  where
+    go : (x : Bool) → AreOnce (if x then [] else b ∷ [])
+    go true = tt
+    go false = ((λ i. i), tt)

@@ -1,13 +1,12 @@
 -- A division touches no block that another seat has latched.
-use Rattle.std.proofs.Common.{◌≡◌, ℕ, ◌+◌, ◌-◌, ◌<◌, ◌≤◌, ◌||◌, nat_eq, nat_le, Bool, true, false, List, [], ◌∷◌, ◌++◌, Option, Some, ◌⊎◌, ⊎_elim, length, refl, ap, ◌∙◌, subst, sym, inl, inr, arith}
+use Rattle.std.proofs.Common.{◌≡◌, ℕ, ◌+◌, ◌-◌, ◌<◌, ◌≤◌, ◌||◌, nat_eq, nat_le, Bool, true, false, List, [], ◌∷◌, ◌++◌, Some, ◌⊎◌, ⊎_elim, length, ap, ◌∙◌, subst, sym, inl, inr, arith}
 use Rattle.std.specs.Prelude.{Result, Ok, Err, IfOk, OnOk}
 use Rattle.std.specs.List.{range_with_len}
 use Rattle.spg_forest.specs.View.{Place}
 use Rattle.spg_forest.specs.Tuples.{Tuple, IsAmong}
 use Rattle.spg_forest.specs.Sheets.{size_of}
 use Rattle.spg_tree.specs.Table.{Table, sheet_at}
-use Rattle.spg_tree.specs.Descents.{Descending, placed}
-use Rattle.spg_tree.specs.declared.stand.Stand.{Stand}
+use Rattle.spg_tree.specs.Descents.{Descending}
 use Rattle.spg_tree.specs.declared.stand.Stand.TheVariants.{Root, At}
 use Rattle.spg_descend.specs.Held.{TouchesFree, IsNoOthers, IsFreeHome, StandsFree}
 use Rattle.spg_descend.specs.Leaves.{parent_block}

@@ -32,3 +32,6 @@ pub mod Causes
 pub mod Held
 pub mod Fulls
 pub mod Tables
+pub mod RootExact
+pub mod ChainExact
+pub mod ChainNamed

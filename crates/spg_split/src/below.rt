@@ -1,6 +1,7 @@
 ghost use Rattle.std.specs.Prelude.{◌≡◌, ◌⊎◌, ◌+◌, ◌^◌, ◌<◌, Option, Some as Just, IfOk, OnOk, OnErr, IsErrOf};
 ghost use Rattle.spg_forest.specs.Tuples.{Live};
 ghost use Rattle.spg_forest.specs.Shape.{Shape};
+ghost use Rattle.spg_forest.specs.Exact.{IsExact};
 ghost use Rattle.spg_tree.specs.Table.{sheets_of};
 ghost use Rattle.spg_tree.specs.declared.stand.StepRefused.TheVariants.{IndexFull, ClockFull};
 ghost use Rattle.spg_descend.specs.Carried.{carried, IsCarried};
@@ -49,6 +50,7 @@ fn divide_chain<O: OpClass>(
     ensures held { OnOk result (TouchesFree table.old table.new descent.now seat) }
     ensures home { IfOk result (λ done. IsFreeHome table.old table.new descent.now.parent done.at.block seat) }
     ensures table { IfOk result (λ done. DividesBelow O.meaning table.old table.new descent.now descent.now.stand descent.now.parent seat done) }
+    ensures exact { OnOk result (IsExact (sheets_of table.old) (sheets_of table.new) table.new.touched) }
     ensures cause { IfOk result (λ done. IsCauseOf (chain_bytes O.meaning table.old descent.now) done.way) }
     ensures rise { IfOk result (λ done. RisesOnly (chain_in_one O.meaning table.old descent.now) done.way) }
     ensures full { IsErrOf result IndexFull → IsChainFull O.meaning table.old descent.now seat }
@@ -96,9 +98,9 @@ fn note_chain<O: OpClass>(descent: &mut Descent<O>, done: Parting) -> SplitOut
 /// `ClockFull` comes exactly where the clock is 2^48 - 1, before a page is picked; `IndexFull` only
 /// where the pick of a page for the inner tuple or for the lists that go needs a new page and there may
 /// be none. After a refusal table and insert are as they were. `table` tells the whole table: the inner
-/// tuple is that of the class's meaning, its nodes lead to its lists, the blocks touched are those
-/// written or added, each once, and the pages remembered are those after the picks. Latches and counter
-/// stay as they are.
+/// tuple is that of the class's meaning, its nodes lead to its lists, and the pages remembered are those
+/// after the picks. The blocks touched are exactly those written or added, each once. Latches and
+/// counter stay as they are.
 pub fn split_chain<O: OpClass>(
     alloc: Global,
     class: &O,
@@ -115,6 +117,7 @@ pub fn split_chain<O: OpClass>(
     ensures held { OnOk result (TouchesFree table.old table.new descent.old seat) }
     ensures stands { OnOk result (StandsFree table.old table.new descent.old descent.new seat) }
     ensures table { IfOk result (λ out. ChainTable O.meaning table.old table.new descent.old descent.new seat out) }
+    ensures exact { OnOk result (IsExact (sheets_of table.old) (sheets_of table.new) table.new.touched) }
     ensures cause { IfOk result (λ out. IsCause (chain_bytes O.meaning table.old descent.old) out) }
     ensures rise { IfOk result (λ out. (out ≡ SplitOut.LeftOut → (z : PlaceAt) × SplitsWithout O.meaning table.old table.new descent.old descent.new z 0) ⊎ chain_in_one O.meaning table.old descent.old) }
     ensures ticked { IfOk result (λ out. IsTicked table.old table.new) }

@@ -1,6 +1,7 @@
 ghost use Rattle.std.specs.Prelude.{◌≡◌, ◌⊎◌, Option, IfOk, OnOk, OnErr, IsErrOf};
 ghost use Rattle.spg_forest.specs.Tuples.{Live};
 ghost use Rattle.spg_forest.specs.Shape.{Shape};
+ghost use Rattle.spg_forest.specs.Exact.{IsExact};
 ghost use Rattle.spg_tree.specs.Table.{sheets_of};
 ghost use Rattle.spg_tree.specs.Descents.{in_nulls};
 ghost use Rattle.spg_tree.specs.declared.stand.Stand.TheVariants.{Root};
@@ -50,6 +51,7 @@ fn split_root<O: OpClass>(
     ensures ok { IfOk result (λ way. IsSplitWay O.meaning table.old table.new descent.now way) }
     ensures held { OnOk result (TouchesFree table.old table.new descent.now seat) }
     ensures table { OnOk result (RootTable O.meaning table.old table.new descent.now seat) }
+    ensures exact { OnOk result (IsExact (sheets_of table.old) (sheets_of table.new) table.new.touched) }
     ensures cause { IfOk result (λ way. IsCauseOf (root_bytes O.meaning table.old descent.now) way) }
     ensures rise { IfOk result (λ way. RisesOnly (root_in_one O.meaning table.old descent.now) way) }
     ensures full { IsErrOf result IndexFull → IsRootFull O.meaning table.old descent.now seat }
@@ -84,8 +86,8 @@ fn note<O: OpClass>(descent: &mut Descent<O>, way: Parted) -> SplitOut
 /// that label, which are filled in turn. `LeftOut` comes exactly where the lists do not fit with the
 /// leaf on one page; then it is in none of them. The spread rises then only where all leaves but the new
 /// one are in one node. `table` tells the whole table: the inner tuple is that of the class's meaning,
-/// its nodes lead to its lists, the blocks touched are the two written, and the pages remembered are
-/// those after the pick. `IndexFull` comes only where a pick needs a new page and there may be none.
+/// its nodes lead to its lists, and the pages remembered are those after the pick. The blocks touched
+/// are exactly those written or added, each once. `IndexFull` comes only where a pick needs a new page and there may be none.
 /// After a refusal table and insert are as they were.
 pub fn split_leaf<O: OpClass>(
     alloc: Global,
@@ -102,6 +104,7 @@ pub fn split_leaf<O: OpClass>(
     ensures ok { IfOk result (λ out. IsSplitOut O.meaning table.old table.new descent.old descent.new out) }
     ensures held { OnOk result (TouchesFree table.old table.new descent.old seat) }
     ensures table { OnOk result (RootTable O.meaning table.old table.new descent.old seat) }
+    ensures exact { OnOk result (IsExact (sheets_of table.old) (sheets_of table.new) table.new.touched) }
     ensures cause { IfOk result (λ out. IsCause (root_bytes O.meaning table.old descent.old) out) }
     ensures rise { IfOk result (λ out. (out ≡ SplitOut.LeftOut → PartsWithout O.meaning table.old table.new descent.old descent.new 0) ⊎ root_in_one O.meaning table.old descent.old) }
     ensures full { IsErrOf result IndexFull → IsRootFull O.meaning table.old descent.old seat }

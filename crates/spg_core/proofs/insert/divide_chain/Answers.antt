@@ -37,3 +37,11 @@ returns-in-LeftOut-clause-does g c =
     let tells = subst (λ (o : SplitOut). DividesChain g.O.OpClass.meaning c.args.table.now c.split_chain.new.table c.args.descent.now c.split_chain.new.descent c.args.seat o) c.in-LeftOut.is
     (c.requires.below, done.ok, done.ticked, done.table, done.cause, done.rise) in
     record { told = inr (c.requires.rule, inr tells); held = done.held; stood = done.stands }
+
+pub returns-in_err-split_chain-clause-full_where : goal.returns-in_err-split_chain-clause-full_where
+returns-in_err-split_chain-clause-full_where g c = λ h.
+    let full : IsChainFull g.O.OpClass.meaning c.args.table.now c.args.descent.now c.args.seat = search rules in
+    inr (inr (inl (c.requires.rule, inr (c.requires.below, full))))
+
+pub returns-in_err-split_chain-clause-clock_where : goal.returns-in_err-split_chain-clause-clock_where
+returns-in_err-split_chain-clause-clock_where g c = λ h. inr (inl (c.requires.rule, c.requires.below))

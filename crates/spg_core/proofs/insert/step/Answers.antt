@@ -1,4 +1,4 @@
-use Rattle.std.proofs.Common.{◌<◌, ℕ, Option, IfSome, length, sym, ap, ◌∙◌, subst}
+use Rattle.std.proofs.Common.{rules, inl, inr, ⊎_elim, ◌<◌, ℕ, Option, IfSome, length, sym, ap, ◌∙◌, subst}
 use Rattle.spg_descend.specs.Leaves.{stand_block}
 use Rattle.spg_core.proofs.Settles.{does_there, step_done}
 use Rattle.spg_core.proofs.insert.step.Goals as goal
@@ -42,3 +42,12 @@ pub returns-clause-makes : goal.returns-clause-makes
 returns-clause-makes g c =
     (step_done g.O.OpClass.meaning c.args.table.now c.section.new.table c.settle_latches.new.table c.args.descent.now c.section.new.descent c.args.seat c.in_ok-out.out c.stand_block-was.result g.O.OpClass.adds g.O.OpClass.splits
     c.requires.shape c.requires.of_key c.requires.stands c.in_ok-out.ensures.does c.settle_latches.ensures.table c.settle_latches.ensures.settled c.page_count-count.ensures.sound.latched (c.stand_block-was.ensures ∙ ap stand_block c.stand.ensures)).makes
+
+pub returns-in_err-out-clause-full_where : goal.returns-in_err-out-clause-full_where
+returns-in_err-out-clause-full_where g c = λ h. c.in_err-out.ensures.full_where (search rules)
+
+pub returns-in_err-out-clause-clock_where : goal.returns-in_err-out-clause-clock_where
+returns-in_err-out-clause-clock_where g c = λ h. c.in_err-out.ensures.clock_where (search rules)
+
+pub returns-in_err-out-clause-clock_first : goal.returns-in_err-out-clause-clock_first
+returns-in_err-out-clause-clock_first g c = λ ticks at_end. ⊎_elim (λ a. inl (search rules)) (λ a. inr (search rules)) (c.in_err-out.ensures.clock_first ticks at_end)

@@ -15,8 +15,8 @@ use Rattle.spg_descend.specs.Follows.{tuple_place}
 use Rattle.spg_move.specs.Nodes.{FitsWider}
 use Rattle.spg_move.specs.Widening.{widened, widened_table, node_want, FitsInPlace, IsShiftedFrom}
 use Rattle.spg_move.proofs.NodeStanding.{within, place_within, small, not_wider}
-use Rattle.spg_move.proofs.NodeLaw.{added_here}
-use Rattle.spg_move.proofs.NodeMoved.{shifted_out}
+use Rattle.spg_move.proofs.NodeLaw.{added_here, exact_here}
+use Rattle.spg_move.proofs.NodeMoved.{shifted_out, exact_out}
 use Rattle.spg_move.proofs.Held.{widened_held}
 use Rattle.spg_move.proofs.node.add_node.Goals as goal
 
@@ -87,8 +87,11 @@ returns-then-fits_in_place-clause-table g c =
     let el : c.in_ok-longer.longer ≡ widened (tuple_at c.args.table.now (tuple_place c.args.descent.now.stand)) c.args.at c.args.label =
     c.in_ok-longer.ensures ∙ ap (λ (z : ℤ). widened (tuple_on c.page.result.now.tuples c.tuple_place-here.result.offset) c.args.at z) (to_z-of_z w16 c.args.label c.ranges.label) ∙ ap (λ (s : Sheet). widened (tuple_on s.tuples c.tuple_place-here.result.offset) c.args.at c.args.label) c.page.ensures ∙ ap (λ (z : Place). widened (tuple_at c.args.table.now z) c.args.at c.args.label) eh in
     let room : FitsInPlace c.page-2.result.now.tuples c.tuple_place-here.result.offset c.in_ok-longer.longer = c.fits_in_place.ensures.0 c.if-fits_in_place.true in
-    inl ((subst (λ (u : Tuple). FitsInPlace (tuples_at c.args.table.now (tuple_place c.args.descent.now.stand).block) (tuple_place c.args.descent.now.stand).offset u) el
-    (subst (λ (z : Place). FitsInPlace (tuples_at c.args.table.now z.block) z.offset c.in_ok-longer.longer) eh (subst (λ (s : Sheet). FitsInPlace s.tuples c.tuple_place-here.result.offset c.in_ok-longer.longer) c.page-2.ensures room))), c.widen_here.ensures ∙ ap₂ (λ (z : Place) (u : Tuple). widened_table c.args.table.now z u) eh el)
+    inl (
+      (subst (λ (u : Tuple). FitsInPlace (tuples_at c.args.table.now (tuple_place c.args.descent.now.stand).block) (tuple_place c.args.descent.now.stand).offset u) el
+          (subst (λ (z : Place). FitsInPlace (tuples_at c.args.table.now z.block) z.offset c.in_ok-longer.longer) eh (subst (λ (s : Sheet). FitsInPlace s.tuples c.tuple_place-here.result.offset c.in_ok-longer.longer) c.page-2.ensures room))),
+      c.widen_here.ensures ∙ ap₂ (λ (z : Place) (u : Tuple). widened_table c.args.table.now z u) eh el,
+    )
 
 pub returns-clause-table : goal.returns-clause-table
 returns-clause-table g c =
@@ -106,3 +109,17 @@ returns-then-fits_in_place-clause-clock_first g c = λ n k.
     let room : FitsInPlace c.page-2.result.now.tuples c.tuple_place-here.result.offset c.in_ok-longer.longer = c.fits_in_place.ensures.0 c.if-fits_in_place.true in
     absurd (n (subst (λ (u : Tuple). FitsInPlace (tuples_at c.args.table.now (tuple_place c.args.descent.now.stand).block) (tuple_place c.args.descent.now.stand).offset u) el
     (subst (λ (z : Place). FitsInPlace (tuples_at c.args.table.now z.block) z.offset c.in_ok-longer.longer) eh (subst (λ (s : Sheet). FitsInPlace s.tuples c.tuple_place-here.result.offset c.in_ok-longer.longer) c.page-2.ensures room))))
+
+pub returns-then-fits_in_place-clause-exact : goal.returns-then-fits_in_place-clause-exact
+returns-then-fits_in_place-clause-exact g c =
+    let eh : c.tuple_place-here.result ≡ tuple_place c.args.descent.now.stand = c.tuple_place-here.ensures ∙ ap tuple_place c.stand.ensures in
+    let el : c.in_ok-longer.longer ≡ widened (tuple_at c.args.table.now (tuple_place c.args.descent.now.stand)) c.args.at c.args.label =
+    c.in_ok-longer.ensures ∙ ap (λ (z : ℤ). widened (tuple_on c.page.result.now.tuples c.tuple_place-here.result.offset) c.args.at z) (to_z-of_z w16 c.args.label c.ranges.label) ∙ ap (λ (s : Sheet). widened (tuple_on s.tuples c.tuple_place-here.result.offset) c.args.at c.args.label) c.page.ensures ∙ ap (λ (z : Place). widened (tuple_at c.args.table.now z) c.args.at c.args.label) eh in
+    exact_here g.O.OpClass.meaning g.O.OpClass.adds g.O.OpClass.codes c.args.table.now c.args.descent.now c.args.at c.args.label c.requires.shape c.requires.spot c.requires.main c.requires.of_key c.requires.answer c.widen_here.new.table (c.widen_here.ensures ∙ ap₂ (λ (z : Place) (u : Tuple). widened_table c.args.table.now z u) eh el)
+
+pub returns-clause-exact : goal.returns-clause-exact
+returns-clause-exact g c =
+    let eh : c.tuple_place-here.result ≡ tuple_place c.args.descent.now.stand = c.tuple_place-here.ensures ∙ ap tuple_place c.stand.ensures in
+    let el : c.in_ok-longer.longer ≡ widened (tuple_at c.args.table.now (tuple_place c.args.descent.now.stand)) c.args.at c.args.label =
+    c.in_ok-longer.ensures ∙ ap (λ (z : ℤ). widened (tuple_on c.page.result.now.tuples c.tuple_place-here.result.offset) c.args.at z) (to_z-of_z w16 c.args.label c.ranges.label) ∙ ap (λ (s : Sheet). widened (tuple_on s.tuples c.tuple_place-here.result.offset) c.args.at c.args.label) c.page.ensures ∙ ap (λ (z : Place). widened (tuple_at c.args.table.now z) c.args.at c.args.label) eh in
+    exact_out g.O.OpClass.meaning g.O.OpClass.adds g.O.OpClass.codes c.args.table.now c.args.descent.now c.args.at c.args.label c.requires.shape c.requires.spot c.requires.main c.requires.of_key c.requires.answer c.shift_tuple.new.table c.in_ok-longer.longer c.args.seat c.in_ok-to.to c.in_ok-to.ensures.ok el

@@ -1,7 +1,8 @@
 use Rattle.std.proofs.Common.{[], ◌∷◌, ◌++◌, is_none, option_copied, length, ap, ◌∙◌, subst, arith}
 use Rattle.spg_forest.specs.Sheets.{Sheet}
 use Rattle.spg_chain.specs.Chains.{chain_members, leaves_of}
-use Rattle.spg_tree.specs.Table.{tuples_at}
+use Rattle.spg_forest.specs.Exact.{IsExact}
+use Rattle.spg_tree.specs.Table.{sheets_of, tuples_at}
 use Rattle.spg_descend.specs.Carried.{carried}
 use Rattle.spg_descend.specs.Below.{IsTicked}
 use Rattle.spg_descend.specs.Held.{TouchesFree, IsFreeHome}
@@ -16,6 +17,7 @@ use Rattle.spg_split.proofs.Tables.{chain_table}
 use Rattle.spg_split.proofs.Standing.{rest_fits, tuple_fits, divided_as, keys_as, parts_as, nulls_recon}
 use Rattle.spg_split.proofs.ChainStanding.{several, keys, may_divide, ready, some_leaves, others_fit, inner_fits}
 use Rattle.spg_split.proofs.ChainJoining.{chain_done, chain_cause}
+use Rattle.spg_split.proofs.ChainNamed.{chain_exact}
 use Rattle.spg_split.proofs.Causes.{chain_rise}
 use Rattle.spg_split.proofs.Fulls.{chain_full}
 use Rattle.spg_split.proofs.Held.{on_ok_then, chain_held, chain_home}
@@ -132,3 +134,12 @@ returns-clause-table g c =
     if_ok_then c.part_chain.result (λ done. IsParted c.args.table.now c.part_chain.new.table c.args.head c.args.parent c.args.node c.args.seat c.in_ok-parts.parts done)
     (λ done. DividesBelow g.O.OpClass.meaning c.args.table.now c.part_chain.new.table c.args.descent.now c.args.descent.now.stand c.args.descent.now.parent c.args.seat done)
     (λ done W. chain_table g.O.OpClass.meaning c.args.table.now c.part_chain.new.table c.args.descent.now c.args.head c.args.parent c.args.node c.args.seat c.requires.stands c.requires.above c.in_ok-division.division D c.in_ok-parts.parts P done W) c.part_chain.ensures.ok
+
+pub returns-clause-exact : goal.returns-clause-exact
+returns-clause-exact g c =
+    let V = (subst (λ (s : Sheet). AreValues c.in_ok-values.values (leaves_of (chain_members s.tuples c.args.head.offset) ++ carried c.args.descent.now ∷ [])) c.page.ensures c.in_ok-values.ensures) in
+    let D = divided_as g.O.OpClass.meaning (option_copied c.recon.result) c.args.descent.now.recon c.as_slice.result.now (rests_of (leaves_of (chain_members (tuples_at c.args.table.now c.args.head.block) c.args.head.offset) ++ carried c.args.descent.now ∷ [])) c.in_ok-division.division c.recon.ensures.value (c.as_slice.ensures ∙ V.rests) c.in_ok-division.ensures in
+    let N = nulls_recon c.args.descent.now.start c.args.descent.now.recon c.recon.ensures.known in
+    let P = parts_as c.as_slice-2.result.now (rows_of (leaves_of (chain_members (tuples_at c.args.table.now c.args.head.block) c.args.head.offset) ++ carried c.args.descent.now ∷ [])) c.in_ok-division.division c.in_ok-parts.parts (c.as_slice-2.ensures ∙ V.rows) c.in_ok-parts.ensures in
+    on_ok_then c.part_chain.result (λ done. IsParted c.args.table.now c.part_chain.new.table c.args.head c.args.parent c.args.node c.args.seat c.in_ok-parts.parts done) (IsExact (sheets_of c.args.table.now) (sheets_of c.part_chain.new.table) c.part_chain.new.table.touched)
+    (λ done W. chain_exact g.O.OpClass.meaning g.O.OpClass.codes c.args.table.now c.args.descent.now c.args.head c.args.parent c.args.node c.requires.shape c.requires.stands c.requires.above c.requires.spot c.requires.of_key c.requires.long c.requires.tick c.in_ok-division.division D N c.in_ok-parts.parts P c.args.seat c.part_chain.new.table done W) c.part_chain.ensures.ok
