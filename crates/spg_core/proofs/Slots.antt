@@ -1,12 +1,14 @@
 -- The slots of the seats: what each says, how many are open, and the stages that contracts see.
-use Rattle.std.proofs.Common.{◌≡◌, ◌≢◌, ◌<◌, ◌≤◌, ◌+◌, ℕ, zero, suc, true, false, cond, List, [], ◌∷◌, ◌++◌, Bool, length, get_or, set, replicate, reverse, refl, sym, ap, ◌∙◌, arith, get_or-set_same, length-set, map}
+use Rattle.std.proofs.Common.{◌≡◌, ◌≢◌, ◌<◌, ◌≤◌, ◌+◌, ℕ, zero, suc, true, false, cond, List, [], ◌∷◌, ◌++◌, Bool, Option, Result, Ok, Err, length, get_or, set, replicate, reverse, refl, sym, ap, ◌∙◌, arith, get_or-set_same, length-set, map}
 use Rattle.std.proofs.lemmas.Bool.{false≢true}
 use Rattle.std.proofs.lemmas.List.{map-set}
+use Rattle.std.specs.Result.{OnErr}
 use Rattle.spg_base.specs.declared.recorded.Origin.{Origin}
 use Rattle.spg_opclass.specs.Meaning.{Meaning}
 use Rattle.spg_rows.specs.declared.event.Event.{Event}
 use Rattle.spg_rows.specs.History.{History, nothing, open_of}
 use Rattle.spg_tree.specs.Table.{Table}
+use Rattle.spg_tree.specs.Descents.{Descending}
 use Rattle.spg_seats.specs.Slots.{Stage, free, descending, reading, stage_in, is_open, open_count, StageFits}
 use Rattle.spg_core.specs.declared.slot.Slot.{Slot}
 use Rattle.spg_core.specs.declared.slot.Slot.TheVariants.{Free, Insert, Scan}
@@ -57,6 +59,16 @@ module _ {O Key Recon Cond : Type 0} where
   set_itself [] at = refl
   set_itself (x ∷ xs) zero = refl
   set_itself (x ∷ xs) (suc at) = ap (λ ys. x ∷ ys) (set_itself xs at)
+
+  -- a refused section leaves the slot as it was
+  pub refused_slot : {T E : Type 0} (r : Result T E) (slots : List (Slot O Key Recon Cond)) (at : ℕ) (key : Option Key) (d d2 : Descending Recon) → get_or slots at Free ≡ Insert key d → OnErr r (d2 ≡ d) → OnErr r (set slots at (Insert key d2) ≡ slots)
+  refused_slot (Ok x) slots at key d d2 here same = tt
+  refused_slot (Err e) slots at key d d2 here same = ap (λ (x : Descending Recon). set slots at (Insert key x)) same ∙ ap (λ (x : Slot O Key Recon Cond). set slots at x) (sym here) ∙ itself slots at
+    where
+      itself : (xs : List (Slot O Key Recon Cond)) (i : ℕ) → set xs i (get_or xs i Free) ≡ xs
+      itself [] i = refl
+      itself (x ∷ xs) zero = refl
+      itself (x ∷ xs) (suc i) = ap (λ ys. x ∷ ys) (itself xs i)
 
   -- a slot that is filled twice
   pub set_twice : (old between new : List (Slot O Key Recon Cond)) (seat : ℕ) (first then : Slot O Key Recon Cond) → between ≡ set old seat first → new ≡ set between seat then → new ≡ set old seat then
