@@ -2,6 +2,7 @@
 use Rattle.std.proofs.Common.{◌≡◌, ◌≤◌, ◌<◌, ℕ, true, false, cond, Option, Some, None, IfSome, length, refl, sym, ap, ◌∙◌, subst, arith}
 use Rattle.spg_opclass.specs.Meaning.{Meaning}
 use Rattle.spg_opclass.specs.Laws.{AddLaw, SplitLaw}
+use Rattle.spg_forest.specs.Exact.{IsExact}
 use Rattle.spg_forest.specs.Sheets.{Sheets}
 use Rattle.spg_forest.specs.Shape.{Shape}
 use Rattle.spg_tree.specs.Table.{Table, sheets_of, latch_at, with_latch}
@@ -90,11 +91,11 @@ module _ {Key Recon Cond : Type 0} (m : Meaning Key Recon Cond) (t t1 t2 : Table
   out_but outs.Restructured R e h = subst (λ (z : Table). IsStepOut m t z d d2 seat outs.Restructured) (sym e) h
   out_but outs.Put R e h = subst (λ (z : Table). IsStepOut m t z d d2 seat outs.Put) (sym e) h
 
-  tells_but : (out : InsertOut) → Rewrites m t t1 d d2 seat out → IsButLatches t1 t2 → StepTells m t t2 d d2 seat out
-  tells_but outs.Descended R e = absurd R
-  tells_but (outs.Restarted block by) R e = absurd R
-  tells_but outs.Restructured R e = (t1, e, R)
-  tells_but outs.Put R e = (t1, e, R)
+  tells_but : (out : InsertOut) → Rewrites m t t1 d d2 seat out → IsExact (sheets_of t) (sheets_of t1) t1.touched → IsButLatches t1 t2 → StepTells m t t2 d d2 seat out
+  tells_but outs.Descended R X e = absurd R
+  tells_but (outs.Restarted block by) R X e = absurd R
+  tells_but outs.Restructured R X e = (t1, e, R, subst (λ (z : Table). IsExact (sheets_of t) (sheets_of z) z.touched) (sym e) X)
+  tells_but outs.Put R X e = (t1, e, R, subst (λ (z : Table). IsExact (sheets_of t) (sheets_of z) z.touched) (sym e) X)
 
   ends_but : (out : InsertOut) → Rewrites m t t1 d d2 seat out → IsButLatches t1 t2 → TakesOne m t t1 d d2 out → TakesOne m t t2 d d2 out
   ends_but outs.Descended R e h = absurd R
@@ -119,7 +120,7 @@ module _ {Key Recon Cond : Type 0} (m : Meaning Key Recon Cond) (t t1 t2 : Table
       IsButLatches t1 t2 → Settles t1 t2 d2 was seat out → length t1.latches ≡ length t1.pages → was ≡ stand_block d.stand → StepDone m t t2 d d2 seat out
   rewritten_done out was adds splits H K at R but settled sound ew = record {
     ok = out_but out R.told but (rewritten_out m t t1 d d2 seat H K at out R.told);
-    told = tells_but out R.told but;
+    told = tells_but out R.told R.exact but;
     latches = λ rest h. holds_then out was rest R.told sound ew R.stood settled h;
     within = λ its. subst (λ (z : Table). ChangesHeld t z seat) (sym but) (changes_from t t1 d seat R.held (rewritten_kept m t t1 d d2 seat H K at out R.told).others its);
     ends = ends_but out R.told but (rewritten_ends m t t1 d d2 seat H K at adds splits out R.told);

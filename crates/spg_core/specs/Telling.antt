@@ -2,9 +2,10 @@
 use Rattle.std.specs.Prelude.{◌≡◌, ◌⊎◌, ◌+◌, ◌%◌, ℕ, ℤ, Bool, false, List, Option, if◌then◌else◌}
 use Rattle.spg_opclass.specs.Meaning.{Meaning}
 use Rattle.spg_opclass.specs.declared.view.Choice.TheVariants as choice
+use Rattle.spg_forest.specs.Exact.{IsExact}
 use Rattle.spg_forest.specs.Tuples.{Live}
 use Rattle.spg_forest.specs.View.{Place}
-use Rattle.spg_tree.specs.Table.{Table, with_counter}
+use Rattle.spg_tree.specs.Table.{Table, sheets_of, with_counter}
 use Rattle.spg_tree.specs.Descents.{Descending, in_nulls}
 use Rattle.spg_descend.specs.declared.enter.Entered.{Entered}
 use Rattle.spg_descend.specs.declared.enter.Entered.TheVariants.{In, Busy}
@@ -96,12 +97,12 @@ Rewrites m t t2 d d2 seat Restructured = (IsRuleFor t d rules.Choose × (in_null
 Rewrites m t t2 d d2 seat (Restarted block by) = ⊥
 Rewrites m t t2 d d2 seat Put = PutsLeaf m t t2 d d2 seat
 
--- What a section did. Where it changed pages, the latches were changed after that
+-- What a section did. Where it changed pages, the latches were changed after that, and it touched exactly the blocks that were written or added
 abbrev pub StepTells : {Key Recon Cond : Type 0} → Meaning Key Recon Cond → Table → Table → Descending Recon → Descending Recon → ℕ → InsertOut → Type 0
 StepTells m t t2 d d2 seat Descended = Comes m t t2 d d2 seat In
-StepTells m t t2 d d2 seat Restructured = (t1 : Table) × IsButLatches t1 t2 × Rewrites m t t1 d d2 seat Restructured
+StepTells m t t2 d d2 seat Restructured = (t1 : Table) × IsButLatches t1 t2 × Rewrites m t t1 d d2 seat Restructured × IsExact (sheets_of t) (sheets_of t2) t2.touched
 StepTells m t t2 d d2 seat (Restarted block by) = Comes m t t2 d d2 seat (Busy block by)
-StepTells m t t2 d d2 seat Put = (t1 : Table) × IsButLatches t1 t2 × Rewrites m t t1 d d2 seat Put
+StepTells m t t2 d d2 seat Put = (t1 : Table) × IsButLatches t1 t2 × Rewrites m t t1 d d2 seat Put × IsExact (sheets_of t) (sheets_of t2) t2.touched
 
 -- ---- the whole of a section
 
@@ -117,6 +118,7 @@ pub record StepDone {Key Recon Cond : Type 0} (m : Meaning Key Recon Cond) (t t2
 -- what comes of one that changed pages, before that
 pub record Rewritten {Key Recon Cond : Type 0} (m : Meaning Key Recon Cond) (t t2 : Table) (d d2 : Descending Recon) (seat : ℕ) (out : InsertOut) : Type 0 where
   pub told : Rewrites m t t2 d d2 seat out
+  pub exact : IsExact (sheets_of t) (sheets_of t2) t2.touched
   pub held : TouchesFree t t2 d seat
   pub stood : StandsFree t t2 d d2 seat
 

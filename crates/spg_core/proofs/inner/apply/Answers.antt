@@ -13,6 +13,7 @@ returns-in_ok-split_tuple-in-Split-clause-does g c =
     let (main, answered) = subst (λ (q : Chosen _ _ _ _). IsChosen g.O.OpClass.meaning c.args.table.now c.args.descent.now q) c.in-Split.is c.requires.chosen in
     record {
       told = inl (c.requires.inner, main, inr (c.in-Split.upper_prefix, c.in-Split.upper_labels, c.in-Split.child, c.in-Split.lower_prefix, answered, done.ok, done.table));
+      exact = done.exact;
       held = done.held;
       stood = inl (ap (λ (x : Descending _). x.stand) done.ok.after);
     }

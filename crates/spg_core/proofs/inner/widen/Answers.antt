@@ -16,7 +16,7 @@ returns-clause-does g c =
     let done = c.in_ok-add_node.ensures in
     let added = subst (λ (label : ℤ). IsNodeAdded g.O.OpClass.meaning t t1 d d2 c.args.at label) same done.ok in
     let table = subst (λ (label : ℤ). NodeTable t t1 d d2 c.args.at label c.args.seat) same done.table in
-    record { told = inl (c.requires.inner, c.requires.chosen.0, inl (c.args.at, c.args.label, c.requires.chosen.1, added, table)); held = done.held; stood = done.stands }
+    record { told = inl (c.requires.inner, c.requires.chosen.0, inl (c.args.at, c.args.label, c.requires.chosen.1, added, table)); exact = done.exact; held = done.held; stood = done.stands }
 
 pub returns-in_err-add_node-clause-full_where : goal.returns-in_err-add_node-clause-full_where
 returns-in_err-add_node-clause-full_where g c = λ h.

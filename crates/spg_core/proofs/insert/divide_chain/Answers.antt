@@ -29,14 +29,14 @@ returns-in-Put-clause-does g c =
     let tells = subst (λ (o : SplitOut). DividesChain g.O.OpClass.meaning c.args.table.now c.split_chain.new.table c.args.descent.now c.split_chain.new.descent c.args.seat o) c.in-Put.is
     (c.requires.below, done.ok, done.ticked, done.table, done.cause, done.rise) in
     let (low, (z, makes, splits, e), ticked, table, cause, rise) = tells in
-    record { told = (e, inr (inr (c.requires.rule, inr tells))); held = done.held; stood = done.stands }
+    record { told = (e, inr (inr (c.requires.rule, inr tells))); exact = done.exact; held = done.held; stood = done.stands }
 
 pub returns-in-LeftOut-clause-does : goal.returns-in-LeftOut-clause-does
 returns-in-LeftOut-clause-does g c =
     let done = c.in_ok-split_chain.ensures in
     let tells = subst (λ (o : SplitOut). DividesChain g.O.OpClass.meaning c.args.table.now c.split_chain.new.table c.args.descent.now c.split_chain.new.descent c.args.seat o) c.in-LeftOut.is
     (c.requires.below, done.ok, done.ticked, done.table, done.cause, done.rise) in
-    record { told = inr (c.requires.rule, inr tells); held = done.held; stood = done.stands }
+    record { told = inr (c.requires.rule, inr tells); exact = done.exact; held = done.held; stood = done.stands }
 
 pub returns-in_err-split_chain-clause-full_where : goal.returns-in_err-split_chain-clause-full_where
 returns-in_err-split_chain-clause-full_where g c = λ h.

@@ -22,7 +22,7 @@ returns-in-Put-clause-does g c =
     let done = c.in_ok-split_leaf.ensures in
     let tells = subst (λ (o : SplitOut). DividesRoot g.O.OpClass.meaning c.args.table.now c.split_leaf.new.table c.args.descent.now c.split_leaf.new.descent c.args.seat o) c.in-Put.is (c.requires.root, done.ok, done.table, done.cause, done.rise) in
     let (low, (parts, calm, makes, e), table, cause, rise) = tells in
-    record { told = (e, inr (inr (c.requires.rule, inl tells))); held = done.held; stood = inl (ap (λ (x : Descending _). x.stand) e) }
+    record { told = (e, inr (inr (c.requires.rule, inl tells))); exact = done.exact; held = done.held; stood = inl (ap (λ (x : Descending _). x.stand) e) }
 
 pub returns-in-LeftOut-clause-does : goal.returns-in-LeftOut-clause-does
 returns-in-LeftOut-clause-does g c =
@@ -31,6 +31,7 @@ returns-in-LeftOut-clause-does g c =
     let (low, (calm, makes, ways), table, cause, rise) = tells in
     record {
       told = inr (c.requires.rule, inl tells);
+      exact = done.exact;
       held = done.held;
       stood = inl (⊎_elim (λ w. ap (λ (x : Descending _). x.stand) w.0) (λ w. ap (λ (x : Descending _). x.stand) w.0) ways);
     }

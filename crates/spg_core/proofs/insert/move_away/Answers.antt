@@ -22,7 +22,7 @@ returns-in_err-move_chain-clause-clock g c = λ h.
 pub returns-clause-does : goal.returns-clause-does
 returns-clause-does g c =
     let done = c.in_ok-move_chain.ensures in
-    record { told = (refl, inr (inl (c.requires.rule, done.ok, done.ticked, done.makes, done.table))); held = done.held; stood = inl refl }
+    record { told = (refl, inr (inl (c.requires.rule, done.ok, done.ticked, done.makes, done.table))); exact = done.exact; held = done.held; stood = inl refl }
 
 pub returns-in_err-move_chain-clause-full_where : goal.returns-in_err-move_chain-clause-full_where
 returns-in_err-move_chain-clause-full_where g c = λ h.

@@ -14,7 +14,7 @@ pub returns-clause-does : goal.returns-clause-does
 returns-clause-does g c =
     let done = c.in_ok-put_leaf.ensures in
     let put = subst (λ (o : PutOut). IsPutOut g.O.OpClass.meaning c.args.table.now c.put_leaf.new.table c.args.descent.now o) c.in-Put.is done.ok in
-    record { told = (refl, inl (c.requires.rule, put, done.table c.in-Put.is)); held = done.held c.in-Put.is; stood = inl refl }
+    record { told = (refl, inl (c.requires.rule, put, done.table c.in-Put.is)); exact = done.exact c.in-Put.is; held = done.held c.in-Put.is; stood = inl refl }
 
 pub returns-in_err-put_leaf-clause-full_where : goal.returns-in_err-put_leaf-clause-full_where
 returns-in_err-put_leaf-clause-full_where g c = λ h.
