@@ -28,7 +28,7 @@ use Rattle.spg_core.specs.Stepping.{SamePages, MakesAtMostOne, GoesOn, RootsGrow
 use Rattle.spg_core.specs.Telling.{StepTells, StepDone}
 use Rattle.spg_core.specs.Ends.{EndsWithin, StageEnds, SeatEnds, SeatThenEnds}
 use Rattle.spg_core.specs.Operations.{CanStep, IsOutgrownBy, StepsFrom, IsInsert, IsRowOf}
-use Rattle.spg_core.specs.Sections.{IsOutOf, IsHeavyFor, StoodFor, TellsFor, LatchesAfter, HasNone, OthersHold}
+use Rattle.spg_core.specs.Sections.{IsOutOf, IsHeavyFor, FindsNoPageFor, SeatFindsNoPage, TicksFor, SeatTicks, StoodFor, TellsFor, LatchesAfter, HasNone, OthersHold}
 use Rattle.spg_core.specs.Latches.{HoldsAfter}
 use Rattle.spg_core.specs.Slot.{stage_of}
 use Rattle.spg_core.specs.Stage.{IsInserting}
@@ -41,6 +41,17 @@ use Rattle.spg_core.proofs.Steps.{with_fields, past, sane, seats, fits, held, lo
 -- what a seat has latched is its own, and what it has not is not
 pub none_held : (t t2 : pages.Table) (seat : ℕ) → AreHeld t2 seat (rest_of t seat) (λ b. false) → HasNone t2 seat
 none_held t t2 seat h b e = h.others b (sym (h.latch b) ∙ e)
+
+-- where a section is refused, as callers see it
+module _ {O Key Recon Cond : Type 0} (m : Meaning Key Recon Cond) (s : Inside O Key Recon Cond) (seen : Seen O Key Recon Cond) (view : seen_of s ≡ seen) (seat : ℕ) where
+  pub finds_seen : FindsNoPageFor m s.table seat (stage_of (get_or s.slots.items seat Free)) → SeatFindsNoPage m seen seat
+  finds_seen h = subst (λ (x : Stage O Key Recon Cond). FindsNoPageFor m seen.table seat x) (sym (stage_is s seen view seat)) (subst (λ (t : pages.Table). FindsNoPageFor m t seat (stage_of (get_or s.slots.items seat Free))) (sym (table_is s seen view 0)) h)
+
+  pub ticks_seen : TicksFor m s.table (stage_of (get_or s.slots.items seat Free)) → SeatTicks m seen seat
+  ticks_seen h = subst (λ (x : Stage O Key Recon Cond). TicksFor m seen.table x) (sym (stage_is s seen view seat)) (subst (λ (t : pages.Table). TicksFor m t (stage_of (get_or s.slots.items seat Free))) (sym (table_is s seen view 0)) h)
+
+  pub ticks_kept : SeatTicks m seen seat → TicksFor m s.table (stage_of (get_or s.slots.items seat Free))
+  ticks_kept h = subst (λ (t : pages.Table). TicksFor m t (stage_of (get_or s.slots.items seat Free))) (table_is s seen view 0) (subst (λ (x : Stage O Key Recon Cond). TicksFor m seen.table x) (stage_is s seen view seat) h)
 
 module _ {O Key Recon Cond : Type 0} (m : Meaning Key Recon Cond) (codes : CodeLaw m) (s : Inside O Key Recon Cond) (I : IsState m s) (seat : ℕ) where
   abbrev before : History O Key Recon Cond

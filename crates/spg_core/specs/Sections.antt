@@ -26,6 +26,7 @@ use Rattle.spg_seats.specs.Slots.{HasLatches}
 use Rattle.spg_core.specs.Seen.{Seen, stage_at, moved, logged, past_of, untouched}
 use Rattle.spg_core.specs.Stepping.{SamePages}
 use Rattle.spg_core.specs.Telling.{StepTells}
+use Rattle.spg_core.specs.Refusing.{FindsNoPage, Ticks}
 use Rattle.spg_core.specs.Weight.{opened_keys}
 
 -- an empty index of 3 pages, with this limit
@@ -108,6 +109,24 @@ IsHeavyFor m seen (reading s) = ⊥
 
 abbrev pub IsHeavy : {O Key Recon Cond : Type 0} → Meaning Key Recon Cond → Seen O Key Recon Cond → ℕ → Type 0
 IsHeavy m seen seat = IsHeavyFor m seen (stage_at seen seat)
+
+-- a section of the seat's insert that comes now: a pick of it finds no page
+abbrev pub FindsNoPageFor : {O Key Recon Cond : Type 0} → Meaning Key Recon Cond → Table → ℕ → Stage O Key Recon Cond → Type 0
+FindsNoPageFor m t seat free = ⊥
+FindsNoPageFor m t seat (descending key d) = FindsNoPage m t d seat
+FindsNoPageFor m t seat (reading s) = ⊥
+
+abbrev pub SeatFindsNoPage : {O Key Recon Cond : Type 0} → Meaning Key Recon Cond → Seen O Key Recon Cond → ℕ → Type 0
+SeatFindsNoPage m seen seat = FindsNoPageFor m seen.table seat (stage_at seen seat)
+
+-- it raises the clock
+abbrev pub TicksFor : {O Key Recon Cond : Type 0} → Meaning Key Recon Cond → Table → Stage O Key Recon Cond → Type 0
+TicksFor m t free = ⊥
+TicksFor m t (descending key d) = Ticks m t d
+TicksFor m t (reading s) = ⊥
+
+abbrev pub SeatTicks : {O Key Recon Cond : Type 0} → Meaning Key Recon Cond → Seen O Key Recon Cond → ℕ → Type 0
+SeatTicks m seen seat = TicksFor m seen.table (stage_at seen seat)
 
 abbrev pub OpensScan : {O Key Recon Cond : Type 0} → Meaning Key Recon Cond → Seen O Key Recon Cond → Seen O Key Recon Cond → ℕ → Query O Key Recon Cond → Type 0
 OpensScan m old new seat query =

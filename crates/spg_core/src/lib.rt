@@ -7,6 +7,7 @@ mod inner;
 mod insert;
 mod latches;
 mod operations;
+mod recorded;
 mod slot;
 mod stat;
 mod state;

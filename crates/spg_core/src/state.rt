@@ -1,4 +1,4 @@
-ghost use Rattle.std.specs.Prelude.{◌≡◌, ◌≢◌, ◌<◌, ◌≤◌, ◌+◌, ◌^◌, ◌↔◌, [], ℕ, suc, Option, Some, None, IfOk, OnOk, OnErr, IsErrOf, IsTrue};
+ghost use Rattle.std.specs.Prelude.{◌≡◌, ◌≢◌, ◌<◌, ◌≤◌, ◌+◌, ◌^◌, ◌↔◌, ◌⊎◌, [], ℕ, suc, Option, Some, None, IfOk, OnOk, OnErr, IsErrOf, IsTrue};
 ghost use Rattle.spg_base.specs.declared.recorded.Origin.{Origin};
 ghost use Rattle.spg_forest.specs.Shape.{Represents};
 ghost use Rattle.spg_rows.specs.Told.{IsUsed};
@@ -15,7 +15,7 @@ ghost use Rattle.spg_core.specs.Stepping.{IsNearLimit, MakesAtMostOne};
 ghost use Rattle.spg_core.specs.Ends.{SeatEnds, SeatThenEnds};
 ghost use Rattle.spg_core.specs.Kept.{RootsAreHeavy, IsUnswept};
 ghost use Rattle.spg_core.specs.Counts.{IsStat};
-ghost use Rattle.spg_core.specs.Sections.{IsNew, OpensInsert, IsInsertOut, TellsSection, LatchesAfter, OthersHold, IsHeavy, KillsRow, OpensScan, ReadsItem, ClosesScan, GivesUp};
+ghost use Rattle.spg_core.specs.Sections.{IsNew, OpensInsert, IsInsertOut, TellsSection, LatchesAfter, OthersHold, IsHeavy, SeatFindsNoPage, SeatTicks, KillsRow, OpensScan, ReadsItem, ClosesScan, GivesUp};
 
 use crate::answer::{InsertOut, OpenKind, OpenRefused};
 use crate::operations::{close_slot, end_insert, read_slot, release_slot, step_slot};
@@ -183,10 +183,10 @@ impl<O: OpClass> State<O> {
     /// to the child or the empty downlink of a node. `Restructured` where the leaves are divided
     /// without its own, where a node is put into the inner tuple at which it stands, and where that
     /// tuple is split. `Put` where the row is put, and the insert has ended. `IndexFull` only where a
-    /// page is wanted and there may be none: fewer than 4 blocks are left below the limit. `ClockFull`
-    /// only where a chain below a root moves or is divided, or an inner tuple moves that has one more
-    /// node, and the clock is 2^48 - 1. Both only where the keys of its tree that were ever inserted
-    /// take more than 8,160 bytes. `Restarted` exactly where the root or child to be visited stands on
+    /// pick of the section finds no page, and fewer than 4 blocks are left below the limit. `ClockFull`
+    /// where a chain moves, one below a root is divided, or a tuple with one more node does not fit in
+    /// its place, and the clock is 2^48 - 1. Both only where the keys of its tree that were ever
+    /// inserted take more than 8,160 bytes. `Restarted` exactly where the root or child to be visited stands on
     /// a block that another seat has latched: the insert is at its start then. It changes only blocks
     /// that the seat had latched or that nobody had; at its start, and once its row is put, the seat
     /// has latched none. The latches of the other seats stay. It makes one inner tuple at most, and
@@ -202,6 +202,9 @@ impl<O: OpClass> State<O> {
         ensures ends { IfOk result (λ out. (n : ℕ) → SeatEnds O.meaning self.old seat (suc n) → SeatThenEnds O.meaning self.new seat n out) }
         ensures full { IsErrOf result StepRefused.IndexFull → IsHeavy O.meaning self.old seat × IsNearLimit self.old.table }
         ensures clock { IsErrOf result StepRefused.ClockFull → IsHeavy O.meaning self.old seat × (self.old.table.clock + 1 ≡ 2 ^ 48) }
+        ensures full_where { IsErrOf result StepRefused.IndexFull → SeatFindsNoPage O.meaning self.old seat }
+        ensures clock_where { IsErrOf result StepRefused.ClockFull → SeatTicks O.meaning self.old seat }
+        ensures clock_first { SeatTicks O.meaning self.old seat → self.old.table.clock + 1 ≡ 2 ^ 48 → IsErrOf result StepRefused.ClockFull ⊎ IsErrOf result StepRefused.Memory }
         ensures err { OnErr result (self.new ≡ self.old) }
     {
         let out = step_slot(

@@ -1,4 +1,4 @@
-use Rattle.std.proofs.Common.{rules, ℕ, suc, ◌≡◌, ◌<◌, ◌+◌, ◌^◌, sym, refl, ◌∙◌, subst, get_or, arith, length, inl}
+use Rattle.std.proofs.Common.{rules, ℕ, suc, ◌≡◌, ◌<◌, ◌+◌, ◌^◌, sym, refl, ap, ◌∙◌, subst, get_or, arith, length, inl}
 use Rattle.std.proofs.lemmas.Bool.{false≢true}
 use Rattle.spg_tree.specs.Table.{Table}
 use Rattle.spg_seats.specs.Descending.{ChangesHeld}
@@ -9,12 +9,12 @@ use Rattle.spg_core.specs.Slot.{stage_of}
 use Rattle.spg_core.specs.Stage.{Stage, IsInserting}
 use Rattle.spg_core.specs.Seen.{Seen}
 use Rattle.spg_core.specs.Operations.{StepsFrom, IsOutgrownBy}
-use Rattle.spg_core.specs.Sections.{IsOutOf, IsHeavyFor, TellsFor, LatchesAfter, HasNone, OthersHold}
+use Rattle.spg_core.specs.Sections.{IsOutOf, IsHeavyFor, FindsNoPageFor, TicksFor, TellsFor, LatchesAfter, HasNone, OthersHold}
 use Rattle.spg_core.specs.Stepping.{IsNearLimit, MakesAtMostOne}
 use Rattle.spg_core.specs.Ends.{SeatEnds, SeatThenEnds}
 use Rattle.spg_core.proofs.Slots.{stage_is, table_is, inserting_open}
 use Rattle.spg_core.proofs.Steps.{kept_same, seats, fits, low, room_left}
-use Rattle.spg_core.proofs.Inserts.{can_step, heavy_for, kept_step, put_row, kept_put, row_claimed, steps_insert, steps_length, seen_step, seen_put, tells_step, tells_put, latches_step, latches_put, others_step, within_step, ends_step, makes_step}
+use Rattle.spg_core.proofs.Inserts.{finds_seen, ticks_seen, ticks_kept, can_step, heavy_for, kept_step, put_row, kept_put, row_claimed, steps_insert, steps_length, seen_step, seen_put, tells_step, tells_put, latches_step, latches_put, others_step, within_step, ends_step, makes_step}
 use Rattle.spg_core.proofs.state.State.insert_step.Goals as goal
 use Rattle.spg_core.proofs.state.State.insert_step.Goals.{then-has_ended, else-has_ended}
 
@@ -49,6 +49,36 @@ returns-in_err-out-clause-clock g c = λ h.
           (heavy_for g.O.OpClass.meaning g.O.OpClass.codes s c.self.invariant seat c.args.self.now c.self.view_is slot (fits g.O.OpClass.meaning s c.self.invariant seat) both.0),
       subst (λ (t : Table). t.clock + 1 ≡ 2 ^ 48) (sym (table_is s c.args.self.now c.self.view_is seat)) both.1,
     )
+
+pub returns-in_err-out-clause-full_where : goal.returns-in_err-out-clause-full_where
+returns-in_err-out-clause-full_where g c = λ h.
+    let s = c.self.inside in
+    let seat = c.args.seat in
+    let told : FindsNoPageFor g.O.OpClass.meaning s.table seat (stage_of (get_or s.slots.items seat Free)) = search rules in
+    finds_seen g.O.OpClass.meaning s c.args.self.now c.self.view_is seat told
+
+pub returns-in_err-out-clause-clock_where : goal.returns-in_err-out-clause-clock_where
+returns-in_err-out-clause-clock_where g c = λ h.
+    let s = c.self.inside in
+    let seat = c.args.seat in
+    let told : TicksFor g.O.OpClass.meaning s.table (stage_of (get_or s.slots.items seat Free)) = search rules in
+    ticks_seen g.O.OpClass.meaning s c.args.self.now c.self.view_is seat told
+
+pub returns-in_err-out-clause-clock_first : goal.returns-in_err-out-clause-clock_first
+returns-in_err-out-clause-clock_first g c = λ ticks last.
+    let s = c.self.inside in
+    let seat = c.args.seat in
+    let slot : TicksFor g.O.OpClass.meaning s.table (stage_of (get_or s.slots.items seat Free)) = ticks_kept g.O.OpClass.meaning s c.args.self.now c.self.view_is seat ticks in
+    let end : s.table.clock + 1 ≡ 2 ^ 48 = ap (λ (t : Table). t.clock + 1) (sym (table_is s c.args.self.now c.self.view_is 0)) ∙ last in
+    search rules
+
+pub returns-clause-clock_first : goal.returns-clause-clock_first
+returns-clause-clock_first g c = λ ticks last.
+    let s = c.self.inside in
+    let seat = c.args.seat in
+    let slot : TicksFor g.O.OpClass.meaning s.table (stage_of (get_or s.slots.items seat Free)) = ticks_kept g.O.OpClass.meaning s c.args.self.now c.self.view_is seat ticks in
+    let end : s.table.clock + 1 ≡ 2 ^ 48 = ap (λ (t : Table). t.clock + 1) (sym (table_is s c.args.self.now c.self.view_is 0)) ∙ last in
+    search rules
 
 pub returns-in_err-out-clause-within : goal.returns-in_err-out-clause-within
 returns-in_err-out-clause-within g c =
