@@ -113,6 +113,7 @@ returns-clause-ok g c =
     let seat = c.args.seat in
     let row = c.args.row in
     let key = c.args.key in
+    let ed : c.in_ok-descent.descent ≡ opened_for m row key = search rules in
     let slot = Insert key c.in_ok-descent.descent in
     let events = c.append.ensures.events ∙ ap (λ j. j ++ OpenInsert seat row c.in_ok-told.told ∷ []) c.reserve.ensures.events ∙ ap (λ k. s.journal.events ++ OpenInsert seat row k ∷ []) c.in_ok-told.ensures in
     let low : seat < 64 = c.set_slot.ensures.in_range in
