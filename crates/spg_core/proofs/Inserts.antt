@@ -1,5 +1,5 @@
 -- What a section of an insert leaves of a state.
-use Rattle.std.proofs.Common.{◌≡◌, ◌≢◌, ◌⊎◌, ◌<◌, ◌+◌, inl, inr, ⊎_elim, ℕ, suc, Bool, true, false, cond, Some, List, [], ◌∷◌, ◌++◌, length, get_or, set, reverse, Option, Vec, refl, sym, ap, ◌∙◌, subst, get_or-set_same, length-set, arith, map}
+use Rattle.std.proofs.Common.{◌≡◌, ◌⊎◌, ◌<◌, ◌+◌, inl, inr, ⊎_elim, ℕ, suc, Bool, true, false, cond, Some, List, [], ◌∷◌, ◌++◌, length, get_or, set, Option, Vec, refl, sym, ap, ◌∙◌, subst, get_or-set_same, length-set, map}
 use Rattle.std.specs.Prelude.{is_none}
 use Rattle.std.specs.declared.alloc.Global.{Global}
 use Rattle.spg_base.specs.Row.{RowAt}
@@ -9,14 +9,14 @@ use Rattle.spg_forest.specs.Section.{Adds}
 use Rattle.spg_forest.specs.Walk.{weight_of}
 use Rattle.spg_rows.specs.declared.event.Event.TheVariants.{Put}
 use Rattle.spg_rows.specs.declared.table.RowState.TheVariants as row_state
-use Rattle.spg_rows.specs.History.{Written, History, inserting, open_of}
+use Rattle.spg_rows.specs.History.{Written, History, inserting}
 use Rattle.spg_rows.specs.Table.{Table, state_in, SetsState, SameKeys}
 use Rattle.spg_tree.specs.Table as pages
 use Rattle.spg_tree.specs.Table.{sheets_of}
 use Rattle.spg_tree.specs.Descents.{Descending, in_nulls}
 use Rattle.spg_seats.specs.Descending.{HasInnerRoot, ChangesHeld}
 use Rattle.spg_seats.specs.Latching.{AreHeld, InsertHolds, rest_of}
-use Rattle.spg_seats.specs.Slots.{Stage, free, descending, reading, is_open, open_count, stage_holds, stage_in, StageFits, HasLatches, opened_keys}
+use Rattle.spg_seats.specs.Slots.{Stage, free, descending, is_open, stage_holds, stage_in, StageFits, HasLatches, opened_keys}
 use Rattle.spg_seats.proofs.Calls as calls
 use Rattle.spg_seats.proofs.Holding.{latches_law}
 use Rattle.spg_core.specs.declared.answer.InsertOut.{InsertOut}
@@ -32,7 +32,7 @@ use Rattle.spg_core.specs.Sections.{IsOutOf, IsHeavyFor, FindsNoPageFor, SeatFin
 use Rattle.spg_core.specs.Latches.{HoldsAfter}
 use Rattle.spg_core.specs.Slot.{stage_of}
 use Rattle.spg_core.specs.Stage.{IsInserting}
-use Rattle.spg_core.specs.Seen.{Seen, stage_at, moved, logged}
+use Rattle.spg_core.specs.Seen.{Seen, moved, logged}
 use Rattle.spg_core.specs.Kept.{fields_of, seen_of, IsState}
 use Rattle.spg_core.proofs.Weights.{root_heavy, nulls_key}
 use Rattle.spg_core.proofs.Slots.{set_twice, stages_set, stage_set, stage_is, past_is, table_is, moved_is, logged_is, seen_as}

@@ -1,5 +1,5 @@
 -- An insert that opens, a row that is killed, and an operation that is given up.
-use Rattle.std.proofs.Common.{◌≡◌, ◌≢◌, ◌<◌, ◌≤◌, ◌+◌, ◌∷◌, ◌++◌, [], ℕ, Bool, true, false, cond, List, length, get_or, map, Option, Some, None, Vec, set, reverse, refl, sym, ap, ◌∙◌, subst, arith}
+use Rattle.std.proofs.Common.{◌≡◌, ◌<◌, ◌≤◌, ◌+◌, ◌∷◌, ◌++◌, [], ℕ, Bool, true, false, cond, List, length, get_or, map, Option, Some, None, Vec, set, refl, sym, ap, ◌∙◌, subst, arith}
 use Rattle.std.specs.declared.alloc.Global.{Global}
 use Rattle.std.proofs.lemmas.Bool.{false≢true}
 use Rattle.std.proofs.lemmas.List.{length-reverse, length-set}
@@ -9,9 +9,9 @@ use Rattle.spg_rows.specs.declared.event.Event.{Event}
 use Rattle.spg_rows.specs.declared.event.Event.TheVariants.{OpenInsert, Drop, Kill, Leave}
 use Rattle.spg_rows.specs.declared.event.Why.{Why}
 use Rattle.spg_rows.specs.declared.table.RowState.TheVariants as row_state
-use Rattle.spg_rows.specs.History.{History, Written}
+use Rattle.spg_rows.specs.History.{Written}
 use Rattle.spg_rows.specs.Lives.{Life, lives}
-use Rattle.spg_rows.specs.Rows.{live_in, is_claimed, is_live, state_of}
+use Rattle.spg_rows.specs.Rows.{live_in, is_claimed, state_of}
 use Rattle.spg_rows.specs.States.{StateSays}
 use Rattle.spg_rows.specs.declared.table.RowState.{RowState}
 use Rattle.spg_rows.specs.Table.{Table, state_in, SetsState, SetsKey, SameKeys}
@@ -21,8 +21,8 @@ use Rattle.spg_tree.specs.Descents.{Descending, in_nulls}
 use Rattle.spg_descend.specs.Enters.{opened_for, CarriesNew}
 use Rattle.spg_descend.specs.Leaves.{released, is_held}
 use Rattle.spg_seats.specs.Descending.{Stands}
-use Rattle.spg_seats.specs.Latching.{AreHeld, HoldsNone, InsertHolds, rest_of}
-use Rattle.spg_seats.specs.Slots.{Stage, free, descending, reading, is_open, open_count, stage_in, stage_holds, StageFits}
+use Rattle.spg_seats.specs.Latching.{HoldsNone, InsertHolds, rest_of}
+use Rattle.spg_seats.specs.Slots.{free, descending, is_open, open_count, stage_in, stage_holds, StageFits}
 use Rattle.spg_seats.proofs.Calls as calls
 use Rattle.spg_seats.proofs.Holding.{latches_law}
 use Rattle.spg_core.specs.declared.slot.Slot.{Slot}
@@ -37,7 +37,7 @@ use Rattle.spg_core.specs.Telling.{IsButLatches}
 use Rattle.spg_core.specs.Kept.{fields_of, seen_of, IsState}
 use Rattle.spg_core.proofs.Stands.{here_there, above_there}
 use Rattle.spg_core.proofs.Slots.{seen_as, past_is, set_itself, stages_set, stage_set, stage_get, open_count-all}
-use Rattle.spg_core.proofs.Steps.{with_fields, held_on, past, stages, sane, seats, fits, held, free_held, free_open, room_ended, unswept_then, insert_claimed, unclaimed_fresh, low}
+use Rattle.spg_core.proofs.Steps.{with_fields, held_on, past, stages, sane, seats, fits, free_held, free_open, room_ended, unswept_then, insert_claimed, unclaimed_fresh, low}
 
 -- a row in the state of one that is live is live
 live_state : {Key : Type 0} (state : RowState) (ls : List (Life Key)) → StateSays state ls → state ≡ row_state.Live → live_in ls ≡ true

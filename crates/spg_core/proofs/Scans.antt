@@ -1,11 +1,8 @@
 -- What a state keeps as a scan opens, reads and ends.
-use Rattle.std.proofs.Common.{◌≡◌, ◌<◌, ◌≤◌, ◌+◌, ◌++◌, ◌∷◌, [], ℕ, inl, true, false, List, length, get_or, map, Option, Some, Vec, Result, Ok, Err, set, reverse, refl, sym, ap, ap₂, ◌∙◌, subst, arith}
-use Rattle.std.specs.Prelude.{IfOk}
-use Rattle.std.specs.Result.{OnErr}
+use Rattle.std.proofs.Common.{◌≡◌, ◌<◌, ◌≤◌, ◌+◌, ◌++◌, ◌∷◌, [], ℕ, inl, true, false, List, length, get_or, map, Vec, set, refl, sym, ap, ◌∙◌, subst, arith}
 use Rattle.std.specs.declared.alloc.Global.{Global}
 use Rattle.std.proofs.lemmas.List.{length-set, length-reverse}
 use Rattle.spg_base.specs.Row.{RowAt}
-use Rattle.spg_base.specs.declared.memory.Memory.{Memory}
 use Rattle.spg_opclass.specs.Meaning.{Meaning}
 use Rattle.spg_opclass.specs.Laws.{KeptLaw, CodeLaw}
 use Rattle.spg_opclass.specs.declared.query.Query.{Query}
@@ -20,11 +17,11 @@ use Rattle.spg_tree.specs.Table as pages
 use Rattle.spg_scan.specs.Scanning.{Scanning, IsClosing, opened, emptied}
 use Rattle.spg_scan.specs.Items.{held, copied_rows}
 use Rattle.spg_scan.proofs.Lists.{distinct_parts}
-use Rattle.spg_scan.specs.Reading.{IsHeld, IsReadOut}
+use Rattle.spg_scan.specs.Reading.{IsReadOut}
 use Rattle.spg_scan.specs.declared.walk.ReadOut.{ReadOut}
 use Rattle.spg_scan.specs.declared.walk.ReadOut.TheVariants.{Read, Latched}
 use Rattle.spg_scan.specs.declared.walk.Closed.{Closed}
-use Rattle.spg_seats.specs.Slots.{Stage, free, reading, is_open, open_count, stage_in, stage_holds, StageFits, IsKept}
+use Rattle.spg_seats.specs.Slots.{free, reading, is_open, open_count, stage_in, stage_holds, StageFits, IsKept}
 use Rattle.spg_seats.specs.Latching.{AreHeld, rest_of}
 use Rattle.spg_seats.proofs.Calls as calls
 use Rattle.spg_core.specs.declared.slot.Slot.{Slot}
@@ -32,13 +29,12 @@ use Rattle.spg_core.specs.declared.slot.Slot.TheVariants.{Free, Insert, Scan}
 use Rattle.spg_core.specs.declared.state.State.TheInside.{Inside}
 use Rattle.spg_core.specs.Slot.{stage_of}
 use Rattle.spg_core.specs.Stage.{IsRead, held_count}
-use Rattle.spg_core.specs.Seen.{Seen, stage_at, moved, logged, past_of, untouched}
+use Rattle.spg_core.specs.Seen.{Seen, moved, logged, untouched}
 use Rattle.spg_core.specs.Operations.{CanRead, ReadsFrom, CanClose, ClosesFrom}
-use Rattle.spg_core.specs.Sections.{ReadsFor, ReadsItem, HasMet}
+use Rattle.spg_core.specs.Sections.{ReadsFor, HasMet}
 use Rattle.spg_core.specs.Kept.{fields_of, seen_of, IsState}
-use Rattle.spg_core.proofs.Slots.{seen_as, set_twice, stages_set, stage_set, stage_get, stage_is, table_is, past_is, logged_is, moved_is}
+use Rattle.spg_core.proofs.Slots.{seen_as, set_twice, stages_set, stage_set, stage_get, table_is, past_is, logged_is, moved_is}
 use Rattle.spg_core.proofs.Steps as steps
-use Rattle.spg_core.proofs.Opens.{room_for_all}
 
 -- a scan that holds nothing took each row once
 once_taken : {O Key Recon Cond : Type 0} {m : Meaning Key Recon Cond} {S : Sheets} {before past : History O Key Recon Cond} (q : Scanning O Key Recon Cond) → IsScanOf m S before past q → AreDistinct q.rows

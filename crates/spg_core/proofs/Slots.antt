@@ -1,17 +1,17 @@
 -- The slots of the seats: what each says, how many are open, and the stages that contracts see.
-use Rattle.std.proofs.Common.{◌≡◌, ◌≢◌, ◌<◌, ◌≤◌, ◌+◌, ℕ, zero, suc, true, false, cond, List, [], ◌∷◌, ◌++◌, Bool, Option, Result, Ok, Err, length, get_or, set, replicate, reverse, refl, sym, ap, ◌∙◌, arith, get_or-set_same, length-set, map}
+use Rattle.std.proofs.Common.{◌≡◌, ◌≢◌, ◌<◌, ◌≤◌, ◌+◌, ℕ, zero, suc, true, false, cond, List, [], ◌∷◌, ◌++◌, Bool, Option, Result, Ok, Err, length, get_or, set, replicate, reverse, refl, sym, ap, ◌∙◌, arith, get_or-set_same, map}
 use Rattle.std.proofs.lemmas.Bool.{false≢true}
 use Rattle.std.proofs.lemmas.List.{map-set}
 use Rattle.std.specs.Result.{OnErr}
 use Rattle.spg_base.specs.declared.recorded.Origin.{Origin}
 use Rattle.spg_opclass.specs.Meaning.{Meaning}
 use Rattle.spg_rows.specs.declared.event.Event.{Event}
-use Rattle.spg_rows.specs.History.{History, nothing, open_of}
+use Rattle.spg_rows.specs.History.{History, open_of}
 use Rattle.spg_tree.specs.Table.{Table}
 use Rattle.spg_tree.specs.Descents.{Descending}
 use Rattle.spg_seats.specs.Slots.{Stage, free, descending, reading, stage_in, is_open, open_count, StageFits}
 use Rattle.spg_core.specs.declared.slot.Slot.{Slot}
-use Rattle.spg_core.specs.declared.slot.Slot.TheVariants.{Free, Insert, Scan}
+use Rattle.spg_core.specs.declared.slot.Slot.TheVariants.{Free, Insert}
 use Rattle.spg_core.specs.declared.state.State.TheInside.{Inside}
 use Rattle.spg_core.specs.Stage.{IsInserting, IsRead, IsStageOf}
 use Rattle.spg_core.specs.Seen.{Seen, stage_at, moved, logged, past_of}

@@ -1,5 +1,5 @@
 -- What the fields of a state keep: more room, the same pages and slots, and what each seat may do.
-use Rattle.std.proofs.Common.{◌≡◌, ◌≢◌, ◌<◌, ◌≤◌, ◌+◌, ◌⊎◌, ⊎_elim, ℕ, zero, suc, Bool, true, false, List, [], ◌∷◌, ◌++◌, length, get_or, set, reverse, replicate, map, Option, Some, None, Vec, refl, sym, ap, ◌∙◌, subst, arith}
+use Rattle.std.proofs.Common.{◌≡◌, ◌<◌, ◌≤◌, ◌+◌, ℕ, zero, suc, Bool, true, false, List, [], ◌∷◌, ◌++◌, length, get_or, set, reverse, replicate, map, Option, Vec, sym, ap, ◌∙◌, subst, arith}
 use Rattle.std.proofs.Common.{Result, Ok, Err}
 use Rattle.std.specs.Result.{OnOk, OnErr, IsErrAnd}
 use Rattle.std.proofs.lemmas.Bool.{false≢true}
@@ -8,17 +8,14 @@ use Rattle.std.specs.declared.alloc.Global.{Global}
 use Rattle.spg_base.specs.Row.{RowAt}
 use Rattle.spg_base.specs.declared.recorded.Origin.{Origin}
 use Rattle.spg_opclass.specs.Meaning.{Meaning}
-use Rattle.spg_forest.specs.View.{Place}
 use Rattle.spg_forest.specs.Pages.{IsFresh}
 use Rattle.spg_forest.specs.Shape.{spots}
 use Rattle.spg_forest.proofs.Keeping.{entry_of}
 use Rattle.spg_rows.specs.declared.event.Event.{Event}
-use Rattle.spg_rows.specs.declared.table.RowState.{RowState}
 use Rattle.spg_rows.specs.declared.table.RowState.TheVariants as row_state
-use Rattle.spg_rows.specs.History.{Written, History, Opened, nothing, inserting, scanning, open_of}
-use Rattle.spg_rows.specs.Rows.{is_claimed, is_live, live_in, is_present, key_of, state_of, sweeps_one, sweep_count}
+use Rattle.spg_rows.specs.History.{Written, History, nothing, inserting, open_of}
+use Rattle.spg_rows.specs.Rows.{is_claimed, is_present, state_of, sweeps_one, sweep_count}
 use Rattle.spg_rows.specs.Lives.{lives}
-use Rattle.spg_rows.specs.States.{StateSays}
 use Rattle.spg_rows.specs.Told.{IsUsed}
 use Rattle.spg_rows.specs.Table.{Table, state_in}
 use Rattle.spg_rows.proofs.Histories.{Sane, sane_from_legal, free_claims}
@@ -26,7 +23,7 @@ use Rattle.spg_rows.proofs.Uses.{present_claimed}
 use Rattle.spg_rows.proofs.Told.{state_used}
 use Rattle.spg_tree.specs.Table as pages
 use Rattle.spg_tree.specs.Table.{sheets_of, latch_at}
-use Rattle.spg_seats.specs.Slots.{Stage, free, descending, reading, stage_in, is_open, open_count, StageFits, stage_holds, Fields, IsKept}
+use Rattle.spg_seats.specs.Slots.{Stage, free, stage_in, is_open, open_count, StageFits, stage_holds, Fields, IsKept}
 use Rattle.spg_seats.specs.Latching.{AreHeld, rest_of}
 use Rattle.spg_seats.specs.Opening.{new_fields}
 use Rattle.spg_seats.proofs.Beginning.{new_kept}
@@ -65,7 +62,7 @@ module _ {O Key Recon Cond : Type 0} (m : Meaning Key Recon Cond) where
   kept_with s I rows journal rows_same events_are room = record {
     kept =
         let same : fields_of (with_fields s s.table rows s.slots journal) ≡ record (fields_of s) { spare = journal.spare } =
-            ap (λ j. fields_as j journal.spare (map stage_of s.slots.items) s.table rows s.origin) events_are ∙ ap (λ r. fields_as s.journal.events journal.spare (map stage_of s.slots.items) s.table r s.origin) rows_same in
+        ap (λ j. fields_as j journal.spare (map stage_of s.slots.items) s.table rows s.origin) events_are ∙ ap (λ r. fields_as s.journal.events journal.spare (map stage_of s.slots.items) s.table r s.origin) rows_same in
         subst (IsKept m) (sym same) (more_room m (fields_of s) journal.spare room I.kept);
     unswept = subst (λ (j : List (Event O Key Recon Cond)). IsUnswept (reverse j)) (sym events_are) I.unswept;
   }
@@ -75,7 +72,7 @@ module _ {O Key Recon Cond : Type 0} (m : Meaning Key Recon Cond) where
   kept_same s I table slots same items = record {
     kept =
         let e : fields_of (with_fields s table s.rows slots s.journal) ≡ fields_of s =
-            ap (λ (l : List (Slot O Key Recon Cond)). fields_as s.journal.events s.journal.spare (map stage_of l) table s.rows s.origin) items ∙ ap (λ (t : pages.Table). fields_as s.journal.events s.journal.spare (map stage_of s.slots.items) t s.rows s.origin) same in
+        ap (λ (l : List (Slot O Key Recon Cond)). fields_as s.journal.events s.journal.spare (map stage_of l) table s.rows s.origin) items ∙ ap (λ (t : pages.Table). fields_as s.journal.events s.journal.spare (map stage_of s.slots.items) t s.rows s.origin) same in
         subst (IsKept m) (sym e) I.kept;
     unswept = I.unswept;
   }
@@ -174,12 +171,12 @@ new_state {O} {Key} {Recon} {Cond} m s limit origin_is events slots table rows =
   kept =
       let f : Fields O Key Recon Cond = fields_as m [] s.journal.spare (replicate 64 free) (pages.start_table limit) [] (record { limit = limit; pages = 3; clock = 0; loaded = false }) in
       let e : fields_of s ≡ f =
-          ap (λ j. fields_as m j s.journal.spare (map stage_of s.slots.items) s.table s.rows s.origin) events
-          ∙ ap (λ (l : List (Slot O Key Recon Cond)). fields_as m [] s.journal.spare (map stage_of l) s.table s.rows s.origin) slots
-          ∙ ap (λ (l : List (Stage O Key Recon Cond)). fields_as m [] s.journal.spare l s.table s.rows s.origin) (stages_new 64)
-          ∙ ap (λ (t : pages.Table). fields_as m [] s.journal.spare (replicate 64 free) t s.rows s.origin) table
-          ∙ ap (λ (r : Table O Key Recon Cond). fields_as m [] s.journal.spare (replicate 64 free) (pages.start_table limit) r s.origin) rows
-          ∙ ap (λ (o : Origin). fields_as m [] s.journal.spare (replicate 64 free) (pages.start_table limit) [] o) origin_is in
+      ap (λ j. fields_as m j s.journal.spare (map stage_of s.slots.items) s.table s.rows s.origin) events
+      ∙ ap (λ (l : List (Slot O Key Recon Cond)). fields_as m [] s.journal.spare (map stage_of l) s.table s.rows s.origin) slots
+      ∙ ap (λ (l : List (Stage O Key Recon Cond)). fields_as m [] s.journal.spare l s.table s.rows s.origin) (stages_new 64)
+      ∙ ap (λ (t : pages.Table). fields_as m [] s.journal.spare (replicate 64 free) t s.rows s.origin) table
+      ∙ ap (λ (r : Table O Key Recon Cond). fields_as m [] s.journal.spare (replicate 64 free) (pages.start_table limit) r s.origin) rows
+      ∙ ap (λ (o : Origin). fields_as m [] s.journal.spare (replicate 64 free) (pages.start_table limit) [] o) origin_is in
       subst (IsKept m) (sym e) (more_room m (new_fields limit) s.journal.spare (omega arith) (new_kept m limit));
   unswept = ap (λ j. sweep_count (reverse j)) events;
 }

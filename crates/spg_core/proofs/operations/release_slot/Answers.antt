@@ -1,4 +1,4 @@
-use Rattle.std.proofs.Common.{◌≡◌, refl, sym, ap, ◌∙◌, subst}
+use Rattle.std.proofs.Common.{sym, subst}
 use Rattle.spg_tree.specs.Table.{Table}
 use Rattle.spg_descend.specs.Leaves.{stand_block, parent_block}
 use Rattle.spg_seats.specs.Latching.{AreHeld, HoldsNone}

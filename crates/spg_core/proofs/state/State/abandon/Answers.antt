@@ -1,4 +1,4 @@
-use Rattle.std.proofs.Common.{◌≡◌, ◌≢◌, ◌++◌, ◌∷◌, [], sym, ap, ◌∙◌, subst, reverse, get_or, refl, ℕ, Option}
+use Rattle.std.proofs.Common.{◌≢◌, ◌++◌, ◌∷◌, [], sym, ap, ◌∙◌, subst, get_or}
 use Rattle.spg_tree.specs.Table.{Table, with_touched}
 use Rattle.spg_seats.specs.Latching.{AreHeld, HoldsNone, rest_of}
 use Rattle.spg_seats.specs.Slots.{stage_holds}

@@ -1,7 +1,6 @@
-use Rattle.std.proofs.Common.{◌≡◌, refl, sym, ap, ◌∙◌, subst, get_or}
+use Rattle.std.proofs.Common.{refl, sym, ap, ◌∙◌, subst, get_or}
 use Rattle.spg_tree.specs.Table.{Table, with_touched}
 use Rattle.spg_core.specs.declared.slot.Slot.TheVariants.{Free}
-use Rattle.spg_core.specs.Slot.{stage_of}
 use Rattle.spg_core.specs.Stage.{IsRead}
 use Rattle.spg_core.specs.Sections.{HasMet}
 use Rattle.spg_core.specs.Kept.{IsState}

@@ -2,14 +2,13 @@ use Rattle.std.proofs.Common.{◌≡◌, ◌++◌, ◌∷◌, [], get_or, map, l
 use Rattle.std.proofs.lemmas.Bool.{false≢true}
 use Rattle.spg_rows.specs.declared.event.Event.TheVariants.{Kill}
 use Rattle.spg_rows.specs.declared.table.RowState.TheVariants as row_state
-use Rattle.spg_rows.specs.History.{History}
 use Rattle.spg_rows.specs.Rows.{state_of}
 use Rattle.spg_rows.specs.Table.{SetsState}
 use Rattle.spg_tree.specs.Table.{Table, with_touched}
 use Rattle.spg_core.specs.declared.slot.Slot.TheVariants.{Free}
 use Rattle.spg_core.specs.Slot.{stage_of}
 use Rattle.spg_core.specs.Stage as stages
-use Rattle.spg_core.specs.Seen.{logged, untouched}
+use Rattle.spg_core.specs.Seen.{untouched}
 use Rattle.spg_core.specs.Kept.{IsState}
 use Rattle.spg_core.proofs.Slots.{stage_is, past_is, table_is, seen_as}
 use Rattle.spg_core.proofs.Steps.{with_fields, kept_with, on_err}

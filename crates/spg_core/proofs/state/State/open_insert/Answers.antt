@@ -1,7 +1,6 @@
-use Rattle.std.proofs.Common.{rules, true, inl, Option, ◌<◌, ◌≡◌, ◌++◌, ◌∷◌, [], Some, refl, sym, ap, ◌∙◌, subst, reverse, get_or, map}
+use Rattle.std.proofs.Common.{rules, true, inl, Option, ◌<◌, ◌≡◌, ◌++◌, ◌∷◌, [], Some, refl, sym, ap, ◌∙◌, subst, get_or, map}
 use Rattle.std.proofs.lemmas.Bool.{false≢true}
 use Rattle.std.proofs.lemmas.Result.{err_from_is_err_and}
-use Rattle.spg_base.specs.Row.{RowAt}
 use Rattle.spg_rows.specs.declared.event.Event.TheVariants.{OpenInsert}
 use Rattle.spg_rows.specs.History.{History}
 use Rattle.spg_rows.specs.Table.{SetsKey}

@@ -1,7 +1,7 @@
 use Rattle.std.proofs.Common.{get_or}
 use Rattle.spg_core.specs.declared.slot.Slot.TheVariants.{Free}
 use Rattle.spg_core.specs.Slot.{stage_of}
-use Rattle.spg_core.proofs.Slots.{stage_is, past_is, table_is, fits_stage}
+use Rattle.spg_core.proofs.Slots.{stage_is, past_is, fits_stage}
 use Rattle.spg_core.proofs.Steps.{fits, seen_fits, past}
 use Rattle.spg_core.proofs.state.State.open_of.Goals as goal
 

@@ -1,4 +1,4 @@
-use Rattle.std.proofs.Common.{◌≡◌, ◌<◌, subst, get_or, map, refl, sym, ap, ◌∙◌}
+use Rattle.std.proofs.Common.{◌<◌, subst, get_or, map, refl, sym, ap, ◌∙◌}
 use Rattle.spg_tree.specs.Table.{Table, with_touched}
 use Rattle.spg_core.specs.declared.slot.Slot.TheVariants.{Free}
 use Rattle.spg_core.specs.Slot.{stage_of}
