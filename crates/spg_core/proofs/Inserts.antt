@@ -17,7 +17,6 @@ use Rattle.spg_tree.specs.Descents.{Descending, in_nulls}
 use Rattle.spg_seats.specs.Descending.{HasInnerRoot, ChangesHeld}
 use Rattle.spg_seats.specs.Latching.{AreHeld, InsertHolds, rest_of}
 use Rattle.spg_seats.specs.Slots.{Stage, free, descending, is_open, stage_holds, stage_in, StageFits, HasLatches, opened_keys}
-use Rattle.spg_seats.proofs.Calls as calls
 use Rattle.spg_seats.proofs.Holding.{latches_law}
 use Rattle.spg_core.specs.declared.answer.InsertOut.{InsertOut}
 use Rattle.spg_core.specs.declared.answer.InsertOut.TheVariants as outs
@@ -34,8 +33,9 @@ use Rattle.spg_core.specs.Slot.{stage_of}
 use Rattle.spg_core.specs.Stage.{IsInserting}
 use Rattle.spg_core.specs.Seen.{Seen, moved, logged}
 use Rattle.spg_core.specs.Kept.{fields_of, seen_of, IsState}
-use Rattle.spg_core.proofs.Weights.{root_heavy, nulls_key}
-use Rattle.spg_core.proofs.Slots.{set_twice, stages_set, stage_set, stage_is, past_is, table_is, moved_is, logged_is, seen_as}
+use Rattle.spg_core.proofs.Weights.{nulls_key}
+use Rattle.spg_core.proofs.Keeping.{outgrown_heavy, its_held, section_changes, step_keeps, put_keeps}
+use Rattle.spg_core.proofs.Slots.{set_twice, stages_set, stage_set, stage_get, stage_is, past_is, table_is, moved_is, logged_is, seen_as}
 use Rattle.spg_core.proofs.Steps.{with_fields, past, sane, seats, fits, held, low, room_on, room_ended, unswept_then, insert_claimed}
 
 -- what a seat has latched is its own, and what it has not is not
@@ -62,126 +62,76 @@ module _ {O Key Recon Cond : Type 0} (m : Meaning Key Recon Cond) (codes : CodeL
   can_step (Insert key d) has is = (has.1, has.2)
   can_step (Scan x) has is = absurd is
 
-  -- a tree that has outgrown its root page has heavy keys
-  outgrown_heavy : (key : Option Key) (d : Descending Recon) → StageFits m s.table before seat (descending key d) → IsOutgrown s.table d → 8160 < weight_of m (in_nulls d) (opened_keys before)
-  outgrown_heavy key d has out = ⊎_elim (λ h. I.kept.tells.heavy (in_nulls d) h) (λ f. root_heavy m codes before (sane m s I) s.table d key seat I.kept.tells.holds has.1 has.0 f) out
-
   pub heavy_for : (seen : Seen O Key Recon Cond) → seen_of s ≡ seen → (slot : Slot O Key Recon Cond) → StageFits m s.table before seat (stage_of slot) → IsOutgrownBy s.table slot → IsHeavyFor m seen (stage_of slot)
   heavy_for seen view Free has out = absurd out
   heavy_for seen view (Insert key d) has out =
       subst (λ (h : History O Key Recon Cond). 8160 < weight_of m (is_none key) (opened_keys h)) (sym (past_is s seen view 0))
-      (subst (λ (b : Bool). 8160 < weight_of m b (opened_keys before)) (nulls_key m (sheets_of s.table) d key has.1) (outgrown_heavy key d has out))
+      (subst (λ (b : Bool). 8160 < weight_of m b (opened_keys before)) (nulls_key m (sheets_of s.table) d key has.1) (outgrown_heavy m codes (fields_of s) I.kept seat key d has out))
   heavy_for seen view (Scan x) has out = absurd out
 
   -- ---- the insert of the seat's slot
 
   module _ (key : Option Key) (d d2 : Descending Recon) (t2 : pages.Table) (here : get_or s.slots.items seat Free ≡ Insert key d) where
-    has : StageFits m s.table before seat (descending key d)
-    has = subst (λ (x : Slot O Key Recon Cond). StageFits m s.table before seat (stage_of x)) here (fits m s I seat)
-
-    its : InsertHolds s.table seat (rest_of s.table seat) d
-    its = subst (λ (x : Slot O Key Recon Cond). AreHeld s.table seat (rest_of s.table seat) (stage_holds (stage_of x))) here (held m s I seat)
+    at_stage : stage_in (map stage_of s.slots.items) seat ≡ descending key d
+    at_stage = stage_get s.slots.items seat ∙ ap stage_of here
 
     was_open : is_open (stage_of (get_or s.slots.items seat Free)) ≡ true
     was_open = ap (λ (x : Slot O Key Recon Cond). is_open (stage_of x)) here
 
-    changes : (out : InsertOut) → StepDone m s.table t2 d d2 seat out → ChangesHeld s.table t2 seat
-    changes out S = S.within (λ b h. its.latch b ∙ ap (λ k. cond k (Some seat) (rest_of s.table seat b)) h)
+    its : InsertHolds s.table seat (rest_of s.table seat) d
+    its = its_held m (fields_of s) I.kept seat key d at_stage
 
-    grown : RootsGrow s.table t2 d → (nulls : Bool) → HasInnerRoot t2 nulls → HasInnerRoot s.table nulls ⊎ (8160 < weight_of m nulls (opened_keys before))
-    grown grow nulls h = ⊎_elim (λ a. inl a) (λ (q, f). inr (subst (λ (b : Bool). 8160 < weight_of m b (opened_keys before)) (sym q) (outgrown_heavy key d has (inr f)))) (grow nulls h)
-
-    -- the insert goes on in its slot
-    goes : GoesOn m s.table t2 d d2 → StageFits m t2 before seat (descending key d2)
-    goes (row, nulls, at, carry) = (has.0 ∙ ap (λ (r : RowAt). inserting r key) (sym row), carry key has.1, at)
-
-    module _ (slots : Vec (Slot O Key Recon Cond) Global) (items : slots.items ≡ set s.slots.items seat (Insert key d2)) where
-      stays : (out : InsertOut) → StepDone m s.table t2 d d2 seat out → InsertHolds t2 seat (rest_of s.table seat) d2 → sheets_of t2 ≡ sheets_of s.table → t2.limit ≡ s.table.limit → GoesOn m s.table t2 d d2 → IsState m (with_fields m s t2 s.rows slots s.journal)
-      stays out S H same limit G = record {
-        kept = calls.kept_still
-            m
-            (fields_of s)
-            (fields_of (with_fields m s t2 s.rows slots s.journal))
-            seat
-            (descending key d2)
-            I.kept
-            (stages_set slots.items s.slots.items seat (Insert key d2) items)
-            (stage_set slots.items s.slots.items seat (Insert key d2) items (seats m s I) (low m s I seat was_open))
-            H
-            (room_on m s I seat (Insert key d2) slots.items items was_open)
-            limit
-            refl
-            same
-            refl
-            refl
-            (goes G);
-        unswept = I.unswept;
-      }
-
-      moves : (out : InsertOut) → (out ≡ outs.Put → ⊥) → StepDone m s.table t2 d d2 seat out → IsState m (with_fields m s t2 s.rows slots s.journal)
-      moves outs.Descended n S = let (stood, same, G) = S.ok in stays outs.Descended S (S.latches (rest_of s.table seat) its) same.0 same.1 G
-      moves (outs.Restarted block by) n S = let (latched, other, start, same, G) = S.ok in stays (outs.Restarted block by) S (S.latches (rest_of s.table seat) its).1 same.0 same.1 G
-      moves outs.Put n S = absurd (n refl)
-      moves outs.Restructured n S =
-          let (off, (cost, f, L), limit, grow, G) = S.ok in
-          record {
-            kept = calls.kept_section
-                m
-                (fields_of s)
-                (fields_of (with_fields m s t2 s.rows slots s.journal))
-                seat
-                (descending key d2)
-                I.kept
-                (stages_set slots.items s.slots.items seat (Insert key d2) items)
-                (stage_set slots.items s.slots.items seat (Insert key d2) items (seats m s I) (low m s I seat was_open))
-                (S.latches (rest_of s.table seat) its)
-                (room_on m s I seat (Insert key d2) slots.items items was_open)
-                limit
-                refl
-                cost
-                f
-                L
-                (changes outs.Restructured S)
-                (grown grow)
-                refl
-                refl
-                (goes G);
-            unswept = I.unswept;
-          }
+    moves : (out : InsertOut) → (out ≡ outs.Put → ⊥) → StepDone m s.table t2 d d2 seat out → (slots : Vec (Slot O Key Recon Cond) Global) → slots.items ≡ set s.slots.items seat (Insert key d2) → IsState m (with_fields m s t2 s.rows slots s.journal)
+    moves out n S slots items = record {
+      kept = step_keeps
+          m
+          codes
+          (fields_of s)
+          I.kept
+          seat
+          key
+          d
+          at_stage
+          (fields_of (with_fields m s t2 s.rows slots s.journal))
+          d2
+          (stages_set slots.items s.slots.items seat (Insert key d2) items)
+          (stage_set slots.items s.slots.items seat (Insert key d2) items (seats m s I) (low m s I seat was_open))
+          (room_on m s I seat (Insert key d2) slots.items items was_open)
+          refl
+          refl
+          refl
+          out
+          n
+          S;
+      unswept = I.unswept;
+    }
 
     -- its row is put
     puts : (rows : Table O Key Recon Cond) (slots : Vec (Slot O Key Recon Cond) Global) (journal : Written O Key Recon Cond) (row : RowAt) → slots.items ≡ set s.slots.items seat Free → row ≡ d.row → StepDone m s.table t2 d d2 seat outs.Put → SetsState s.rows rows row row_state.Live → SameKeys s.rows rows →
         journal.events ≡ s.journal.events ++ Put seat row ∷ [] → journal.spare + 1 ≡ s.journal.spare → IsState m (with_fields m s t2 rows slots journal)
-    puts rows slots journal row items r S states keys events spare =
-        let (off, adds, limit, grow, er) = S.ok in
-        let (cost, f, A) = adds key has.1 in
-        record {
-          kept = calls.kept_put
-              m
-              (fields_of s)
-              (fields_of (with_fields m s t2 rows slots journal))
-              seat
-              free
-              I.kept
-              (stages_set slots.items s.slots.items seat Free items)
-              (stage_set slots.items s.slots.items seat Free items (seats m s I) (low m s I seat was_open))
-              (S.latches (rest_of s.table seat) its)
-              (room_ended m s I seat slots.items journal.spare items spare was_open)
-              limit
-              refl
-              row
-              key
-              cost
-              f
-              refl
-              (has.0 ∙ ap (λ (x : RowAt). inserting x key) (sym r))
-              (subst (λ (x : RowAt). Adds m (sheets_of s.table) (sheets_of t2) t2.touched cost x key f) (sym r) A)
-              (changes outs.Put S)
-              (grown grow)
-              events
-              (states, keys);
-          unswept = unswept_then m s I journal.events (Put seat row) events refl;
-        }
+    puts rows slots journal row items r S states keys events spare = record {
+      kept = put_keeps
+          m
+          codes
+          (fields_of s)
+          I.kept
+          seat
+          key
+          d
+          at_stage
+          (fields_of (with_fields m s t2 rows slots journal))
+          d2
+          (stages_set slots.items s.slots.items seat Free items)
+          (stage_set slots.items s.slots.items seat Free items (seats m s I) (low m s I seat was_open))
+          (room_ended m s I seat slots.items journal.spare items spare was_open)
+          refl
+          row
+          r
+          events
+          (states, keys)
+          S;
+      unswept = unswept_then m s I journal.events (Put seat row) events refl;
+    }
 
     -- what the others have latched
     others_hold : (out : InsertOut) → HoldsAfter t2 seat (rest_of s.table seat) d2 out → OthersHold s.table t2 seat
@@ -195,7 +145,7 @@ module _ {O Key Recon Cond : Type 0} (m : Meaning Key Recon Cond) (codes : CodeL
   pub kept_step : (out : InsertOut) (slot : Slot O Key Recon Cond) (t2 : pages.Table) (slots : Vec (Slot O Key Recon Cond) Global) → get_or s.slots.items seat Free ≡ slot → (out ≡ outs.Put → ⊥) → StepsFrom m s.table t2 s.slots.items slots.items seat out slot → IsState m (with_fields m s t2 s.rows slots s.journal)
   kept_step out Free t2 slots e n h = absurd h
   kept_step out (Scan x) t2 slots e n h = absurd h
-  kept_step out (Insert key d) t2 slots e n (d2, items, S) = moves key d d2 t2 e slots items out n S
+  kept_step out (Insert key d) t2 slots e n (d2, items, S) = moves key d d2 t2 e out n S slots items
 
   -- the row that is put, and the slots then
   pub put_row : (slot : Slot O Key Recon Cond) (t2 : pages.Table) (slots : List (Slot O Key Recon Cond)) (row : RowAt) → seat < length s.slots.items → StepsFrom m s.table t2 s.slots.items slots seat outs.Put slot → IsRowOf (get_or slots seat Free) row → IsRowOf slot row
@@ -303,12 +253,12 @@ module _ {O Key Recon Cond : Type 0} (m : Meaning Key Recon Cond) (codes : CodeL
     latches_step out (Scan x) t2 slots e n h = absurd h
     latches_step out (Insert key d) t2 slots e n (d2, items, S) = go out n (S.latches (rest_of s.table seat) (its key d d2 t2 e))
       where
-        at_stage : HasLatches {O = O} {Key = Key} {Recon = Recon} {Cond = Cond} t2 seat (descending key d2) → HasLatches t2 seat (stage_in (map stage_of slots) seat)
-        at_stage h = subst (λ (x : Stage O Key Recon Cond). HasLatches t2 seat x) (sym (moved_by d d2 key t2 slots e items).1) h
+        at_now : HasLatches {O = O} {Key = Key} {Recon = Recon} {Cond = Cond} t2 seat (descending key d2) → HasLatches t2 seat (stage_in (map stage_of slots) seat)
+        at_now h = subst (λ (x : Stage O Key Recon Cond). HasLatches t2 seat x) (sym (moved_by d d2 key t2 slots e items).1) h
 
         go : (o : InsertOut) → (o ≡ outs.Put → ⊥) → HoldsAfter t2 seat (rest_of s.table seat) d2 o → LatchesAfter (seen_as s.journal.events (map stage_of slots) t2 s.origin) seat o
-        go outs.Descended n H = at_stage ((latches_law O Key Recon Cond).ends s.table t2 seat _ H)
-        go outs.Restructured n H = at_stage ((latches_law O Key Recon Cond).ends s.table t2 seat _ H)
+        go outs.Descended n H = at_now ((latches_law O Key Recon Cond).ends s.table t2 seat _ H)
+        go outs.Restructured n H = at_now ((latches_law O Key Recon Cond).ends s.table t2 seat _ H)
         go (outs.Restarted block by) n H = none_held s.table t2 seat H.0
         go outs.Put n H = absurd (n refl)
 
@@ -326,7 +276,7 @@ module _ {O Key Recon Cond : Type 0} (m : Meaning Key Recon Cond) (codes : CodeL
     pub within_step : (out : InsertOut) (slot : Slot O Key Recon Cond) (t2 : pages.Table) (slots : List (Slot O Key Recon Cond)) → get_or s.slots.items seat Free ≡ slot → StepsFrom m s.table t2 s.slots.items slots seat out slot → ChangesHeld seen.table t2 seat
     within_step out Free t2 slots e h = absurd h
     within_step out (Scan x) t2 slots e h = absurd h
-    within_step out (Insert key d) t2 slots e (d2, items, S) = at_table (λ t. ChangesHeld t t2 seat) (changes key d d2 t2 e out S)
+    within_step out (Insert key d) t2 slots e (d2, items, S) = at_table (λ t. ChangesHeld t t2 seat) (section_changes m (fields_of s) I.kept seat key d (at_stage key d d2 t2 e) t2 d2 out S)
 
     -- one of the sections that may come is taken
     ends_seen : (key : Option Key) (d : Descending Recon) (n : ℕ) → get_or s.slots.items seat Free ≡ Insert key d → SeatEnds m seen seat n → EndsWithin m s.table d n

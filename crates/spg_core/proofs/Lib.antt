@@ -13,8 +13,10 @@ pub mod Ticks
 pub mod Slots
 pub mod Sweeps
 pub mod Steps
+pub mod Keeping
 pub mod Inserts
 pub mod Going
 pub mod Opens
 pub mod Scans
+pub mod Runs
 pub mod Counting

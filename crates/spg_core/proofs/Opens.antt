@@ -81,16 +81,16 @@ module _ {O Key Recon Cond : Type 0} where
   none_by (Insert key d) apart b = absurd (apart key d refl)
   none_by (Scan s) apart b = refl
 
-opened_row : {Key Recon Cond : Type 0} (m : Meaning Key Recon Cond) (row : RowAt) (key : Option Key) → (opened_for m row key).row ≡ row
+pub opened_row : {Key Recon Cond : Type 0} (m : Meaning Key Recon Cond) (row : RowAt) (key : Option Key) → (opened_for m row key).row ≡ row
 opened_row m row None = refl
 opened_row m row (Some k) = refl
 
-opened_stands : {Key Recon Cond : Type 0} (m : Meaning Key Recon Cond) (t : pages.Table) (row : RowAt) (key : Option Key) → Stands t (opened_for m row key)
+pub opened_stands : {Key Recon Cond : Type 0} (m : Meaning Key Recon Cond) (t : pages.Table) (row : RowAt) (key : Option Key) → Stands t (opened_for m row key)
 opened_stands m t row None = refl
 opened_stands m t row (Some k) = refl
 
 -- at its start an insert holds nothing
-opened_holds : {Key Recon Cond : Type 0} (m : Meaning Key Recon Cond) (t : pages.Table) (seat : ℕ) (rest : ℕ → Option ℕ) (row : RowAt) (key : Option Key) → HoldsNone t seat rest → InsertHolds t seat rest (opened_for m row key)
+pub opened_holds : {Key Recon Cond : Type 0} (m : Meaning Key Recon Cond) (t : pages.Table) (seat : ℕ) (rest : ℕ → Option ℕ) (row : RowAt) (key : Option Key) → HoldsNone t seat rest → InsertHolds t seat rest (opened_for m row key)
 opened_holds m t seat rest row None none = none
 opened_holds m t seat rest row (Some k) none = none
 

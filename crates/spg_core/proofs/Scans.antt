@@ -37,7 +37,7 @@ use Rattle.spg_core.proofs.Slots.{seen_as, set_twice, stages_set, stage_set, sta
 use Rattle.spg_core.proofs.Steps as steps
 
 -- a scan that holds nothing took each row once
-once_taken : {O Key Recon Cond : Type 0} {m : Meaning Key Recon Cond} {S : Sheets} {before past : History O Key Recon Cond} (q : Scanning O Key Recon Cond) → IsScanOf m S before past q → AreDistinct q.rows
+pub once_taken : {O Key Recon Cond : Type 0} {m : Meaning Key Recon Cond} {S : Sheets} {before past : History O Key Recon Cond} (q : Scanning O Key Recon Cond) → IsScanOf m S before past q → AreDistinct q.rows
 once_taken q D = (distinct_parts q.rows (copied_rows q.items) D.once).0
 
 module _ {O Key Recon Cond : Type 0} (m : Meaning Key Recon Cond) (s : Inside O Key Recon Cond) (I : IsState m s) (seat : ℕ) where

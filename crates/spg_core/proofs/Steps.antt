@@ -36,6 +36,7 @@ use Rattle.spg_core.specs.Slot.{stage_of}
 use Rattle.spg_core.specs.Kept.{fields_of, seen_of, IsUnswept, IsState}
 use Rattle.spg_core.specs.Seen.{Seen, past_of, stage_at}
 use Rattle.spg_core.proofs.Slots.{stage_get, stages_set, stages_count, open_count-closed, open_count-set-le, stages_new}
+use Rattle.spg_core.proofs.Keeping.{fresh_row}
 use Rattle.spg_core.proofs.Sweeps.{swept_counts}
 
 -- latches that are as they were
@@ -150,10 +151,7 @@ module _ {O Key Recon Cond : Type 0} (m : Meaning Key Recon Cond) where
 
     -- a row that is not claimed is no leaf's
     pub unclaimed_fresh : (row : RowAt) → is_claimed row past ≡ false → IsFresh (spots (sheets_of s.table)) row
-    unclaimed_fresh row unclaimed x l a e =
-        let (key, h) = entry_of m (sheets_of s.table) x l I.kept.tells.holds.shape a in
-        let p : is_present l.row past ≡ true = ((I.kept.tells.holds.entries l.row key).0 h).0 in
-        false≢true (sym unclaimed ∙ ap (λ r. is_claimed r past) (sym e) ∙ present_claimed past (state_of l.row past) (lives l.row past) (sane.says l.row) p)
+    unclaimed_fresh row unclaimed = fresh_row m (fields_of s) I.kept row unclaimed
 
 -- what holds in any case holds of an error
 pub on_err : {T E P : Type 0} (r : Result T E) → P → OnErr r P

@@ -6,6 +6,7 @@ mod choose;
 mod inner;
 mod insert;
 mod latches;
+mod laws;
 mod operations;
 mod recorded;
 mod slot;
@@ -14,6 +15,7 @@ mod state;
 mod through;
 
 pub use answer::{InsertOut, InsertRan, OpenKind, OpenRefused};
+pub use laws::calls_keep;
 pub use spg_scan::{Closed, ReadOut};
 pub use spg_tree::StepRefused;
 pub use state::State;
