@@ -10,11 +10,13 @@ pub mod Inners
 pub mod Rewriting
 pub mod Settles
 pub mod Ticks
-pub mod Founds
 pub mod Slots
+pub mod Sweeps
 pub mod Steps
+pub mod Keeping
 pub mod Inserts
 pub mod Going
 pub mod Opens
 pub mod Scans
+pub mod Runs
 pub mod Counting

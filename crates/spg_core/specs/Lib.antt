@@ -12,3 +12,4 @@ pub mod Counts
 pub mod Ends
 pub mod Telling
 pub mod Refusing
+pub mod Runs
