@@ -275,3 +275,7 @@ module _ {Key Recon Cond : Type 0} (m : Meaning Key Recon Cond) (t : Table) (H :
 
       pub parts_of : (t2 : Table) (seat : ℕ) (d2 : Descending Recon) → IsParted t t2 at c seat a b → d2 ≡ risen d → PartsTuple m t t2 d d2 pre labels c
       parts_of t2 seat d2 P e = parts t2 seat (subst (λ (o : Place). IsParted t t2 o c seat up lo) place_is (subst (λ (z : Tuple). IsParted t t2 at c seat z lo) upper_is (subst (λ (z : Tuple). IsParted t t2 at c seat a z) lower_same P))) d2 e
+
+      -- the whole table
+      pub table_of : (t2 : Table) (seat : ℕ) → IsParted t t2 at c seat a b → IsParted t t2 (tuple_place d.stand) c seat up lo
+      table_of t2 seat P = subst (λ (o : Place). IsParted t t2 o c seat up lo) place_is (subst (λ (z : Tuple). IsParted t t2 at c seat z lo) upper_is (subst (λ (z : Tuple). IsParted t t2 at c seat a z) lower_same P))

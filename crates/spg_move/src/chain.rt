@@ -12,6 +12,7 @@ ghost use Rattle.spg_descend.specs.Rules.{MayMove};
 ghost use Rattle.spg_descend.specs.Below.{IsAtChain, IsTicked};
 ghost use Rattle.spg_descend.specs.Makes.{MakesNone};
 ghost use Rattle.spg_move.specs.Moves.{MovesCarried, carried_want};
+ghost use Rattle.spg_move.specs.Tables.{MovesTable};
 
 use crate::leaves::{bytes_of, leaf_tuple};
 use crate::moving::{chain_tuples, write_chain};
@@ -42,6 +43,7 @@ fn move_from<O: OpClass>(
     ensures held { OnOk result (TouchesFree table.old table.new descent.now seat) }
     ensures ticked { OnOk result (IsTicked table.old table.new) }
     ensures makes { OnOk result (MakesNone table.old table.new) }
+    ensures table { OnOk result (MovesTable table.old table.new descent.now seat) }
     ensures full { IsErrOf result IndexFull → IsFull table.old (carried_want table.old descent.now seat) }
     ensures clock { IsErrOf result ClockFull → ⊥ }
     ensures err { OnErr result (table.new ≡ table.old) }
@@ -67,7 +69,9 @@ fn move_from<O: OpClass>(
 /// Moves the short chain at which an insert stands, with the insert's leaf behind its head, to one
 /// other leaf page. The old head becomes a redirect to the new one with the clock's moment, the other
 /// tuples become placeholders, the downlink of the tuple above is set, and the clock is raised. A dead
-/// tuple is a chain of no tuples. No inner tuple is made. Of the blocks touched, each but that where
+/// tuple is a chain of no tuples. No inner tuple is made. `table` tells the whole table: the order of
+/// the chain and where it is, the blocks touched, which are those written, and the pages remembered,
+/// which are those after the pick; latches and counter stay as they are. Of the blocks touched, each but that where
 /// the insert stands and that of the tuple above was latched by no other seat. `ClockFull` comes
 /// exactly where the clock is 2^48 - 1, before a page is picked; `IndexFull` only where the pick of a
 /// leaf page for the chain with its new leaf, by this seat and not on the old block, needs a new page
@@ -87,6 +91,7 @@ pub fn move_chain<O: OpClass>(
     ensures held { OnOk result (TouchesFree table.old table.new descent.now seat) }
     ensures ticked { OnOk result (IsTicked table.old table.new) }
     ensures makes { OnOk result (MakesNone table.old table.new) }
+    ensures table { OnOk result (MovesTable table.old table.new descent.now seat) }
     ensures full { IsErrOf result IndexFull → IsFull table.old (carried_want table.old descent.now seat) }
     ensures clock { IsErrOf result ClockFull → table.old.clock + 1 ≡ 2 ^ 48 }
     ensures clock_first { table.old.clock + 1 ≡ 2 ^ 48 → IsErrOf result ClockFull }

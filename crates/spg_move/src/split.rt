@@ -10,7 +10,8 @@ ghost use Rattle.spg_descend.specs.Follows.{tuple_place};
 ghost use Rattle.spg_descend.specs.Held.{TouchesFree};
 ghost use Rattle.spg_descend.specs.Answers.{IsAnswered};
 ghost use Rattle.spg_move.specs.Answers.{IsInnerOf};
-ghost use Rattle.spg_move.specs.Splits.{PartsTuple, lower_want_at, fits_beside_at};
+ghost use Rattle.spg_move.specs.Splits.{PartsTuple, upper_at, lower_at, lower_want_at, fits_beside_at};
+ghost use Rattle.spg_move.specs.Splitting.{IsParted};
 
 use crate::split_pages::part_tuple;
 use crate::split_tuples::{lower_tuple, upper_tuple};
@@ -31,8 +32,8 @@ use std::alloc::Global;
 /// stands and that of the tuple above was latched by no other seat. The clock stays, so `ClockFull`
 /// never comes; `IndexFull` comes only where the lower tuple does not fit beside the upper one on a
 /// page that is no root, and the pick of a page of that parity for it, by this seat, needs a new page
-/// and there may be none. After a refusal table and insert are as they were. The latches stay as they
-/// are.
+/// and there may be none. After a refusal table and insert are as they were. `table` tells the whole
+/// table: the pages remembered are those after the pick, and latches and counter stay as they are.
 pub fn split_tuple<O: OpClass>(
     alloc: Global,
     table: &mut PageTable,
@@ -50,6 +51,7 @@ pub fn split_tuple<O: OpClass>(
     requires answer { IsAnswered O.meaning table.old descent.old (Split upper_prefix.now upper_labels.now child lower_prefix.now) }
     ensures ok { OnOk result (PartsTuple O.meaning table.old table.new descent.old descent.new upper_prefix.now upper_labels.now child) }
     ensures held { OnOk result (TouchesFree table.old table.new descent.old seat) }
+    ensures table { OnOk result (IsParted table.old table.new (tuple_place descent.old.stand) child seat (upper_at upper_prefix.now upper_labels.now) (lower_at table.old descent.old lower_prefix.now)) }
     ensures full { IsErrOf result IndexFull → (fits_beside_at table.old descent.old upper_prefix.now upper_labels.now lower_prefix.now ≡ false) × IsFull table.old (lower_want_at table.old descent.old lower_prefix.now seat) }
     ensures clock { IsErrOf result ClockFull → ⊥ }
     ensures err { OnErr result (table.new ≡ table.old) }

@@ -8,16 +8,16 @@ use Rattle.spg_forest.specs.Tuples.{IsAmong}
 use Rattle.spg_split.specs.declared.homes.Homes.{Homes}
 use Rattle.spg_split.specs.Homes.{another, blocks_touched}
 
-left_among : (e : ℕ) (xs ys : List ℕ) → IsAmong e xs → IsAmong e (xs ++ ys)
+pub left_among : (e : ℕ) (xs ys : List ℕ) → IsAmong e xs → IsAmong e (xs ++ ys)
 left_among e [] ys a = absurd a
 left_among e (x ∷ xs) ys (inl q) = inl q
 left_among e (x ∷ xs) ys (inr a) = inr (left_among e xs ys a)
 
-right_among : (e : ℕ) (xs ys : List ℕ) → IsAmong e ys → IsAmong e (xs ++ ys)
+pub right_among : (e : ℕ) (xs ys : List ℕ) → IsAmong e ys → IsAmong e (xs ++ ys)
 right_among e [] ys a = a
 right_among e (x ∷ xs) ys a = inr (right_among e xs ys a)
 
-range_among : (n a e : ℕ) → a ≤ e → e < a + n → IsAmong e (range_with_len a n)
+pub range_among : (n a e : ℕ) → a ≤ e → e < a + n → IsAmong e (range_with_len a n)
 range_among zero a e h k = absurd (omega arith)
 range_among (suc n) a e h k = ⊎_elim (λ q. inl q) (λ q. inr (range_among n (a + 1) e (⊎_elim (λ z. absurd (q (omega arith))) (λ z. z) (cases_lt e (a + 1))) (omega arith))) (cases_eq e a)
 
@@ -33,7 +33,7 @@ or_cases true b e = inl refl
 or_cases false b e = inr e
 
 -- a block is the other one, or new, or named
-another_cases : (b o end : ℕ) → (b ≡ o) ⊎ (end ≤ b) ⊎ IsAmong b (another b o end)
+pub another_cases : (b o end : ℕ) → (b ≡ o) ⊎ (end ≤ b) ⊎ IsAmong b (another b o end)
 another_cases b o end = go (nat_eq b o || nat_le end b) refl
   where
     go : (x : Bool) → nat_eq b o || nat_le end b ≡ x → (b ≡ o) ⊎ (end ≤ b) ⊎ IsAmong b (if x then [] else b ∷ [])

@@ -41,7 +41,7 @@ tuples_are : {Key Recon Cond : Type 0} (m : Meaning Key Recon Cond) (r : Option 
 tuples_are m r vs dv D p P = P.leaves ∙ ap (λ (z : Division). all_live (leaves_with (rows_of vs) z.rests)) D.exact
 
 -- those that go are those put
-going_are : (p : Parts) (way : Parted) → IsWay p way → going p way ≡ those_put (weight p.leaves) p.leaves
+pub going_are : (p : Parts) (way : Parted) → IsWay p way → going p way ≡ those_put (weight p.leaves) p.leaves
 going_are p With a = sym (put_all (weight p.leaves) p.leaves a)
 going_are p (Without in_one) (a, b) = sym (put_others (weight p.leaves) p.leaves a)
 

@@ -31,3 +31,4 @@ pub mod Makes
 pub mod Causes
 pub mod Held
 pub mod Fulls
+pub mod Tables

@@ -11,6 +11,7 @@ ghost use Rattle.spg_descend.specs.Puts.{IsAtLeaves, Fits};
 ghost use Rattle.spg_split.specs.Splits.{IsAtRoot, IsSplitOut, PartsWithout};
 ghost use Rattle.spg_split.specs.Fulls.{IsRootFull};
 ghost use Rattle.spg_split.specs.Ways.{IsSplitWay, Notes};
+ghost use Rattle.spg_split.specs.Tables.{RootTable};
 ghost use Rattle.spg_split.specs.Causes.{IsCause, IsCauseOf, RisesOnly, root_bytes, root_in_one};
 
 use crate::division::divide;
@@ -48,6 +49,7 @@ fn split_root<O: OpClass>(
     requires no_room { Fits table.old descent.now.stand (Live (carried descent.now) 0) → ⊥ }
     ensures ok { IfOk result (λ way. IsSplitWay O.meaning table.old table.new descent.now way) }
     ensures held { OnOk result (TouchesFree table.old table.new descent.now seat) }
+    ensures table { OnOk result (RootTable O.meaning table.old table.new descent.now seat) }
     ensures cause { IfOk result (λ way. IsCauseOf (root_bytes O.meaning table.old descent.now) way) }
     ensures rise { IfOk result (λ way. RisesOnly (root_in_one O.meaning table.old descent.now) way) }
     ensures full { IsErrOf result IndexFull → IsRootFull O.meaning table.old descent.now seat }
@@ -81,7 +83,9 @@ fn note<O: OpClass>(descent: &mut Descent<O>, way: Parted) -> SplitOut
 /// Where the class puts all in one node, the tuple is all-the-same: it has 8 nodes of
 /// that label, which are filled in turn. `LeftOut` comes exactly where the lists do not fit with the
 /// leaf on one page; then it is in none of them. The spread rises then only where all leaves but the new
-/// one are in one node. `IndexFull` comes only where a pick needs a new page and there may be none.
+/// one are in one node. `table` tells the whole table: the inner tuple is that of the class's meaning,
+/// its nodes lead to its lists, the blocks touched are the two written, and the pages remembered are
+/// those after the pick. `IndexFull` comes only where a pick needs a new page and there may be none.
 /// After a refusal table and insert are as they were.
 pub fn split_leaf<O: OpClass>(
     alloc: Global,
@@ -97,6 +101,7 @@ pub fn split_leaf<O: OpClass>(
     requires no_room { Fits table.old descent.old.stand (Live (carried descent.old) 0) → ⊥ }
     ensures ok { IfOk result (λ out. IsSplitOut O.meaning table.old table.new descent.old descent.new out) }
     ensures held { OnOk result (TouchesFree table.old table.new descent.old seat) }
+    ensures table { OnOk result (RootTable O.meaning table.old table.new descent.old seat) }
     ensures cause { IfOk result (λ out. IsCause (root_bytes O.meaning table.old descent.old) out) }
     ensures rise { IfOk result (λ out. (out ≡ SplitOut.LeftOut → PartsWithout O.meaning table.old table.new descent.old descent.new 0) ⊎ root_in_one O.meaning table.old descent.old) }
     ensures full { IsErrOf result IndexFull → IsRootFull O.meaning table.old descent.old seat }

@@ -13,6 +13,7 @@ use Rattle.spg_move.specs.Moves.{carried_want}
 use Rattle.spg_move.specs.Moving.{moved_table}
 use Rattle.spg_move.proofs.Standing.{total, need_small, count_small, want_is, leaves_are, live_are, chained_after, begins_after, parent_after, within_after, node_after, room_after, carried_moves, ticks, want_there, makes_none}
 use Rattle.spg_move.proofs.Held.{moved_held}
+use Rattle.spg_move.proofs.Tables.{moves_table}
 use Rattle.spg_move.proofs.chain.move_from.Goals as goal
 
 pub chain_tuples-requires : goal.chain_tuples-requires
@@ -119,3 +120,10 @@ returns-clause-held g c =
     let V = want_there g.O.OpClass.meaning c.args.table.now c.args.descent.now c.args.at c.args.parent c.args.node c.requires.shape c.requires.stands c.requires.above c.requires.spot c.requires.short c.args.seat in
     let P = subst (λ (z : Want). IsPicked c.args.table.now z c.in_ok-block.block c.pick_page.new.self) (W ∙ V) c.in_ok-block.ensures.picked in
     moved_held c.args.table.now c.write_chain.new.table c.args.descent.now c.args.seat c.in_ok-block.block c.args.at c.args.parent c.args.node c.requires.stands c.requires.above (picked_free c.args.table.now c.pick_page.new.self (carried_want c.args.table.now c.args.descent.now c.args.seat) c.in_ok-block.block P) (ap (λ (z : Table). z.touched) c.write_chain.ensures)
+
+pub returns-clause-table : goal.returns-clause-table
+returns-clause-table g c =
+    let W = want_is g.O.OpClass.meaning c.args.table.now c.args.descent.now c.args.at c.args.parent c.args.node c.requires.shape c.requires.stands c.requires.above c.requires.spot c.requires.short c.page.result.now c.in_ok-leaves.leaves c.as_slice-2.result.now c.in_ok-new.new c.row.result c.as_slice.result.now c.bytes_of.result c.size.result c.len-count.result c.page.ensures c.in_ok-leaves.ensures c.as_slice-2.ensures c.row.ensures (c.as_slice.ensures.value ∙ c.rest.ensures) c.in_ok-new.ensures c.bytes_of.ensures c.size.ensures.value c.len-count.ensures c.is_nulls.result c.args.seat c.is_nulls.ensures in
+    let V = want_there g.O.OpClass.meaning c.args.table.now c.args.descent.now c.args.at c.args.parent c.args.node c.requires.shape c.requires.stands c.requires.above c.requires.spot c.requires.short c.args.seat in
+    let Q = subst (λ (z : Want). Picks c.args.table.now z c.in_ok-block.block c.pick_page.new.self) (W ∙ V) c.in_ok-block.ensures.ok in
+    moves_table c.args.table.now c.pick_page.new.self c.write_chain.new.table c.args.descent.now c.args.at c.args.parent c.args.node c.in_ok-block.block c.args.seat c.requires.stands c.requires.above Q (c.write_chain.ensures ∙ ap (λ vs. moved_table c.pick_page.new.self c.in_ok-block.block c.args.at c.args.parent c.args.node vs) (leaves_are g.O.OpClass.meaning c.args.table.now c.args.descent.now c.args.at c.args.parent c.args.node c.requires.shape c.requires.stands c.requires.above c.requires.spot c.requires.short c.page.result.now c.in_ok-leaves.leaves c.as_slice-2.result.now c.in_ok-new.new c.row.result c.as_slice.result.now c.bytes_of.result c.size.result c.len-count.result c.page.ensures c.in_ok-leaves.ensures c.as_slice-2.ensures c.row.ensures (c.as_slice.ensures.value ∙ c.rest.ensures) c.in_ok-new.ensures c.bytes_of.ensures c.size.ensures.value c.len-count.ensures c.as_slice-3.result.now c.as_slice-3.ensures))
