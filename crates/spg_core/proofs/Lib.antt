@@ -7,6 +7,8 @@ pub mod Limits
 pub mod Holding
 pub mod Ends
 pub mod Inners
+pub mod Rewriting
+pub mod Settles
 pub mod Founds
 pub mod Slots
 pub mod Steps

@@ -10,3 +10,4 @@ pub mod Sections
 pub mod Through
 pub mod Counts
 pub mod Ends
+pub mod Telling

@@ -5,13 +5,12 @@ ghost use Rattle.spg_tree.specs.Descents.{in_nulls};
 ghost use Rattle.spg_tree.specs.declared.stand.StepRefused.TheVariants.{IndexFull, ClockFull};
 ghost use Rattle.spg_descend.specs.Carried.{IsCarried};
 ghost use Rattle.spg_descend.specs.Follows.{IsAtInner};
+ghost use Rattle.spg_seats.specs.Descending.{Stands};
 ghost use Rattle.spg_core.specs.declared.inner.Chosen.TheVariants.{Node, Add};
-ghost use Rattle.spg_core.specs.Stepping.{Stands, IsOutgrown, IsNearLimit, IsStepOut, IsChosen, MakesAtMostOne, named};
-ghost use Rattle.spg_core.specs.Ends.{TakesOne};
-ghost use Rattle.spg_core.specs.Latches.{InsertHolds, HoldsAfter};
+ghost use Rattle.spg_core.specs.Stepping.{IsOutgrown, IsNearLimit, IsChosen, named};
+ghost use Rattle.spg_core.specs.Telling.{Does};
 
 use crate::answer::InsertOut;
-use crate::latches::{hold_anew, stand_block};
 use spg_base::{Bytes, Labels, Memory, SeatNo};
 use spg_descend::{Entered, enter_node, tuple_place};
 use spg_move::{add_node, split_tuple};
@@ -137,10 +136,7 @@ fn go_down<O: OpClass>(
     requires of_key { (key : Option O.Key) × IsCarried O.meaning (sheets_of table.old) descent.old key }
     requires stands { Stands table.old descent.old }
     requires chosen { IsChosen {O = O} O.meaning table.old descent.old (Node node rest by_turn below) }
-    ensures ok { IsStepOut O.meaning table.old table.new descent.old descent.new seat result }
-    ensures latches { InsertHolds table.old seat descent.old → HoldsAfter table.new seat descent.new result }
-    ensures ends { TakesOne O.meaning table.old table.new descent.old descent.new result }
-    ensures makes { MakesAtMostOne table.old table.new }
+    ensures { Does O.meaning table.old table.new descent.old descent.new seat result }
 {
     let _count = table.page_count();
     let entered = enter_node(table, descent, seat, node, rest, below);
@@ -167,44 +163,36 @@ fn widen<O: OpClass>(
     requires of_key { (key : Option O.Key) × IsCarried O.meaning (sheets_of table.old) descent.old key }
     requires stands { Stands table.old descent.old }
     requires chosen { IsChosen {O = O} O.meaning table.old descent.old (Add at label) }
-    ensures ok { IfOk result (λ out. IsStepOut O.meaning table.old table.new descent.old descent.new seat out) }
-    ensures latches { IfOk result (λ out. InsertHolds table.old seat descent.old → HoldsAfter table.new seat descent.new out) }
-    ensures ends { IfOk result (λ out. TakesOne O.meaning table.old table.new descent.old descent.new out) }
-    ensures makes { IfOk result (λ _. MakesAtMostOne table.old table.new) }
+    ensures does { IfOk result (λ out. Does O.meaning table.old table.new descent.old descent.new seat out) }
     ensures full { IsErrOf result IndexFull → IsOutgrown table.old descent.old × IsNearLimit table.old }
     ensures clock { IsErrOf result ClockFull → IsOutgrown table.old descent.old × (table.old.clock + 1 ≡ 2 ^ 48) }
     ensures err { OnErr result (table.new ≡ table.old) }
     ensures err_descent { OnErr result (descent.new ≡ descent.old) }
 {
-    let was = stand_block(descent.stand());
     add_node(alloc, table, descent, seat, at, label)?;
-    let _count = table.page_count();
-    hold_anew(table, descent, was, seat);
     Ok(InsertOut::Restructured)
 }
 
-/// What an insert does at an inner tuple: it goes down a node, puts one in, or splits the tuple.
-pub(crate) fn at_inner<O: OpClass>(
+/// Does what was chosen at an inner tuple: it goes down a node, puts one in, or splits the tuple.
+fn apply<O: OpClass>(
     alloc: Global,
-    class: &O,
     table: &mut PageTable,
     descent: &mut Descent<O>,
     seat: SeatNo,
+    chosen: Chosen<O>,
 ) -> Result<InsertOut, StepRefused>
     requires shape { Shape O.meaning (sheets_of table.old) }
     requires inner { IsAtInner table.old descent.old.stand }
     requires of_key { (key : Option O.Key) × IsCarried O.meaning (sheets_of table.old) descent.old key }
     requires stands { Stands table.old descent.old }
-    ensures ok { IfOk result (λ out. IsStepOut O.meaning table.old table.new descent.old descent.new seat out) }
-    ensures latches { IfOk result (λ out. InsertHolds table.old seat descent.old → HoldsAfter table.new seat descent.new out) }
-    ensures ends { IfOk result (λ out. TakesOne O.meaning table.old table.new descent.old descent.new out) }
-    ensures makes { IfOk result (λ _. MakesAtMostOne table.old table.new) }
+    requires chosen { IsChosen {O = O} O.meaning table.old descent.old chosen }
+    ensures does { IfOk result (λ out. Does O.meaning table.old table.new descent.old descent.new seat out) }
     ensures full { IsErrOf result IndexFull → IsOutgrown table.old descent.old × IsNearLimit table.old }
     ensures clock { IsErrOf result ClockFull → IsOutgrown table.old descent.old × (table.old.clock + 1 ≡ 2 ^ 48) }
     ensures err { OnErr result (table.new ≡ table.old) }
     ensures err_descent { OnErr result (descent.new ≡ descent.old) }
 {
-    match choose(alloc, class, table, descent)? {
+    match chosen {
         Chosen::Node {
             node,
             rest,
@@ -231,4 +219,26 @@ pub(crate) fn at_inner<O: OpClass>(
             Ok(InsertOut::Restructured)
         }
     }
+}
+
+/// What an insert does at an inner tuple: it asks the class, and does what was chosen.
+pub(crate) fn at_inner<O: OpClass>(
+    alloc: Global,
+    class: &O,
+    table: &mut PageTable,
+    descent: &mut Descent<O>,
+    seat: SeatNo,
+) -> Result<InsertOut, StepRefused>
+    requires shape { Shape O.meaning (sheets_of table.old) }
+    requires inner { IsAtInner table.old descent.old.stand }
+    requires of_key { (key : Option O.Key) × IsCarried O.meaning (sheets_of table.old) descent.old key }
+    requires stands { Stands table.old descent.old }
+    ensures does { IfOk result (λ out. Does O.meaning table.old table.new descent.old descent.new seat out) }
+    ensures full { IsErrOf result IndexFull → IsOutgrown table.old descent.old × IsNearLimit table.old }
+    ensures clock { IsErrOf result ClockFull → IsOutgrown table.old descent.old × (table.old.clock + 1 ≡ 2 ^ 48) }
+    ensures err { OnErr result (table.new ≡ table.old) }
+    ensures err_descent { OnErr result (descent.new ≡ descent.old) }
+{
+    let chosen = choose(alloc, class, table, descent)?;
+    apply(alloc, table, descent, seat, chosen)
 }

@@ -54,6 +54,6 @@ returns-in-Match g c =
       rest_ok m g.O.OpClass.matches t d c.requires.shape c.requires.inner c.requires.stands c.args.recon.now c.requires.recon c.requires.main key C c.in-Match.node c.in-Match.rest eq,
       (λ other D. subst (λ (n : ℕ). GoesBelow m d.recon (frame_in (tuple_at t (tuple_place d.stand))) n c.in-Match.rest other) (sym en)
           (goes m g.O.OpClass.matches t d c.requires.shape c.requires.inner c.requires.stands c.args.recon.now c.requires.recon c.requires.main other D c.in-Match.node c.in-Match.rest c.counter.result low eq)),
-      inr (c.in-Match.node, (c.args.recon.now, c.requires.recon, eq), en ∙ ap (λ (n : ℕ). named n (frame_in (tuple_at t (tuple_place d.stand))) c.in-Match.node) c.counter.ensures.value),
+      inr (c.in-Match.node, (c.args.recon.now, c.requires.recon, eq), en ∙ ap (λ (n : ℕ). named n (frame_in (tuple_at t (tuple_place d.stand))) c.in-Match.node) c.counter.ensures.value, ap (λ (v : Frame). v.all_same) ew),
       ap Some (c.in_ok-below-in-Match.ensures ∙ ap (λ (v : Frame). m.down c.args.recon.now v c.named-node.result) ew) ∙ ap (λ (r : Option _). down_of m r (frame_in (tuple_at t (tuple_place d.stand))) c.named-node.result) (sym c.requires.recon),
     )
