@@ -9,8 +9,8 @@ pub mod Ends
 pub mod Inners
 pub mod Rewriting
 pub mod Settles
-pub mod Founds
 pub mod Slots
+pub mod Sweeps
 pub mod Steps
 pub mod Inserts
 pub mod Going
