@@ -1,25 +1,34 @@
 //! A scan holds chains that other seats move and divide before it reads them.
 
-ghost use Rattle.std.specs.Prelude.{◌≡◌, OnOk};
+ghost use Rattle.std.specs.Prelude.{◌≡◌};
 ghost use Rattle.spg_core.specs.Stage.{free};
 ghost use Rattle.spg_core.specs.Seen.{stage_at};
 
-use crate::driver::insert;
 use spg_base::{List, Memory, Point, PointCond, Row, SeatNo};
-use spg_core::{Closed, OpenKind, State};
+use spg_core::{Closed, InsertRan, OpenKind, State};
 use spg_opclass::Query;
 use spg_quad::Quad;
-use std::alloc::Global;
 use std::test::Fail;
 
+/// Seat 0 inserts the point 0,0. False where it is refused.
+fn insert(state: &mut State<Quad>, row: Row) -> Result<bool, Memory>
+    requires { stage_at state.old 0 ≡ free }
+{
+    if let Err(_) = state.open_insert(SeatNo::first(), row, Some(Point { x: 0, y: 0 })) {
+        return Ok(false);
+    }
+    match state.insert_through(SeatNo::first()) {
+        Ok(InsertRan::Put) => Ok(true),
+        Ok(InsertRan::Restarted { .. }) => Ok(false),
+        Err(_) => Err(Memory),
+    }
+}
+
 /// Seat 0 inserts so many equal points with rows of the block.
-fn fill(alloc: Global, state: &mut State<Quad>, block: u32, count: u16) -> Result<(), Memory> {
-    let mut log = Vec::new(alloc);
+fn fill(state: &mut State<Quad>, block: u32, count: u16) -> Result<(), Memory> {
     for index in 0..count {
-        log.clear();
         if let OpenKind::Nothing = state.open_of(SeatNo::first()) {
-            let row = Row::at(block, index + 1);
-            insert(state, row, Some(Point { x: 0, y: 0 }), &mut log)?;
+            insert(state, Row::at(block, index + 1))?;
         }
     }
     Ok(())
@@ -45,7 +54,7 @@ fn gives_each_row_of_a_chain_that_left(rt: HostRuntime) -> Result<(), Fail> {
         return Ok(());
     };
     let mut state = State::new(rt.alloc(), Quad, 65536)?;
-    fill(rt.alloc(), &mut state, 1, 300)?;
+    fill(&mut state, 1, 300)?;
     let mut conds = List::new(rt.alloc());
     conds.push(PointCond::Eq(Point { x: 0, y: 0 }))?;
     if let OpenKind::Nothing = state.open_of(seat) {
@@ -53,7 +62,7 @@ fn gives_each_row_of_a_chain_that_left(rt: HostRuntime) -> Result<(), Fail> {
     }
     assert_eq!(rt; go_on(&mut state, seat)?.is_none(), true);
     assert_eq!(rt; state.open_of(seat), OpenKind::Scan { held: 8 });
-    fill(rt.alloc(), &mut state, 2, 10_000)?;
+    fill(&mut state, 2, 10_000)?;
     for _ in 0..u64::MAX {
         if let Some(closed) = go_on(&mut state, seat)? {
             assert_eq!(rt; closed.rows.len(), 10_300);

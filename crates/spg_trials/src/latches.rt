@@ -86,7 +86,7 @@ fn open(state: &mut State<Quad>, seat: SeatNo, call: Call) -> Result<Answer, Mem
 }
 
 /// What a call answers.
-fn answer(state: &mut State<Quad>, seat: SeatNo, call: Call) -> Result<Answer, Memory> {
+fn answer_of(state: &mut State<Quad>, seat: SeatNo, call: Call) -> Result<Answer, Memory> {
     match (state.open_of(seat), call) {
         (OpenKind::Nothing, _) => open(state, seat, call),
         (OpenKind::Insert, Call::Step) => Ok(after_step(state.insert_step(seat))),
@@ -147,7 +147,7 @@ fn sends_back_who_meets_a_latch(rt: HostRuntime) -> Result<(), Fail> {
         let Some(seat) = SeatNo::new(number) else {
             continue;
         };
-        assert_eq!(rt; (call, answer(&mut state, seat, call)?), (call, wanted));
+        assert_eq!(rt; (call, answer_of(&mut state, seat, call)?), (call, wanted));
     }
     Ok(())
 }

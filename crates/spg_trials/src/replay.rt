@@ -7,7 +7,7 @@ use spg_rows::{Event, Journal};
 use std::alloc::Global;
 
 /// The rows of the list are 1.1, 1.2 and so on, so many.
-pub(crate) const ROWS: u16 = 900;
+pub(crate) const ROWS: u16 = 3_000;
 
 /// What is known of a row: its key, and the positions of the events that put and deleted it.
 #[derive(Clone, Copy)]
@@ -73,13 +73,14 @@ fn index_of(row: Row) -> usize {
 }
 
 /// What is known while a journal is replayed: the rows, and where each seat's last scan opened.
-struct Replay {
+#[derive(Drop)]
+struct Known {
     lives: Vec<Life>,
     opened: Vec<u64>,
 }
 
-impl Replay {
-    fn new(alloc: Global) -> Result<Replay, Memory> {
+impl Known {
+    fn new(alloc: Global) -> Result<Known, Memory> {
         let unknown = Life {
             key: None,
             put: None,
@@ -89,7 +90,7 @@ impl Replay {
         lives.resize(usize::from(ROWS), unknown)?;
         let mut opened = Vec::new(alloc);
         opened.resize(64, 0)?;
-        Ok(Replay { lives, opened })
+        Ok(Known { lives, opened })
     }
 
     /// Takes an event that is no close of a scan. False where it does not fit what is known.
@@ -152,7 +153,7 @@ impl Replay {
 
 /// How many scans the journal closes. None where an event does not fit those before it.
 pub(crate) fn replay(alloc: Global, journal: &Journal<Quad>) -> Result<Option<u32>, Memory> {
-    let mut known = Replay::new(alloc)?;
+    let mut known = Known::new(alloc)?;
     let mut closes: u32 = 0;
     let mut at: u64 = 0;
     for event in journal.as_slice() {
