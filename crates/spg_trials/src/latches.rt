@@ -48,10 +48,12 @@ fn after_step(out: Result<InsertOut, StepRefused>) -> Answer {
     match out {
         Ok(InsertOut::Descended) => Answer::Descended,
         Ok(InsertOut::Restructured) => Answer::Restructured,
-        Ok(InsertOut::Restarted {
-            block: Block(block),
-            by,
-        }) => Answer::Restarted(block, by.number()),
+        Ok(
+            InsertOut::Restarted {
+                block: Block(block),
+                by,
+            },
+        ) => Answer::Restarted(block, by.number()),
         Ok(InsertOut::Put) => Answer::Put,
         Err(_) => Answer::Refused,
     }

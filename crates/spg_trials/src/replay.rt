@@ -21,7 +21,10 @@ struct Life {
 fn asks_for(query: &Query<Quad>, key: Option<Point>) -> bool {
     match (query, key) {
         (Query::All, _) | (Query::Null, None) => true,
-        (Query::Where(conds), Some(point)) => conds.as_slice().iter().all(|cond| meets(*cond, point)),
+        (Query::Where(conds), Some(point)) => conds
+            .as_slice()
+            .iter()
+            .all(|cond| meets(*cond, point)),
         _ => false,
     }
 }
@@ -44,7 +47,13 @@ fn must_be_found(life: &Life, opened: u64) -> bool {
 }
 
 /// What a scan gave is right.
-fn is_right(alloc: Global, lives: &[Life], query: &Query<Quad>, opened: u64, rows: &Rows) -> Result<bool, Memory> {
+fn is_right(
+    alloc: Global,
+    lives: &[Life],
+    query: &Query<Quad>,
+    opened: u64,
+    rows: &Rows,
+) -> Result<bool, Memory> {
     let mut given = Vec::new(alloc);
     given.resize(lives.len(), false)?;
     for row in rows.as_slice() {
