@@ -1,10 +1,18 @@
-use Rattle.std.proofs.Common.{rules, ◌≡◌, ◌+◌, ◌^◌, ℤ, subst, inl, inr}
+use Rattle.std.proofs.Common.{rules, ◌≡◌, ◌⊎◌, ◌+◌, ◌^◌, ℤ, subst, sym, inl, inr}
 use Rattle.std.specs.Int.{w16}
 use Rattle.std.proofs.lemmas.Int.{to_z-of_z}
 use Rattle.spg_move.specs.Nodes.{IsNodeAdded, FitsWider, wider_want}
 use Rattle.spg_move.specs.Tables.{NodeTable}
 use Rattle.spg_tree.specs.Pick.{IsFull}
+use Rattle.spg_core.proofs.Ticks.{add_ticks}
+use Rattle.std.specs.Prelude.{IsErrOf}
+use Rattle.std.proofs.Common.{Ok}
+use Rattle.spg_tree.specs.declared.stand.StepRefused.TheVariants.{ClockFull, Memory}
 use Rattle.spg_core.proofs.inner.widen.Goals as goal
+
+no_error : {T E : Type 0} (x : T) (first second : E) → IsErrOf {T = T} {E = E} (Ok x) first ⊎ IsErrOf {T = T} {E = E} (Ok x) second → ⊥
+no_error x first second (inl h) = cc
+no_error x first second (inr h) = cc
 
 pub returns-clause-does : goal.returns-clause-does
 returns-clause-does g c =
@@ -31,3 +39,11 @@ returns-in_err-add_node-clause-clock_where g c = λ h.
     let d = c.args.descent.now in
     let (big, at_end) = subst (λ (label : ℤ). (FitsWider t d c.args.at label → ⊥) × (t.clock + 1 ≡ 2 ^ 48)) (to_z-of_z w16 c.args.label c.ranges.label) (c.in_err-add_node.ensures.clock (search rules)) in
     inr (inr (c.requires.inner, (c.args.at, c.args.label, c.requires.chosen.1, big)))
+
+pub returns-clause-clock_first : goal.returns-clause-clock_first
+returns-clause-clock_first g c = λ ticks at_end.
+    let t = c.args.table.now in
+    let d = c.args.descent.now in
+    let big = add_ticks g.O.OpClass.meaning t d c.args.at c.args.label c.requires.inner c.requires.chosen.1 ticks in
+    let first = c.in_ok-add_node.ensures.clock_first (subst (λ (label : ℤ). FitsWider t d c.args.at label → ⊥) (sym (to_z-of_z w16 c.args.label c.ranges.label)) big) at_end in
+    absurd (no_error c.in_ok-add_node.field-0 ClockFull Memory first)
