@@ -23,8 +23,7 @@ use Rattle.spg_scan.proofs.CoverKeys.{HasAsked}
 use Rattle.spg_scan.proofs.CoverLists.{IsPlaceIn}
 use Rattle.spg_scan.proofs.CoverNodes.{contains_none}
 use Rattle.spg_scan.proofs.CoverRoots.{roots_hold}
-use Rattle.spg_scan.proofs.Lists.{held_spot, spot_held, copied_held}
-use Rattle.spg_scan.proofs.Gathering.{held_no_leaves, held_no_inner}
+use Rattle.spg_scan.proofs.Lists.{held_spot, spot_held, copied_held, held_no_leaves, held_no_inner}
 
 -- held places and no other items
 held_holds : {Key Recon Cond : Type 0} (m : Meaning Key Recon Cond) (S : Sheets) (c : ℕ) (ys : List (Place × Option Recon)) (read needed : RowAt → Type 0) → ScanHolds (tree_of m S) (start_of m) c (IsPlaceIn ys) read needed → ScanHolds (tree_of m S) (start_of m) c (Spots m (hold_all ys)) read needed
