@@ -1,29 +1,28 @@
 -- What a section of an insert leaves of a state.
-use Rattle.std.proofs.Common.{◌≡◌, ◌⊎◌, ◌<◌, ◌+◌, inl, inr, ⊎_elim, ℕ, suc, Bool, true, false, cond, Some, List, [], ◌∷◌, ◌++◌, length, get_or, set, Option, Vec, refl, sym, ap, ◌∙◌, subst, get_or-set_same, length-set, map}
+use Rattle.std.proofs.Common.{◌≡◌, ◌<◌, ◌+◌, ℕ, suc, Bool, true, false, List, [], ◌∷◌, ◌++◌, length, get_or, set, Option, Vec, refl, sym, ap, ◌∙◌, subst, get_or-set_same, length-set, map}
 use Rattle.std.specs.Prelude.{is_none}
 use Rattle.std.specs.declared.alloc.Global.{Global}
 use Rattle.spg_base.specs.Row.{RowAt}
 use Rattle.spg_opclass.specs.Meaning.{Meaning}
 use Rattle.spg_opclass.specs.Laws.{CodeLaw}
-use Rattle.spg_forest.specs.Section.{Adds}
 use Rattle.spg_forest.specs.Walk.{weight_of}
 use Rattle.spg_rows.specs.declared.event.Event.TheVariants.{Put}
 use Rattle.spg_rows.specs.declared.table.RowState.TheVariants as row_state
-use Rattle.spg_rows.specs.History.{Written, History, inserting}
+use Rattle.spg_rows.specs.History.{Written, History}
 use Rattle.spg_rows.specs.Table.{Table, state_in, SetsState, SameKeys}
 use Rattle.spg_tree.specs.Table as pages
 use Rattle.spg_tree.specs.Table.{sheets_of}
-use Rattle.spg_tree.specs.Descents.{Descending, in_nulls}
-use Rattle.spg_seats.specs.Descending.{HasInnerRoot, ChangesHeld}
+use Rattle.spg_tree.specs.Descents.{Descending}
+use Rattle.spg_seats.specs.Descending.{ChangesHeld}
 use Rattle.spg_seats.specs.Latching.{AreHeld, InsertHolds, rest_of}
-use Rattle.spg_seats.specs.Slots.{Stage, free, descending, is_open, stage_holds, stage_in, StageFits, HasLatches, opened_keys}
+use Rattle.spg_seats.specs.Slots.{Stage, free, descending, is_open, stage_in, StageFits, HasLatches, opened_keys}
 use Rattle.spg_seats.proofs.Holding.{latches_law}
 use Rattle.spg_core.specs.declared.answer.InsertOut.{InsertOut}
 use Rattle.spg_core.specs.declared.answer.InsertOut.TheVariants as outs
 use Rattle.spg_core.specs.declared.slot.Slot.{Slot}
 use Rattle.spg_core.specs.declared.slot.Slot.TheVariants.{Free, Insert, Scan}
 use Rattle.spg_core.specs.declared.state.State.TheInside.{Inside}
-use Rattle.spg_core.specs.Stepping.{SamePages, MakesAtMostOne, GoesOn, RootsGrow, IsOutgrown, IsStepOut}
+use Rattle.spg_core.specs.Stepping.{SamePages, MakesAtMostOne, IsStepOut}
 use Rattle.spg_core.specs.Telling.{StepTells, StepDone}
 use Rattle.spg_core.specs.Ends.{EndsWithin, StageEnds, SeatEnds, SeatThenEnds}
 use Rattle.spg_core.specs.Operations.{CanStep, IsOutgrownBy, StepsFrom, IsInsert, IsRowOf}
@@ -36,7 +35,7 @@ use Rattle.spg_core.specs.Kept.{fields_of, seen_of, IsState}
 use Rattle.spg_core.proofs.Weights.{nulls_key}
 use Rattle.spg_core.proofs.Keeping.{outgrown_heavy, its_held, section_changes, step_keeps, put_keeps}
 use Rattle.spg_core.proofs.Slots.{set_twice, stages_set, stage_set, stage_get, stage_is, past_is, table_is, moved_is, logged_is, seen_as}
-use Rattle.spg_core.proofs.Steps.{with_fields, past, sane, seats, fits, held, low, room_on, room_ended, unswept_then, insert_claimed}
+use Rattle.spg_core.proofs.Steps.{with_fields, past, seats, low, room_on, room_ended, unswept_then, insert_claimed}
 
 -- what a seat has latched is its own, and what it has not is not
 pub none_held : (t t2 : pages.Table) (seat : ℕ) → AreHeld t2 seat (rest_of t seat) (λ b. false) → HasNone t2 seat

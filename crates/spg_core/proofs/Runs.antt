@@ -1,6 +1,5 @@
 -- What calls of any seats keep, one after another.
-use Rattle.std.proofs.Common.{◌≡◌, ◌≢◌, ◌⊎◌, ◌≤◌, ◌++◌, inl, inr, ⊎_elim, ℕ, Bool, true, false, cond, nat_eq, List, [], ◌∷◌, Option, Some, length, reverse, refl, sym, ap, ap₂, ◌∙◌, subst}
-use Rattle.std.proofs.lemmas.Bool.{cases_eq, eq-eqb, ne_eqb}
+use Rattle.std.proofs.Common.{◌≡◌, ◌++◌, inl, ℕ, Bool, true, false, cond, nat_eq, List, [], ◌∷◌, Option, Some, length, reverse, refl, sym, ap, ◌∙◌, subst}
 use Rattle.std.proofs.lemmas.List.{append_assoc, append-nil, length-reverse}
 use Rattle.spg_base.specs.Row.{RowAt}
 use Rattle.spg_forest.specs.Pages.{IsFresh}
@@ -20,7 +19,7 @@ use Rattle.spg_scan.specs.Scanning.{Scanning, opened}
 use Rattle.spg_scan.specs.Reading.{IsReadOut}
 use Rattle.spg_scan.specs.declared.walk.ReadOut.{ReadOut}
 use Rattle.spg_scan.specs.declared.walk.ReadOut.TheVariants.{Read, Latched}
-use Rattle.spg_seats.specs.Latching.{AreHeld, HoldsNone, InsertHolds, rest_of}
+use Rattle.spg_seats.specs.Latching.{AreHeld, HoldsNone, rest_of}
 use Rattle.spg_seats.specs.Slots.{Stage, free, descending, reading, stage_in, stage_holds, StageFits, Fields, IsKept}
 use Rattle.spg_seats.proofs.Calls as calls
 use Rattle.spg_seats.proofs.Slots.{more_room}
@@ -28,7 +27,7 @@ use Rattle.spg_core.specs.declared.answer.InsertOut.{InsertOut}
 use Rattle.spg_core.specs.declared.answer.InsertOut.TheVariants as outs
 use Rattle.spg_core.specs.Seen.{untouched}
 use Rattle.spg_core.specs.Telling.{StepDone}
-use Rattle.spg_core.specs.Runs.{Call, refused, opens_insert, steps, kills, opens_scan, reads, closes, drops, leaves, put_by, events_of, Goes, StepsTo, Does, Runs, events_by, RunsKeep}
+use Rattle.spg_core.specs.Runs.{Call, refused, opens_insert, steps, kills, opens_scan, reads, closes, drops, leaves, put_by, events_of, Goes, StepsTo, Does, events_by, RunsKeep}
 use Rattle.spg_core.proofs.Keeping.{fresh_row, stage_held, stage_fits, step_keeps, put_keeps}
 use Rattle.spg_core.proofs.Opens.{opened_row, opened_stands, opened_holds}
 use Rattle.spg_core.proofs.Scans.{once_taken}
@@ -143,9 +142,11 @@ module _ {O Key Recon Cond : Type 0} (m : Meaning Key Recon Cond) where
   pub runs_keep : KeptLaw m → CodeLaw m → RunsKeep O Key Recon Cond m
   runs_keep K L s s2 [] kept is = (subst (IsKept m) (sym is) kept, λ seat. ap (λ (f : Fields O Key Recon Cond). own seat f.journal) is ∙ sym (append-nil (own seat s.journal)))
   runs_keep K L s s2 ((by, call) ∷ calls) kept (s1, does, more) =
-      let (kept2, owns) = runs_keep K L s1 s2 calls (one_keeps K L s s1 kept by call does) more in
-      (kept2, λ seat.
-      owns seat
-      ∙ ap (λ l. own seat l ++ events_by seat calls) (longer s s1 by call does)
-      ∙ ap (λ l. l ++ events_by seat calls) (own_append seat s.journal (events_of by call) ∙ ap (λ l. own seat s.journal ++ l) (own_events seat by call))
-      ∙ append_assoc (own seat s.journal) (cond (nat_eq by seat) (events_of by call) []) (events_by seat calls))
+      let (kept2, owns) = runs_keep K L s1 s2 calls (one_keeps K L s s1 kept by call does) more in (
+        kept2,
+        λ seat.
+            owns seat
+            ∙ ap (λ l. own seat l ++ events_by seat calls) (longer s s1 by call does)
+            ∙ ap (λ l. l ++ events_by seat calls) (own_append seat s.journal (events_of by call) ∙ ap (λ l. own seat s.journal ++ l) (own_events seat by call))
+            ∙ append_assoc (own seat s.journal) (cond (nat_eq by seat) (events_of by call) []) (events_by seat calls),
+      )

@@ -10,16 +10,14 @@ use Rattle.spg_base.specs.declared.recorded.Origin.{Origin}
 use Rattle.spg_opclass.specs.Meaning.{Meaning}
 use Rattle.spg_forest.specs.Pages.{IsFresh}
 use Rattle.spg_forest.specs.Shape.{spots}
-use Rattle.spg_forest.proofs.Keeping.{entry_of}
 use Rattle.spg_rows.specs.declared.event.Event.{Event}
 use Rattle.spg_rows.specs.declared.table.RowState.TheVariants as row_state
 use Rattle.spg_rows.specs.History.{Written, History, nothing, inserting, open_of}
-use Rattle.spg_rows.specs.Rows.{is_claimed, is_present, state_of, sweeps_one, sweep_count}
+use Rattle.spg_rows.specs.Rows.{is_claimed, state_of, sweeps_one, sweep_count}
 use Rattle.spg_rows.specs.Lives.{lives}
 use Rattle.spg_rows.specs.Told.{IsUsed}
 use Rattle.spg_rows.specs.Table.{Table, state_in}
 use Rattle.spg_rows.proofs.Histories.{Sane, sane_from_legal, free_claims}
-use Rattle.spg_rows.proofs.Uses.{present_claimed}
 use Rattle.spg_rows.proofs.Told.{state_used}
 use Rattle.spg_tree.specs.Table as pages
 use Rattle.spg_tree.specs.Table.{sheets_of, latch_at}

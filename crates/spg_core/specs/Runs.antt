@@ -1,17 +1,17 @@
 -- Calls of any seats in any order.
-use Rattle.std.specs.Prelude.{◌≡◌, ◌≢◌, ◌≤◌, ◌++◌, ℕ, Bool, true, false, List, [], ◌∷◌, Option, length, reverse, slice_set, if◌then◌else◌, ◌==◌}
+use Rattle.std.specs.Prelude.{◌≡◌, ◌≤◌, ◌++◌, ℕ, true, false, List, [], ◌∷◌, Option, length, reverse, slice_set, if◌then◌else◌, ◌==◌}
 use Rattle.spg_base.specs.Row.{RowAt}
 use Rattle.spg_opclass.specs.Meaning.{Meaning}
 use Rattle.spg_opclass.specs.declared.query.Query.{Query}
 use Rattle.spg_rows.specs.declared.event.Event.{Event}
 use Rattle.spg_rows.specs.declared.event.Event.TheVariants as event
 use Rattle.spg_rows.specs.declared.event.Why.{Why}
-use Rattle.spg_rows.specs.History.{History, own}
+use Rattle.spg_rows.specs.History.{own}
 use Rattle.spg_rows.specs.Rows.{is_claimed, is_live}
 use Rattle.spg_tree.specs.Table.{Table}
 use Rattle.spg_tree.specs.Descents.{Descending}
 use Rattle.spg_descend.specs.Enters.{opened_for, CarriesNew}
-use Rattle.spg_scan.specs.Scanning.{Scanning, IsClosing, opened, emptied}
+use Rattle.spg_scan.specs.Scanning.{Scanning, IsClosing, opened}
 use Rattle.spg_scan.specs.Reading.{IsReadOut}
 use Rattle.spg_scan.specs.declared.walk.ReadOut.{ReadOut}
 use Rattle.spg_scan.specs.declared.walk.Closed.{Closed}

@@ -1,13 +1,16 @@
 ghost use Rattle.std.specs.Prelude.{◌≡◌, ◌≢◌, ◌<◌, ◌≤◌, ◌+◌, ◌^◌, ◌↔◌, ◌⊎◌, [], ℕ, suc, Option, Some, None, IfOk, OnOk, OnErr, IsErrOf, IsTrue};
 ghost use Rattle.spg_base.specs.declared.recorded.Origin.{Origin};
 ghost use Rattle.spg_forest.specs.Shape.{Represents};
+ghost use Rattle.spg_base.specs.Row.{RowAt};
+ghost use Rattle.spg_rows.specs.Table.{state_in, key_in};
+ghost use Rattle.spg_rows.specs.Rows.{state_of};
 ghost use Rattle.spg_rows.specs.Told.{IsUsed};
 ghost use Rattle.spg_rows.specs.Right.{Right};
 ghost use Rattle.spg_rows.specs.declared.table.RowState.TheVariants as row_state;
 ghost use Rattle.spg_rows.specs.declared.event.Event.TheVariants as event;
 ghost use Rattle.spg_rows.specs.History.{open_of};
 ghost use Rattle.spg_tree.specs.Table.{sheets_of};
-ghost use Rattle.spg_seats.specs.Slots.{StageFits, LatchesAre};
+ghost use Rattle.spg_seats.specs.Slots.{StageFits, LatchesAre, kept_key};
 ghost use Rattle.spg_seats.specs.Descending.{ChangesHeld};
 ghost use Rattle.spg_core.specs.Stage.{free, IsInserting, IsRead, IsStageOf, MayGiveUp, held_count, kind_of};
 ghost use Rattle.spg_core.specs.Seen.{stage_at, past_of, IsPresentWith};
@@ -102,6 +105,14 @@ impl<O: OpClass> State<O> {
         &self.journal
     }
 
+    /// The state of each row, and the key of each that is not free. They are what the journal says.
+    pub fn rows(&self) -> &RowTable<O>
+        ensures states { (row : RowAt) → state_in result.now row ≡ state_of row (past_of self.now) }
+        ensures keys { (row : RowAt) → key_in result.now row ≡ kept_key row (past_of self.now) }
+    {
+        &self.rows
+    }
+
     /// The pages. They are well formed and hold just the rows that are present, each with its key. A
     /// root is an inner tuple only where the keys of its tree that were ever inserted take more than
     /// 8,160 bytes. A block is latched by a seat exactly where the seat's open insert stands on it or
@@ -179,18 +190,19 @@ impl<O: OpClass> State<O> {
         Ok(())
     }
 
-    /// The next section of an insert. `Descended` where it comes to the root, or from an inner tuple
-    /// to the child or the empty downlink of a node. `Restructured` where the leaves are divided
-    /// without its own, where a node is put into the inner tuple at which it stands, and where that
-    /// tuple is split. `Put` where the row is put, and the insert has ended. `IndexFull` only where a
-    /// pick of the section finds no page, and fewer than 4 blocks are left below the limit. `ClockFull`
-    /// where a chain moves, one below a root is divided, or a tuple with one more node does not fit in
-    /// its place, and the clock is 2^48 - 1. Both only where the keys of its tree that were ever
-    /// inserted take more than 8,160 bytes. `Restarted` exactly where the root or child to be visited stands on
-    /// a block that another seat has latched: the insert is at its start then. It changes only blocks
-    /// that the seat had latched or that nobody had; at its start, and once its row is put, the seat
-    /// has latched none. The latches of the other seats stay. It makes one inner tuple at most, and
-    /// takes one of the sections that may come yet.
+    /// The next section of an insert. `Descended` where it comes to the root, or from an inner
+    /// tuple to the child or the empty downlink of a node. `Restructured` where the leaves are
+    /// divided without its own, where a node is put into the inner tuple at which it stands, and
+    /// where that tuple is split. `Put` where the row is put, and the insert has ended. `IndexFull`
+    /// only where a pick of the section finds no page, and fewer than 4 blocks are left below the
+    /// limit. `ClockFull` where a chain moves, one below a root is divided, or a tuple with one
+    /// more node does not fit in its place, and the clock is 2^48 - 1. Both only where the keys of
+    /// its tree that were ever inserted take more than 8,160 bytes. `Restarted` exactly where the
+    /// root or child to be visited stands on a block that another seat has latched: the insert is
+    /// at its start then. It changes only blocks that the seat had latched or that nobody had; at
+    /// its start, and once its row is put, the seat has latched none. The latches of the other
+    /// seats stay. It makes one inner tuple at most, and takes one of the sections that may come
+    /// yet.
     pub fn insert_step(&mut self, seat: SeatNo) -> Result<InsertOut, StepRefused>
         requires inserting { IsInserting (stage_at self.old seat) }
         ensures ok { IfOk result (λ out. IsInsertOut self.old self.new seat out) }

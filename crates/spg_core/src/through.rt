@@ -4,7 +4,7 @@ ghost use Rattle.spg_core.specs.Stage.{IsInserting};
 ghost use Rattle.spg_core.specs.Seen.{stage_at};
 ghost use Rattle.spg_core.specs.Stepping.{IsNearLimit};
 ghost use Rattle.spg_seats.specs.Descending.{ChangesHeld};
-ghost use Rattle.spg_core.specs.Sections.{IsHeavy, OthersHold};
+ghost use Rattle.spg_core.specs.Sections.{IsHeavy, OthersHold, SeatFindsNoPage, SeatTicks};
 ghost use Rattle.spg_core.specs.Through.{StillInserts, RunsThrough};
 
 use crate::answer::{InsertOut, InsertRan};
@@ -29,6 +29,8 @@ impl<O: OpClass> State<O> {
         ensures within { ChangesHeld self.old.table self.new.table seat }
         ensures full { IsErrOf result IndexFull → IsHeavy O.meaning self.new seat × IsNearLimit self.new.table }
         ensures clock { IsErrOf result ClockFull → IsHeavy O.meaning self.new seat × (self.new.table.clock + 1 ≡ 2 ^ 48) }
+        ensures full_where { IsErrOf result IndexFull → SeatFindsNoPage O.meaning self.new seat }
+        ensures clock_where { IsErrOf result ClockFull → SeatTicks O.meaning self.new seat }
         ensures err { OnErr result (StillInserts self.old self.new seat) }
     {
         // Each section takes one of those that may come yet, and these are fewer than 2^64, so a return
