@@ -1,6 +1,7 @@
 -- Pages at another moment of the clock, and inserts of nulls over them.
-use Rattle.std.proofs.Common.{◌≡◌, ℕ, ◌<◌, ◌≤◌, ◌&&◌, not, Bool, true, false, List, Option, Some, None, Result, Ok, Err, length, refl, sym, ap, ◌∙◌, subst, inl, arith}
+use Rattle.std.proofs.Common.{[], ◌∷◌, ◌++◌, reverse, ◌≡◌, ℕ, ◌<◌, ◌≤◌, ◌&&◌, not, Bool, true, false, List, Option, Some, None, Result, Ok, Err, length, refl, sym, ap, ◌∙◌, subst, inl, arith}
 use Rattle.std.proofs.lemmas.Bool.{false≢true}
+use Rattle.std.proofs.lemmas.List.{reverse-append}
 use Rattle.spg_base.specs.Row.{RowAt}
 use Rattle.spg_opclass.specs.Meaning.{Meaning, is_tuple}
 use Rattle.spg_opclass.specs.Laws.{MatchLaw}
@@ -15,9 +16,11 @@ use Rattle.spg_forest.proofs.Follows.{match_goes}
 use Rattle.spg_page.specs.Reads.{frame_in}
 use Rattle.spg_forest.proofs.Keeping.{entry_of}
 use Rattle.spg_rows.specs.History.{History}
-use Rattle.spg_rows.specs.Legal.{IsLegal}
-use Rattle.spg_rows.specs.Rows.{is_claimed, is_put, is_swept, is_present}
-use Rattle.spg_rows.proofs.Histories.{sane_from_legal, put_claimed}
+use Rattle.spg_rows.specs.Legal.{IsLegal, IsAllowed}
+use Rattle.spg_rows.specs.Rows.{is_claimed, is_present}
+use Rattle.spg_rows.specs.declared.event.Event.{Event}
+use Rattle.spg_rows.proofs.Histories.{sane_from_legal}
+use Rattle.spg_rows.proofs.Uses.{unclaimed_absent}
 use Rattle.spg_forest.specs.View.{Place}
 use Rattle.spg_forest.specs.Tuples.{Tuple}
 use Rattle.spg_forest.specs.Sheets.{links}
@@ -29,10 +32,15 @@ use Rattle.spg_descend.specs.Leaves.{parent_block, stand_block}
 use Rattle.spg_descend.specs.Follows.{IsAtInner, tuple_place, link_of, stand_below, latched, left_behind, table_below, FollowsNode, CarriesBelow}
 use Rattle.spg_descend.specs.declared.enter.Entered.TheVariants.{In}
 use Rattle.spg_core.specs.Seen.{IsPresentWith}
-use Rattle.spg_core.specs.Stepping.{Stands, StandsAt, SamePages}
+use Rattle.spg_seats.specs.Descending.{Stands, StandsAt}
+use Rattle.spg_core.specs.Stepping.{SamePages}
 use Rattle.spg_core.proofs.Stands.{stands_same, child_stands, released_same, latched_same, same_trans}
 use Rattle.spg_core.proofs.Chooses.{framed, key_given}
 use Rattle.spg_descend.specs.Answers.{IsAnswered}
+
+-- what is last in a legal journal was allowed after the rest
+pub last_allowed : {O Key Recon Cond : Type 0} (events : List (Event O Key Recon Cond)) (e : Event O Key Recon Cond) → IsLegal (reverse (events ++ e ∷ [])) → IsAllowed (reverse events) e × IsLegal (reverse events)
+last_allowed {O} {Key} {Recon} {Cond} events e legal = subst (λ (past : History O Key Recon Cond). IsLegal past) (reverse-append events (e ∷ [])) legal
 
 pub ok_not_err : {T E : Type 0} (r : Result T E) (x : T) (e : E) → r ≡ Ok x → r ≡ Err e → ⊥
 ok_not_err r x e ok err = (cc)
@@ -63,19 +71,12 @@ later m c d ss le H = record {
 }
 
 module _ {O Key Recon Cond : Type 0} (m : Meaning Key Recon Cond) where
-  present_put : (r : RowAt) (past : History O Key Recon Cond) → is_present r past ≡ true → is_put r past ≡ true
-  present_put r past h = go (is_put r past) h
-    where
-      go : (b : Bool) → b && not (is_swept r past) ≡ true → b ≡ true
-      go true h = refl
-      go false h = h
-
   -- no leaf has a row that is not claimed
   pub unclaimed_fresh : (S : Sheets) (past : History O Key Recon Cond) (row : RowAt) → Represents m S (IsPresentWith past) → IsLegal past → is_claimed row past ≡ false → IsFresh (spots S) row
   unclaimed_fresh S past row R legal unclaimed x l a e =
       let (key, h) = entry_of m S x l R.shape a in
       let p : is_present l.row past ≡ true = ((R.entries l.row key).0 h).0 in
-      false≢true (sym unclaimed ∙ ap (λ r. is_claimed r past) (sym e) ∙ put_claimed past (sane_from_legal past legal) l.row (present_put l.row past p))
+      false≢true (sym (unclaimed_absent past (sane_from_legal past legal) l.row (ap (λ r. is_claimed r past) e ∙ unclaimed)) ∙ p)
 
 -- below a node of an inner tuple the pages are the same, and the insert stands again
 pub below : {Key Recon Cond : Type 0} (m : Meaning Key Recon Cond) (t t1 : Table) (d d2 : Descending Recon) (seat node : ℕ) (rest : List ℕ) → Shape m (sheets_of t) → Stands t d → IsAtInner t d.stand → node < length (links (tuple_at t (tuple_place d.stand))) → FollowsNode m t t1 d d2 seat node rest In → Shape m (sheets_of t1) × Stands t1 d2

@@ -6,7 +6,7 @@ ghost use Rattle.spg_tree.specs.Descents.{in_nulls};
 ghost use Rattle.spg_descend.specs.Carried.{IsCarried};
 ghost use Rattle.spg_descend.specs.Follows.{IsAtInner};
 ghost use Rattle.spg_descend.specs.Answers.{IsAnswered};
-ghost use Rattle.spg_core.specs.Stepping.{Stands};
+ghost use Rattle.spg_seats.specs.Descending.{Stands};
 
 use crate::clock::is_at_inner;
 use spg_base::{Bytes, Memory, SeatNo};

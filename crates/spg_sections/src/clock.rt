@@ -7,7 +7,7 @@ ghost use Rattle.spg_tree.specs.Descents.{in_nulls};
 ghost use Rattle.spg_descend.specs.Carried.{IsCarried};
 ghost use Rattle.spg_descend.specs.Enters.{opened_for};
 ghost use Rattle.spg_descend.specs.Follows.{IsAtInner};
-ghost use Rattle.spg_core.specs.Stepping.{Stands};
+ghost use Rattle.spg_seats.specs.Descending.{Stands};
 ghost use Rattle.spg_core.specs.Stage.{free};
 ghost use Rattle.spg_core.specs.Seen.{stage_at};
 
@@ -78,10 +78,13 @@ pub(crate) fn parted<O: OpClass>(
     ensures shape { IfOk result (λ made. Shape O.meaning (sheets_of made)) }
     ensures fresh { IfOk result (λ made. IsFresh (spots (sheets_of made)) row) }
 {
-    let _journal = state.journal();
     let made = at_moment::<O>(alloc, state.pages(), limit, clock)?;
     match state.open_insert(SeatNo::first(), row, None) {
-        Ok(()) => Ok(made),
+        // The journal that has the insert is legal, so the row was not claimed.
+        Ok(()) => {
+            let _journal = state.journal();
+            Ok(made)
+        }
         Err(_) => Err(Memory),
     }
 }

@@ -5,7 +5,7 @@ use Rattle.spg_sections.proofs.LaterPages.{named_node, led_below}
 use Rattle.spg_sections.proofs.answers.follow_to.Goals as goal
 
 pub follow-requires-clause-node : goal.follow-requires-clause-node
-follow-requires-clause-node g c κs within =
+follow-requires-clause-node g c =
     let (key, C) = c.requires.of_key in
     (named_node g.O.OpClass.meaning g.O.OpClass.matches c.args.table.now c.args.descent.now c.requires.shape c.requires.stands c.requires.inner c.requires.main c.args.node c.args.rest c.requires.answer key C).there
 
