@@ -48,8 +48,8 @@ Does speech seat (Find query) ClockFull events = ⊥
 Does speech seat (Find query) Killed events = ⊥
 Does speech seat (Find query) NotLive events = ⊥
 
--- what the journal says where the command begins and where it ends: whether the row of an insert is claimed before, and that of a delete is live; where the index or
--- its clock is full, that the keys of the insert's tree that were ever inserted, with this one, take more than 8,160 bytes
+-- what the journal says where the command begins and where it ends: whether the row of an insert is claimed before, and waits for nobody, and whether that of a
+-- delete is live; where the index or its clock is full, that the keys of the insert's tree that were ever inserted, with this one, take more than 8,160 bytes
 abbrev pub IsDue : {O Key Recon Cond : Type 0} → Meaning Key Recon Cond → Command → Outcome → History O Key Recon Cond → History O Key Recon Cond → Type 0
 IsDue m (Insert row key) Added before past = is_claimed row before ≡ false
 IsDue m (Insert row key) RowUsed before past = IsUsed before row

@@ -45,7 +45,7 @@ fn recorded<O: Spoken>(state: &State<O>, from: u64, outcome: Outcome) -> Record
     }
 }
 
-/// A block is latched by no seat that did nothing.
+/// Where seat 0 alone did something, no other seat has latched a block. Nothing is done here.
 fn only_first_latches<O: Spoken>(state: &State<O>, block: Block, by: SeatNo)
     requires alone { IsAlone state.now.journal }
     requires latched { latch_at state.now.table block ≡ Some by }
@@ -88,6 +88,8 @@ fn key_in<O: Spoken>(class: &O, key: &Option<AnyKey>) -> Result<Option<Option<O:
     }
 }
 
+/// Inserts a row with its key, where the row is not claimed. Where there is no room, or the clock is
+/// at its end, the insert is given up.
 fn insert<O: Spoken>(state: &mut State<O>, row: Row, key: &Option<AnyKey>) -> Result<Record, Memory>
     requires free { stage_at state.old 0 ≡ free }
     requires alone { IsAlone state.old.journal }
@@ -119,6 +121,7 @@ fn insert<O: Spoken>(state: &mut State<O>, row: Row, key: &Option<AnyKey>) -> Re
     }
 }
 
+/// Deletes a row, where it is live.
 fn delete<O: Spoken>(state: &mut State<O>, row: Row) -> Result<Record, Memory>
     requires free { stage_at state.old 0 ≡ free }
     ensures done { IfOk result (Performed O.meaning O.speech state.old state.new (Delete row)) }
@@ -207,6 +210,7 @@ fn read_on<O: Spoken>(state: &mut State<O>, seat: SeatNo) -> Result<(), Memory>
     Err(Memory)
 }
 
+/// Finds rows by a scan that is opened, read to its end and closed.
 fn find<O: Spoken>(alloc: Global, state: &mut State<O>, query: &AnyQuery) -> Result<Record, Memory>
     requires free { stage_at state.old 0 ≡ free }
     requires alone { IsAlone state.old.journal }
