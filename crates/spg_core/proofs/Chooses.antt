@@ -18,7 +18,8 @@ use Rattle.spg_tree.specs.Table.{Table, sheets_of, tuple_at}
 use Rattle.spg_tree.specs.Descents.{Descending, in_nulls}
 use Rattle.spg_descend.specs.Carried.{IsCarried}
 use Rattle.spg_descend.specs.Follows.{IsAtInner, tuple_place}
-use Rattle.spg_core.specs.Stepping.{Stands, named}
+use Rattle.spg_seats.specs.Descending.{Stands}
+use Rattle.spg_core.specs.Stepping.{named}
 use Rattle.spg_core.proofs.Stands.{inner_of, inner_stand}
 
 -- The inner tuple at which an insert stands

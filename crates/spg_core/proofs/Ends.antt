@@ -37,7 +37,8 @@ use Rattle.spg_split.specs.declared.split.SplitOut.TheVariants.{LeftOut}
 use Rattle.spg_move.specs.Nodes.{Widens, IsNodeAdded}
 use Rattle.spg_move.specs.Splits.{PartsTuple}
 use Rattle.spg_core.specs.declared.answer.InsertOut.TheVariants as outs
-use Rattle.spg_core.specs.Stepping.{Stands, SamePages, IsNamed}
+use Rattle.spg_seats.specs.Descending.{Stands}
+use Rattle.spg_core.specs.Stepping.{SamePages, IsNamed}
 use Rattle.spg_core.specs.Ends.{IsNearEnd, EndsAt, EndsWithin, TakesOne}
 use Rattle.spg_core.proofs.Stands.{inner_of, same_trans}
 use Rattle.spg_core.proofs.Moves.{below_same}
@@ -134,7 +135,7 @@ enters_ends {Key} {Recon} m t t2 d d2 start same e = λ n h.
 -- ---- a node is followed
 
 -- the answer that the class gives is one
-one_answer : {Key Recon Cond : Type 0} (m : Meaning Key Recon Cond) (t : Table) (d : Descending Recon) (a b : Choice) → IsAnswered m t d a → IsAnswered m t d b → a ≡ b
+pub one_answer : {Key Recon Cond : Type 0} (m : Meaning Key Recon Cond) (t : Table) (d : Descending Recon) (a b : Choice) → IsAnswered m t d a → IsAnswered m t d b → a ≡ b
 one_answer {Key} {Recon} m t d a b (r, er, ea) (s, es, eb) =
     let same : r ≡ s = (let f : Some r ≡ Some s = sym er ∙ es in cc) in
     sym ea ∙ ap (λ (q : Recon). m.answer q (frame_in (tuple_at t (tuple_place d.stand))) d.rest) same ∙ eb
@@ -147,14 +148,14 @@ module _ {Key Recon Cond : Type 0} (m : Meaning Key Recon Cond) (t : Table) (d :
   x = tuple_place d.stand
 
   -- near the end the node that is followed leads nowhere
-  near_leads : (n node : ℕ) (rest : List ℕ) → IsNamed m t d node rest → IsNearEnd m t d n → (link_of t x node ≡ None) × (2 ≤ n)
-  near_leads n node rest (inl (absent, turn)) (i, inl (two, (other, left, (r, er, ea), nowhere, plain))) = absurd (let f : None ≡ Some r = sym absent ∙ er in cc)
-  near_leads n node rest (inl (absent, turn)) (i, inr (three, (r, child, er, goes, others, plain))) = absurd (let f : None ≡ Some r = sym absent ∙ er in cc)
-  near_leads n node rest (inr (answer, is, e)) (i, inl (two, (other, left, was, nowhere, plain))) =
+  near_leads : (n node : ℕ) (rest : List ℕ) (by_turn : Bool) → IsNamed m t d node rest by_turn → IsNearEnd m t d n → (link_of t x node ≡ None) × (2 ≤ n)
+  near_leads n node rest by_turn (inl (absent, turn, none, turned)) (i, inl (two, (other, left, (r, er, ea), nowhere, plain))) = absurd (let f : None ≡ Some r = sym absent ∙ er in cc)
+  near_leads n node rest by_turn (inl (absent, turn, none, turned)) (i, inr (three, (r, child, er, goes, others, plain))) = absurd (let f : None ≡ Some r = sym absent ∙ er in cc)
+  near_leads n node rest by_turn (inr (answer, is, e, turned)) (i, inl (two, (other, left, was, nowhere, plain))) =
       let same : answer ≡ other = same_match answer other rest left (one_answer m t d (Match answer rest) (Match other left) is was) in
       let here : node ≡ answer = rw plain at e in
       (ap (λ (j : ℕ). link_of t x j) (here ∙ same) ∙ nowhere, two)
-  near_leads n node rest (inr (answer, (s, es, ea), e)) (i, inr (three, (r, child, er, goes, others, plain))) =
+  near_leads n node rest by_turn (inr (answer, (s, es, ea), e, turned)) (i, inr (three, (r, child, er, goes, others, plain))) =
       let same : r ≡ s = (let f : Some r ≡ Some s = sym er ∙ es in cc) in
       let eq : m.answer r (frame_in (tuple_at t x)) d.rest ≡ Match answer rest = ap (λ (q : Recon). m.answer q (frame_in (tuple_at t x)) d.rest) same ∙ ea in
       let off : answer ≡ child → ⊥ = subst (λ (c : Choice). GoesOn child c) eq goes in
@@ -162,11 +163,11 @@ module _ {Key Recon Cond : Type 0} (m : Meaning Key Recon Cond) (t : Table) (d :
       (ap (λ (j : ℕ). link_of t x j) here ∙ others answer off, omega arith)
 
   -- where it leads fewer sections come
-  ends_below : (dz : Descending Recon) (n node : ℕ) (rest : List ℕ) → Shape m (sheets_of t) → IsAtInner t d.stand → IsNamed m t d node rest → EndsWithin m t d (suc n) → EndsAt m t dz n (stand_below (link_of t x node))
-  ends_below dz n node rest H i is h = ⊎_elim
+  ends_below : (dz : Descending Recon) (n node : ℕ) (rest : List ℕ) (by_turn : Bool) → Shape m (sheets_of t) → IsAtInner t d.stand → IsNamed m t d node rest by_turn → EndsWithin m t d (suc n) → EndsAt m t dz n (stand_below (link_of t x node))
+  ends_below dz n node rest by_turn H i is h = ⊎_elim
       (λ r. let (few, each) = ranked_branch (spots (sheets_of t)) n (spot_of x) (frame_in (tuple_at t x)) (links (tuple_at t x)) (inner_spot m t d.stand H i) r in go few each (link_of t x node) refl)
       (λ q.
-      let (none, two) = near_leads (suc n) node rest is q in
+      let (none, two) = near_leads (suc n) node rest by_turn is q in
       let one : 1 ≤ n = omega arith in
       subst (λ (l : Option Place). EndsAt m t dz n (stand_below l)) (sym none) one)
       (from_place m t d (suc n) d.stand i.0 h)
@@ -175,13 +176,13 @@ module _ {Key Recon Cond : Type 0} (m : Meaning Key Recon Cond) (t : Table) (d :
       go few each None e = omega arith
       go few each (Some y) e = inl (each node y e)
 
-pub down_ends : {Key Recon Cond : Type 0} (m : Meaning Key Recon Cond) (t t1 t2 : Table) (d d2 : Descending Recon) (seat node : ℕ) (rest : List ℕ) → Shape m (sheets_of t) → IsAtInner t d.stand → IsNamed m t d node rest →
+pub down_ends : {Key Recon Cond : Type 0} (m : Meaning Key Recon Cond) (t t1 t2 : Table) (d d2 : Descending Recon) (seat node : ℕ) (rest : List ℕ) (by_turn : Bool) → Shape m (sheets_of t) → IsAtInner t d.stand → IsNamed m t d node rest by_turn →
     FollowsNode m t t1 d d2 seat node rest In → SamePages t1 t2 → TakesOne m t t2 d d2 outs.Descended
-down_ends {Key} {Recon} m t t1 t2 d d2 seat node rest H i is (unheld, et, ed) same = λ n h.
+down_ends {Key} {Recon} m t t1 t2 d d2 seat node rest by_turn H i is (unheld, et, ed) same = λ n h.
     let x : Place = tuple_place d.stand in
     let s1 : SamePages t t1 = subst (λ (z : Table). SamePages t z) (sym et) (below_same t d x (stand_below (link_of t x node)) seat) in
     let stand : d2.stand ≡ stand_below (link_of t x node) = ap (λ (z : Descending Recon). z.stand) ed in
-    ends_same m t t2 d2 n (same_trans t t1 t2 s1 same) (subst (λ (st : Stand). EndsAt m t d2 n st) (sym stand) (ends_below m t d d2 n node rest H i is h))
+    ends_same m t t2 d2 n (same_trans t t1 t2 s1 same) (subst (λ (st : Stand). EndsAt m t d2 n st) (sym stand) (ends_below m t d d2 n node rest by_turn H i is h))
 
 -- ---- a node is put in, or the tuple is split
 
@@ -197,12 +198,12 @@ is_tuple_here m t d H i at main = subst (λ (b : Bool). IsTupleOf m b (frame_in 
 gives_key : {Key Recon Cond : Type 0} (m : Meaning Key Recon Cond) (t : Table) (d : Descending Recon) (recon : Recon) (key : Option Key) → d.recon ≡ Some recon → IsCarried m (sheets_of t) d key → (k : Key) × (m.rebuild recon d.rest ≡ Some k) × (key ≡ Some k)
 gives_key {Key} {Recon} m t d recon key er C = key_given m recon d.rest key (subst (λ (r : Option Recon). key_of m r d.rest ≡ Some key) er C.rebuilt)
 
-pub widen_ends : {Key Recon Cond : Type 0} (m : Meaning Key Recon Cond) → AddLaw m → (t t1 t2 : Table) (d d2 : Descending Recon) (at : ℕ) (label : ℤ) → Shape m (sheets_of t) → ((key : Option Key) × IsCarried m (sheets_of t) d key) → Stands t d → IsAtInner t d.stand → in_nulls d ≡ false →
-    IsAnswered m t d (Add at label) → IsNodeAdded m t t1 d d2 at label → SamePages t1 t2 → TakesOne m t t2 d d2 outs.Restructured
-widen_ends {Key} {Recon} m adds t t1 t2 d d2 at label H (key, C) stands i main (recon, er, ea) added same = λ n h. ends_same m t1 t2 d2 n same (⊎_elim
+pub widen_ends : {Key Recon Cond : Type 0} (m : Meaning Key Recon Cond) → AddLaw m → (t t1 : Table) (d d2 : Descending Recon) (at : ℕ) (label : ℤ) → Shape m (sheets_of t) → ((key : Option Key) × IsCarried m (sheets_of t) d key) → Stands t d → IsAtInner t d.stand → in_nulls d ≡ false →
+    IsAnswered m t d (Add at label) → IsNodeAdded m t t1 d d2 at label → TakesOne m t t1 d d2 outs.Restructured
+widen_ends {Key} {Recon} m adds t t1 d d2 at label H (key, C) stands i main (recon, er, ea) added = λ n h. ⊎_elim
     (λ (e, quiet, makes, link, W). one n (λ z. z) (ap (λ (z : Descending Recon). z.recon) e) (ap (λ (z : Descending Recon). z.rest) e) W h)
     (λ (big, y, e, ticked, makes, parity, led, W). one n (moved (tuple_place d.stand) y) (ap (λ (z : Descending Recon). z.recon) e) (ap (λ (z : Descending Recon). z.rest) e) W h)
-    added)
+    added
   where
     near : (n : ℕ) → IsNearEnd m t d (suc n) → 2 ≤ n
     near n (j, inl (two, (other, left, was, nowhere, plain))) = let f : Match other left ≡ Add at label = one_answer m t d (Match other left) (Add at label) was (recon, er, ea) in cc
@@ -275,12 +276,12 @@ chain_leaves t nulls (At x) None a = absurd a
 chain_leaves t nulls (At x) (Some (q, i)) a = a.0
 chain_leaves t nulls Empty p a = absurd a
 
-pub chain_ends : {Key Recon Cond : Type 0} (m : Meaning Key Recon Cond) (t t1 t2 : Table) (d d2 : Descending Recon) → Shape m (sheets_of t) → IsAtLeaves (sheets_of t) (in_nulls d) d.stand → (IsAtInner t d.stand → ⊥) →
-    IsChainSplit m t t1 d d2 LeftOut → SamePages t1 t2 → TakesOne m t t2 d d2 outs.Restructured
-chain_ends {Key} {Recon} m t t1 t2 d d2 H leaves off (z, makes, ways) same = λ n h. ends_same m t1 t2 d2 n same (⊎_elim
+pub chain_ends : {Key Recon Cond : Type 0} (m : Meaning Key Recon Cond) (t t1 : Table) (d d2 : Descending Recon) → Shape m (sheets_of t) → IsAtLeaves (sheets_of t) (in_nulls d) d.stand → (IsAtInner t d.stand → ⊥) →
+    IsChainSplit m t t1 d d2 LeftOut → TakesOne m t t1 d d2 outs.Restructured
+chain_ends {Key} {Recon} m t t1 d d2 H leaves off (z, makes, ways) = λ n h. ⊎_elim
     (λ (e, W). one n 0 (ap (λ (x : Descending Recon). x.stand) e) W h)
     (λ (e, W). one n 1 (ap (λ (x : Descending Recon). x.stand) e) W h)
-    ways)
+    ways
   where
     one : (n spread : ℕ) → d2.stand ≡ At z → SplitsWithout m t t1 d d2 z spread → EndsWithin m t d (suc n) → EndsWithin m t1 d2 n
     one n spread stand W h = divided_ends m t t1 d d2 n H W.leaves.section.shape leaves off (subst (λ (st : Stand). IsAtInner t1 st) (sym stand) W.inner) W.shrinks h

@@ -1,18 +1,20 @@
 -- A section of an insert, and what the sections before it have left of the state.
-use Rattle.std.proofs.Common.{◌≡◌, ℕ, zero, suc, ◌+◌, ◌^◌, ◌≤◌, ◌<◌, List, ◌++◌, [], ◌∷◌, Option, refl, sym, ap, ◌∙◌, subst, arith}
+use Rattle.std.proofs.Common.{◌≡◌, ◌≢◌, ◌⊎◌, ⊎_elim, inl, inr, ℕ, zero, suc, ◌+◌, ◌^◌, ◌≤◌, ◌<◌, List, ◌++◌, [], ◌∷◌, Option, Some, None, refl, sym, ap, ◌∙◌, subst, arith}
+use Rattle.std.proofs.lemmas.Bool.{cases_eq}
 use Rattle.spg_base.specs.Row.{RowAt}
 use Rattle.spg_opclass.specs.Meaning.{Meaning}
 use Rattle.spg_forest.specs.Ranks.{most_sections, EachIsRanked}
 use Rattle.spg_forest.specs.Shape.{Shape}
 use Rattle.spg_rows.specs.declared.event.Event.{Event}
 use Rattle.spg_rows.specs.declared.event.Event.TheVariants as event
-use Rattle.spg_tree.specs.Table.{Table, IsSound, sheets_of}
+use Rattle.spg_tree.specs.Table.{Table, IsSound, sheets_of, sheet_at, latch_at}
 use Rattle.spg_tree.specs.Descents.{Descending}
+use Rattle.spg_seats.specs.Descending.{ChangesHeld}
 use Rattle.spg_core.specs.declared.answer.InsertOut.{InsertOut}
 use Rattle.spg_core.specs.declared.answer.InsertOut.TheVariants.{Descended, Restructured, Restarted, Put}
 use Rattle.spg_core.specs.Stage.{Stage, free, descending, reading, IsInserting}
 use Rattle.spg_core.specs.Seen.{Seen, stage_at, moved}
-use Rattle.spg_core.specs.Sections.{IsAfterSection, IsOutOf, IsInsertOut, IsNoRestart}
+use Rattle.spg_core.specs.Sections.{IsAfterSection, IsOutOf, IsInsertOut, OthersHold}
 use Rattle.spg_core.specs.Ends.{StageEnds, SeatEnds, SeatThenEnds}
 use Rattle.spg_core.specs.Through.{IsInsertOf, StillInserts, PutsRow}
 use Rattle.spg_core.proofs.Ends.{ends_somewhere, none_left}
@@ -20,6 +22,32 @@ use Rattle.spg_core.proofs.Ends.{ends_somewhere, none_left}
 -- a table has at most 131,072 pages
 pub few_sections : (t : Table) (k : ℕ) → IsSound t → k ≤ most_sections (sheets_of t) + 1 → k + 0 < 2 ^ 64
 few_sections t k sound most = omega arith
+
+-- ---- latches and pages over more than one section
+
+pub others_same : (t : Table) (seat : ℕ) → OthersHold t t seat
+others_same t seat other b apart = (λ h. h, λ h. h)
+
+pub others_then : (t t1 t2 : Table) (seat : ℕ) → OthersHold t t1 seat → OthersHold t1 t2 seat → OthersHold t t2 seat
+others_then t t1 t2 seat a c other b apart = (λ h. (a other b apart).0 ((c other b apart).0 h), λ h. (c other b apart).1 ((a other b apart).1 h))
+
+-- a block that another seat has latched at the start is as it was after each section
+pub changes_then : (t t1 t2 : Table) (seat : ℕ) → OthersHold t t1 seat → ChangesHeld t t1 seat → ChangesHeld t1 t2 seat → ChangesHeld t t2 seat
+changes_then t t1 t2 seat others a c b = go (latch_at t b) refl
+  where
+    go : (l : Option ℕ) → latch_at t b ≡ l → (sheet_at t2 b ≡ sheet_at t b) ⊎ ((latch_at t b ≡ None) ⊎ (latch_at t b ≡ Some seat))
+    go None e = inr (inl e)
+    go (Some by) e = ⊎_elim
+        (λ q. inr (inr (e ∙ ap (λ n. Some n) q)))
+        (λ apart.
+        let now : latch_at t1 b ≡ Some by = (others by b apart).1 e in
+        let none : (l : Option ℕ) → latch_at t1 b ≡ l → (l ≡ None) ⊎ (l ≡ Some seat) → ⊥ = λ l is. ⊎_elim (λ q. absurd (cc (sym now ∙ is ∙ q))) (λ q. let f : Some by ≡ Some seat = sym now ∙ is ∙ q in apart (cc f)) in
+        ⊎_elim (λ q. ⊎_elim (λ p. inl (q ∙ p)) (λ h. inr h) (a b)) (λ h. absurd (none (latch_at t1 b) refl h)) (c b))
+        (cases_eq by seat)
+
+-- the insert was not sent back to its start
+abbrev IsNoRestart : InsertOut → Type 0
+IsNoRestart out = (block by : ℕ) → out ≡ Restarted block by → ⊥
 
 module _ {O Key Recon Cond : Type 0} where
   pub still_there : (s : Seen O Key Recon Cond) (seat : ℕ) → StillInserts s s seat
@@ -39,7 +67,7 @@ module _ {O Key Recon Cond : Type 0} where
   section : (s1 s2 : Seen O Key Recon Cond) (seat : ℕ) (k : Option Key) (d : Descending Recon) (out : InsertOut) → stage_at s1 seat ≡ descending k d → IsAfterSection s1 s2 seat k d out → (out ≡ Put → ⊥) → StillInserts s1 s2 seat
   section s1 s2 seat k d Descended at (d2, same, pages, is, stage) no_put = moves s1 s2 seat k d d2 at same is stage
   section s1 s2 seat k d Restructured at (d2, same, is, stage) no_put = moves s1 s2 seat k d d2 at same is stage
-  section s1 s2 seat k d (Restarted block by) at (d2, same, pages, is, stage) no_put = moves s1 s2 seat k d d2 at same is stage
+  section s1 s2 seat k d (Restarted block by) at (d2, same, start, pages, is, stage) no_put = moves s1 s2 seat k d d2 at same is stage
   section s1 s2 seat k d Put at is no_put = absurd (no_put refl)
 
   section_of : (s1 s2 : Seen O Key Recon Cond) (seat : ℕ) (out : InsertOut) (stage : Stage O Key Recon Cond) → stage_at s1 seat ≡ stage → IsOutOf s1 s2 seat out stage → (out ≡ Put → ⊥) → StillInserts s1 s2 seat
@@ -60,7 +88,7 @@ module _ {O Key Recon Cond : Type 0} where
   inserting_of s1 s2 seat out (reading s) is no_put = absurd is
   inserting_of s1 s2 seat Descended (descending k d) (stood, (d2, same, pages, is, stage)) no_put = still_inserting k d2 (stage_at s2 seat) stage
   inserting_of s1 s2 seat Restructured (descending k d) (stood, (d2, same, is, stage)) no_put = still_inserting k d2 (stage_at s2 seat) stage
-  inserting_of s1 s2 seat (Restarted block by) (descending k d) (stood, (d2, same, pages, is, stage)) no_put = still_inserting k d2 (stage_at s2 seat) stage
+  inserting_of s1 s2 seat (Restarted block by) (descending k d) (stood, (d2, same, start, pages, is, stage)) no_put = still_inserting k d2 (stage_at s2 seat) stage
   inserting_of s1 s2 seat Put (descending k d) is no_put = absurd (no_put refl)
 
   pub goes_inserting : (s1 s2 : Seen O Key Recon Cond) (seat : ℕ) (out : InsertOut) → IsInsertOut s1 s2 seat out → (out ≡ Put → ⊥) → IsInserting (stage_at s2 seat)
@@ -89,6 +117,17 @@ module _ {O Key Recon Cond : Type 0} where
         stage = P.stage;
       }
 
+  -- ---- the insert is sent back
+
+  -- another seat has latched the block, then as before
+  pub restarted_by : (s1 s2 : Seen O Key Recon Cond) (seat : ℕ) (out : InsertOut) (block by : ℕ) → IsInsertOut s1 s2 seat out → out ≡ Restarted block by → OthersHold s1.table s2.table seat → (latch_at s2.table block ≡ Some by) × (by ≢ seat)
+  restarted_by s1 s2 seat out block by is back others = go (stage_at s1 seat) (subst (λ (o : InsertOut). IsInsertOut s1 s2 seat o) back is)
+    where
+      go : (stage : Stage O Key Recon Cond) → IsOutOf s1 s2 seat (Restarted block by) stage → (latch_at s2.table block ≡ Some by) × (by ≢ seat)
+      go free h = absurd h
+      go (descending k d) h = ((others by block h.0.1).1 h.0.0, h.0.1)
+      go (reading s) h = absurd h
+
   -- ---- the insert comes to its end
 
   pub ends_from : (m : Meaning Key Recon Cond) → EachIsRanked m → (seen : Seen O Key Recon Cond) (seat : ℕ) → Shape m (sheets_of seen.table) → IsInserting (stage_at seen seat) → (k : ℕ) × (k ≤ most_sections (sheets_of seen.table) + 1) × SeatEnds m seen seat k
@@ -110,7 +149,7 @@ module _ {O Key Recon Cond : Type 0} where
   open_still : (m : Meaning Key Recon Cond) (seen : Seen O Key Recon Cond) (seat n : ℕ) (out : InsertOut) → SeatThenEnds m seen seat n out → (out ≡ Put → ⊥) → IsNoRestart out → SeatEnds m seen seat n
   open_still m seen seat n Descended h no_put on = h
   open_still m seen seat n Restructured h no_put on = h
-  open_still m seen seat n (Restarted block by) h no_put on = absurd on
+  open_still m seen seat n (Restarted block by) h no_put on = absurd (on block by refl)
   open_still m seen seat n Put h no_put on = absurd (no_put refl)
 
   -- a section takes one of those that may come

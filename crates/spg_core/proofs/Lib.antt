@@ -7,11 +7,16 @@ pub mod Limits
 pub mod Holding
 pub mod Ends
 pub mod Inners
-pub mod Founds
+pub mod Rewriting
+pub mod Settles
+pub mod Ticks
 pub mod Slots
+pub mod Sweeps
 pub mod Steps
+pub mod Keeping
 pub mod Inserts
 pub mod Going
 pub mod Opens
 pub mod Scans
+pub mod Runs
 pub mod Counting

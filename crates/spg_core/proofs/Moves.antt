@@ -1,21 +1,21 @@
 -- What comes of a section of an insert.
-use Rattle.std.proofs.Common.{◌≡◌, ℕ, ◌<◌, Bool, true, false, List, ◌⊎◌, ⊎_elim, Option, Some, None, length, refl, sym, ap, ◌∙◌, subst, inl, inr, arith, cond}
+use Rattle.std.proofs.Common.{◌≡◌, ℕ, ◌<◌, Bool, true, false, List, ◌⊎◌, ⊎_elim, Option, Some, None, length, refl, sym, ap, ◌∙◌, subst, inl, inr, arith}
 use Rattle.spg_opclass.specs.Meaning.{Meaning}
 use Rattle.spg_forest.specs.View.{Place}
 use Rattle.spg_forest.specs.Tuples.{Live}
 use Rattle.spg_forest.specs.Pages.{place, moved}
 use Rattle.spg_forest.specs.Sheets.{Sheet, Sheets, sheet_at, links}
 use Rattle.spg_forest.specs.Shape.{Shape, IsRestOf}
-use Rattle.spg_forest.specs.Section.{Adds, Leaves, Cost}
 use Rattle.spg_forest.specs.Follows.{GoesBelow}
 use Rattle.spg_page.specs.Kinds.{IsInner}
 use Rattle.spg_page.specs.Reads.{frame_in}
-use Rattle.spg_tree.specs.Table.{Table, sheets_of, tuple_at, latch_at, with_latch}
-use Rattle.spg_tree.specs.Descents.{Descending, in_nulls}
+use Rattle.spg_tree.specs.Table.{Table, sheets_of, tuple_at, latch_at}
+use Rattle.spg_tree.specs.Descents.{Descending, in_nulls, placed}
 use Rattle.spg_tree.specs.declared.stand.Stand.{Stand}
 use Rattle.spg_tree.specs.declared.stand.Stand.TheVariants.{Start, Root, At, Empty}
 use Rattle.spg_descend.specs.Carried.{carried, root_of, IsCarried}
-use Rattle.spg_descend.specs.Leaves.{released, stand_block, parent_block, is_held}
+use Rattle.spg_descend.specs.Enters.{CarriesOn}
+use Rattle.spg_descend.specs.Leaves.{released, stand_block, parent_block}
 use Rattle.spg_descend.specs.Follows.{IsAtInner, tuple_place, link_of, stand_below, latched, left_behind, table_below, FollowsNode, CarriesBelow}
 use Rattle.spg_descend.specs.Below.{IsChainBelow, IsAtChain, IsTicked}
 use Rattle.spg_descend.specs.Makes.{MakesNone, MakesOne}
@@ -24,22 +24,24 @@ use Rattle.spg_descend.specs.Rules.{IsThere, IsAtNoInner, MayMove}
 use Rattle.spg_descend.specs.declared.enter.Entered.{Entered}
 use Rattle.spg_descend.specs.declared.enter.Entered.TheVariants.{In, Busy}
 use Rattle.spg_descend.proofs.Starts.{spots_are_there}
-use Rattle.spg_split.specs.Splits.{IsAtRoot, IsCalm, split_cost}
+use Rattle.spg_split.specs.Splits.{IsAtRoot, IsCalm, IsSplitOut, split_cost}
 use Rattle.spg_split.specs.Below.{IsLedTo, MakesBelow, SplitsWithout, IsChainSplit}
 use Rattle.spg_split.specs.declared.split.SplitOut.TheVariants.{LeftOut}
 use Rattle.spg_core.specs.declared.answer.InsertOut.TheVariants as outs
-use Rattle.spg_core.specs.Stepping.{HasInnerRoot, StandsAt, Stands, SamePages, MakesAtMostOne, GoesOn, IsRootFull, RootsGrow, IsStepOut}
+use Rattle.spg_seats.specs.Descending.{HasInnerRoot, StandsAt, Stands, ChangesHeld}
+use Rattle.spg_core.specs.Stepping.{SamePages, MakesAtMostOne, GoesOn, IsRootFull, RootsGrow, IsStepOut}
+use Rattle.spg_core.specs.Telling.{turned}
 use Rattle.spg_core.proofs.Stands.{root_range, stand_put, stands_same, child_stands, released_same, latched_same, same_trans, root_leaf}
 use Rattle.spg_core.proofs.Trees.{place_tree}
-
-pub released_touched : (t : Table) (b : Option ℕ) (seat : ℕ) → (released t b seat).touched ≡ t.touched
-released_touched t None seat = refl
-released_touched t (Some b) seat = elim (is_held (latch_at t b) seat) as (λ h. (cond h (with_latch t b None) t).touched ≡ t.touched) [ true ↦ refl | false ↦ refl ]
 
 -- with the same pages an insert that stays goes on
 pub goes_same : {Key Recon Cond : Type 0} (m : Meaning Key Recon Cond) (t t2 : Table) (d d2 : Descending Recon) → SamePages t t2 → d2 ≡ d → Stands t d → GoesOn m t t2 d d2
 goes_same {Key} m t t2 d d2 same e at = subst (λ (z : Descending _). GoesOn m t t2 d z) (sym e)
     (refl, refl, stands_same t t2 (in_nulls d) d.stand d.parent same at, λ key C. subst (λ (S : Sheets). IsCarried m S d key) (sym same.0) C)
+
+-- an insert that has entered its root goes on there
+pub goes_root : {Key Recon Cond : Type 0} (m : Meaning Key Recon Cond) (t t2 : Table) (d d2 : Descending Recon) → SamePages t t2 → d2 ≡ placed d (Root (root_of (in_nulls d))) None → CarriesOn m d → GoesOn m t t2 d d2
+goes_root {Key} m t t2 d d2 same e carries = subst (λ (z : Descending _). GoesOn m t t2 d z) (sym e) (refl, refl, (refl, refl), λ key C. subst (λ (S : Sheets). IsCarried m S (placed d (Root (root_of (in_nulls d))) None) key) (sym same.0) (carries (sheets_of t) key C))
 
 pub below_same : {Recon : Type 0} (t : Table) (d : Descending Recon) (x : Place) (st : Stand) (seat : ℕ) → SamePages t (table_below t d x st seat)
 below_same t d x st seat = same_trans t (latched t (stand_block st) seat) (table_below t d x st seat) (latched_same t (stand_block st) seat)
@@ -76,12 +78,9 @@ there_of {Key} {Recon} m t d H at = go d.stand d.parent refl refl at
         (⊎_elim (λ z. inl (subst (λ (s : Stand). IsAtInner t s) (sym e) z)) (λ z. inr (inl (subst (λ (s : Stand). IsAtLeaves (sheets_of t) (in_nulls d) s) (sym e) z))) k))
     go Empty p e q a = tt
 
--- latches given free leave the pages and what was touched as they are
+-- latches given free leave the pages as they are
 freed_same : (t : Table) (a b : Option ℕ) (seat : ℕ) → SamePages t (released (released t a seat) b seat)
 freed_same t a b seat = same_trans t (released t a seat) (released (released t a seat) b seat) (released_same t a seat) (released_same (released t a seat) b seat)
-
-freed_touched : (t : Table) (a b : Option ℕ) (seat : ℕ) → (released (released t a seat) b seat).touched ≡ t.touched
-freed_touched t a b seat = released_touched (released t a seat) b seat ∙ released_touched t a seat
 
 -- an insert that has gone back to its start
 pub back_out : {Key Recon Cond : Type 0} (m : Meaning Key Recon Cond) (t t1 t2 : Table) (d d2 : Descending Recon) (seat block by node : ℕ) (rest : List ℕ) →
@@ -132,10 +131,6 @@ root_leaves {Key} {Recon} m t d H at off low = ⊎_elim (λ a. a) (λ a. absurd 
 
 -- ---- which roots are inner tuples after a section
 
--- the pages then are those of t1
-grow_same : {Recon : Type 0} (t t1 t2 : Table) (d : Descending Recon) → SamePages t1 t2 → RootsGrow t t1 d → RootsGrow t t2 d
-grow_same t t1 t2 d same grow nulls h = grow nulls (ap (λ (S : Sheets). (sheet_at S (root_of nulls)).inner) (sym same.0) ∙ h)
-
 -- each root page keeps its kind
 pub kinds_grow : {Recon : Type 0} (t t1 : Table) (d : Descending Recon) → ((b : ℕ) → b < 3 → (sheet_at (sheets_of t1) b).inner ≡ (sheet_at (sheets_of t) b).inner) → RootsGrow t t1 d
 kinds_grow t t1 d kinds nulls h = inl (sym (kinds (root_of nulls) (root_range nulls).1) ∙ h)
@@ -168,37 +163,19 @@ calm_grow t t1 d calm full nulls h = pick (same_bool nulls (in_nulls d))
 
 -- ---- what comes of a section
 
--- the row of an insert was put, and its latches were given free
-pub put_out : {Key Recon Cond : Type 0} (m : Meaning Key Recon Cond) (t t1 t2 : Table) (d d2 : Descending Recon) (seat : ℕ) → IsAtNoInner t d.stand →
-    ((key : Option Key) → IsCarried m (sheets_of t) d key → (cost : Cost) × (f : Place → Place) × Adds m (sheets_of t) (sheets_of t1) t1.touched cost d.row key f) → t1.limit ≡ t.limit → RootsGrow t t1 d →
-    t2 ≡ released (released t1 (stand_block d2.stand) seat) (parent_block d2.parent) seat → d2.row ≡ d.row → IsStepOut m t t2 d d2 seat outs.Put
-put_out {Key} {Recon} m t t1 t2 d d2 seat off adds limit grow freed row =
-    let a = stand_block d2.stand in
-    let b = parent_block d2.parent in
-    let (eS, el) : SamePages t1 t2 = subst (λ (z : Table). SamePages t1 z) (sym freed) (freed_same t1 a b seat) in
-    let et : t2.touched ≡ t1.touched = ap (λ (z : Table). z.touched) freed ∙ freed_touched t1 a b seat in (
-      off,
-      (λ key C.
-          let (cost, f, A) = adds key C in (
-            cost,
-            f,
-            subst (λ (bs : List ℕ). Adds m (sheets_of t) (sheets_of t2) bs cost d.row key f) (sym et) (subst (λ (S : Sheets). Adds m (sheets_of t) S t1.touched cost d.row key f) (sym eS) A),
-          )),
-      el ∙ limit,
-      grow_same t t1 t2 d (eS, el) grow,
-      row,
-    )
-
--- the index was changed without the row of an insert, and then its latches were changed
-pub left_out : {Key Recon Cond : Type 0} (m : Meaning Key Recon Cond) (t t1 t2 : Table) (d d2 : Descending Recon) (seat : ℕ) (cost : Cost) (f : Place → Place) → (d.stand ≡ Start → ⊥) →
-    Leaves m (sheets_of t) (sheets_of t1) t1.touched cost 0 f → t1.limit ≡ t.limit → RootsGrow t t1 d → GoesOn m t t1 d d2 → SamePages t1 t2 → t2.touched ≡ t1.touched → IsStepOut m t t2 d d2 seat outs.Restructured
-left_out {Key} {Recon} m t t1 t2 d d2 seat cost f off L limit grow (row, nulls, at, carries) (eS, el) et = (
-  off,
-  (cost, f, subst (λ (bs : List ℕ). Leaves m (sheets_of t) (sheets_of t2) bs cost 0 f) (sym et) (subst (λ (S : Sheets). Leaves m (sheets_of t) S t1.touched cost 0 f) (sym eS) L)),
-  el ∙ limit,
-  grow_same t t1 t2 d (eS, el) grow,
-  (row, nulls, stands_same t1 t2 (in_nulls d2) d2.stand d2.parent (eS, el) at, λ key C. subst (λ (S : Sheets). IsCarried m S d2 key) (sym eS) (carries key C)),
-)
+-- a root page was divided without the leaf of the insert
+pub root_out : {Key Recon Cond : Type 0} (m : Meaning Key Recon Cond) (t t1 : Table) (d d2 : Descending Recon) (seat : ℕ) → Stands t d → IsAtNoInner t d.stand → IsAtRoot d.stand → IsRootFull t d → IsSplitOut m t t1 d d2 LeftOut → IsStepOut m t t1 d d2 seat outs.Restructured
+root_out {Key} {Recon} m t t1 d d2 seat at off low full (calm, makes, ways) = ⊎_elim
+    (λ (e, W). (off.0, (split_cost d.stand 0, (λ x. x), W.leaves), calm.limit, calm_grow t t1 d calm full, (ap (λ (x : Descending Recon). x.row) e, ap (λ (x : Descending Recon). in_nulls x) e, subst (λ (x : Descending Recon). Stands t1 x) (sym e) (there d.stand d.parent low at), W.carries)))
+    (λ (e, W). (off.0, (split_cost d.stand 1, (λ x. x), W.leaves), calm.limit, calm_grow t t1 d calm full, (ap (λ (x : Descending Recon). x.row) e, ap (λ (x : Descending Recon). in_nulls x) e, subst (λ (x : Descending Recon). Stands t1 x) (sym e) (there d.stand d.parent low at), W.carries)))
+    ways
+  where
+    -- at a root it stands whatever the pages are
+    there : (st : Stand) (p : Option (Place × ℕ)) → IsAtRoot st → StandsAt t (in_nulls d) st p → StandsAt t1 (in_nulls d) st p
+    there Start p l a = absurd l
+    there (Root b) p l a = a
+    there (At x) p l a = absurd l
+    there Empty p l a = absurd l
 
 -- ---- an insert at a chain below a root
 
@@ -246,16 +223,15 @@ led_goes {Key} {Recon} m t t1 d d2 z (key, C) root ticked row nulls stand parent
     )
 
 -- a chain was divided without the leaf of the insert
-pub chain_out : {Key Recon Cond : Type 0} (m : Meaning Key Recon Cond) (t t1 t2 : Table) (d d2 : Descending Recon) (seat : ℕ) → ((key : Option Key) × IsCarried m (sheets_of t) d key) → IsAtNoInner t d.stand → HasInnerRoot t (in_nulls d) → IsTicked t t1 →
-    IsChainSplit m t t1 d d2 LeftOut → SamePages t1 t2 → t2.touched ≡ t1.touched → IsStepOut m t t2 d d2 seat outs.Restructured
-chain_out {Key} {Recon} m t t1 t2 d d2 seat of_key off root ticked (z, makes, ways) same et = ⊎_elim
+pub chain_out : {Key Recon Cond : Type 0} (m : Meaning Key Recon Cond) (t t1 : Table) (d d2 : Descending Recon) (seat : ℕ) → ((key : Option Key) × IsCarried m (sheets_of t) d key) → IsAtNoInner t d.stand → HasInnerRoot t (in_nulls d) → IsTicked t t1 →
+    IsChainSplit m t t1 d d2 LeftOut → IsStepOut m t t1 d d2 seat outs.Restructured
+chain_out {Key} {Recon} m t t1 d d2 seat of_key off root ticked (z, makes, ways) = ⊎_elim
     (λ (e, W). one 0 (ap (λ (x : Descending Recon). x.row) e) (ap (λ (x : Descending Recon). in_nulls x) e) (ap (λ (x : Descending Recon). x.stand) e) (ap (λ (x : Descending Recon). x.parent) e) W)
     (λ (e, W). one 1 (ap (λ (x : Descending Recon). x.row) e) (ap (λ (x : Descending Recon). in_nulls x) e) (ap (λ (x : Descending Recon). x.stand) e) (ap (λ (x : Descending Recon). x.parent) e) W)
     ways
   where
-    one : (spread : ℕ) → d2.row ≡ d.row → in_nulls d2 ≡ in_nulls d → d2.stand ≡ At z → d2.parent ≡ d.parent → SplitsWithout m t t1 d d2 z spread → IsStepOut m t t2 d d2 seat outs.Restructured
-    one spread row nulls stand parent W = left_out m t t1 t2 d d2 seat (split_cost d.stand spread) (moved (tuple_place d.stand) z) off.0 W.leaves ticked.limit (kinds_grow t t1 d ticked.roots)
-        (led_goes m t t1 d d2 z of_key root ticked row nulls stand parent W.leaves.section.shape W.inner W.link W.carries) same et
+    one : (spread : ℕ) → d2.row ≡ d.row → in_nulls d2 ≡ in_nulls d → d2.stand ≡ At z → d2.parent ≡ d.parent → SplitsWithout m t t1 d d2 z spread → IsStepOut m t t1 d d2 seat outs.Restructured
+    one spread row nulls stand parent W = (off.0, (split_cost d.stand spread, moved (tuple_place d.stand) z, W.leaves), ticked.limit, kinds_grow t t1 d ticked.roots, led_goes m t t1 d d2 z of_key root ticked row nulls stand parent W.leaves.section.shape W.inner W.link W.carries)
 
 -- ---- which inner tuples a section makes
 
@@ -268,20 +244,30 @@ makes_same t t1 t2 z (e, l) makes =
 pub makes_none : (t t1 t2 : Table) → SamePages t1 t2 → MakesNone t t1 → MakesAtMostOne t t2
 makes_none t t1 t2 same none = makes_same t t1 t2 (place 0 0) same (λ x off inner. none x inner)
 
--- then the latches of the insert are given free
-pub freed_pages : {Recon : Type 0} (t1 t2 : Table) (d : Descending Recon) (seat : ℕ) → t2 ≡ released (released t1 (stand_block d.stand) seat) (parent_block d.parent) seat → SamePages t1 t2
-freed_pages t1 t2 d seat freed = subst (λ (z : Table). SamePages t1 z) (sym freed) (freed_same t1 (stand_block d.stand) (parent_block d.parent) seat)
-
 -- the node of the tuple above leads to the one that is made
 pub makes_below : (t t1 : Table) (parent : Option (Place × ℕ)) (z : Place) → MakesBelow t t1 parent z → MakesOne t t1 z
 makes_below t t1 None z makes = absurd makes
 makes_below t t1 (Some (p, i)) z makes = makes.0
 
--- a node was followed
-pub down_makes : {Key Recon Cond : Type 0} (m : Meaning Key Recon Cond) (t t1 t2 : Table) (d d2 : Descending Recon) (seat node : ℕ) (rest : List ℕ) (out : Entered) → FollowsNode m t t1 d d2 seat node rest out → SamePages t1 t2 → MakesAtMostOne t t2
-down_makes {Key} {Recon} m t t1 t2 d d2 seat node rest In (unheld, et, ed) same =
-    let s1 : SamePages t t1 = subst (λ (z : Table). SamePages t z) (sym et) (below_same t d (tuple_place d.stand) (stand_below (link_of t (tuple_place d.stand) node)) seat) in
-    makes_none t t t2 (same_trans t t1 t2 s1 same) (λ x i. i)
-down_makes {Key} {Recon} m t t1 t2 d d2 seat node rest (Busy block by) (eb, held, other, et, ed) same =
-    let s1 : SamePages t t1 = subst (λ (z : Table). SamePages t z) (sym et) (freed_same t (stand_block d.stand) (parent_block d.parent) seat) in
-    makes_none t t t2 (same_trans t t1 t2 s1 same) (λ x i. i)
+-- ---- a node is followed
+
+pub follows_same : {Key Recon Cond : Type 0} (m : Meaning Key Recon Cond) (t t1 : Table) (d d2 : Descending Recon) (seat node : ℕ) (rest : List ℕ) (out : Entered) → FollowsNode m t t1 d d2 seat node rest out → SamePages t t1
+follows_same {Key} {Recon} m t t1 d d2 seat node rest In (unheld, et, ed) = subst (λ (z : Table). SamePages t z) (sym et) (below_same t d (tuple_place d.stand) (stand_below (link_of t (tuple_place d.stand) node)) seat)
+follows_same {Key} {Recon} m t t1 d d2 seat node rest (Busy block by) (eb, held, other, et, ed) = subst (λ (z : Table). SamePages t z) (sym et) (freed_same t (stand_block d.stand) (parent_block d.parent) seat)
+
+-- the counter leaves pages and latches as they are
+pub turned_same : (by_turn : Bool) (t : Table) → SamePages t (turned by_turn t)
+turned_same true t = (refl, refl)
+turned_same false t = (refl, refl)
+
+pub turned_latch : (by_turn : Bool) (t : Table) (b : ℕ) → latch_at (turned by_turn t) b ≡ latch_at t b
+turned_latch true t b = refl
+turned_latch false t b = refl
+
+-- it makes no inner tuple
+pub same_makes : (t t2 : Table) → SamePages t t2 → MakesAtMostOne t t2
+same_makes t t2 same = makes_none t t t2 same (λ x i. i)
+
+-- and no page is changed
+pub same_within : (t t2 : Table) (seat : ℕ) → SamePages t t2 → ChangesHeld t t2 seat
+same_within t t2 seat same = λ b. inl (ap (λ (S : Sheets). sheet_at S b) same.0)

@@ -1,160 +1,221 @@
--- What the fields of a state keep when a scan opens, reads and ends, and what contracts see of it.
-use Rattle.std.proofs.Common.{◌≡◌, ◌<◌, ◌≤◌, ◌+◌, ℕ, true, List, [], ◌∷◌, ◌++◌, length, get_or, set, Vec, map, Result, Ok, Err, IfOk, OnErr, refl, sym, ap, ap₂, ◌∙◌, subst, arith, length-set}
+-- What a state keeps as a scan opens, reads and ends.
+use Rattle.std.proofs.Common.{◌≡◌, ◌<◌, ◌≤◌, ◌+◌, ◌++◌, ◌∷◌, [], ℕ, inl, true, false, List, length, get_or, map, Vec, set, refl, sym, ap, ◌∙◌, subst, arith}
 use Rattle.std.specs.declared.alloc.Global.{Global}
+use Rattle.std.proofs.lemmas.List.{length-set, length-reverse}
 use Rattle.spg_base.specs.Row.{RowAt}
-use Rattle.spg_base.specs.declared.memory.Memory.{Memory}
 use Rattle.spg_opclass.specs.Meaning.{Meaning}
 use Rattle.spg_opclass.specs.Laws.{KeptLaw, CodeLaw}
 use Rattle.spg_opclass.specs.declared.query.Query.{Query}
 use Rattle.spg_rows.specs.declared.event.Event.{Event}
 use Rattle.spg_rows.specs.declared.event.Event.TheVariants.{OpenScan, CloseScan}
-use Rattle.spg_rows.specs.History.{Written, History, scanning, open_of}
-use Rattle.spg_rows.specs.Legal.{IsAllowed}
-use Rattle.spg_rows.specs.Right.{ScanRight, ClosesRight}
-use Rattle.spg_rows.proofs.Histories.{itself_opens, put_since, killed_since}
-use Rattle.spg_tree.specs.Table.{Table, sheets_of}
-use Rattle.spg_scan.specs.Scanning.{Scanning, IsReadOut, IsClosing, opened, emptied}
+use Rattle.spg_forest.specs.Counts.{AreDistinct}
+use Rattle.spg_forest.specs.Sheets.{Sheets}
+use Rattle.spg_rows.specs.History.{Written, History}
+use Rattle.spg_rows.specs.Rows.{state_of}
+use Rattle.spg_scan.specs.Cover.{IsScanOf}
+use Rattle.spg_tree.specs.Table as pages
+use Rattle.spg_scan.specs.Scanning.{Scanning, IsClosing, opened, emptied}
+use Rattle.spg_scan.specs.Items.{held, copied_rows}
+use Rattle.spg_scan.proofs.Lists.{distinct_parts}
+use Rattle.spg_scan.specs.Reading.{IsReadOut}
 use Rattle.spg_scan.specs.declared.walk.ReadOut.{ReadOut}
 use Rattle.spg_scan.specs.declared.walk.ReadOut.TheVariants.{Read, Latched}
 use Rattle.spg_scan.specs.declared.walk.Closed.{Closed}
+use Rattle.spg_seats.specs.Slots.{free, reading, is_open, open_count, stage_in, stage_holds, StageFits, IsKept}
+use Rattle.spg_seats.specs.Latching.{AreHeld, rest_of}
+use Rattle.spg_seats.proofs.Calls as calls
 use Rattle.spg_core.specs.declared.slot.Slot.{Slot}
 use Rattle.spg_core.specs.declared.slot.Slot.TheVariants.{Free, Insert, Scan}
 use Rattle.spg_core.specs.declared.state.State.TheInside.{Inside}
-use Rattle.spg_core.specs.Stage.{free, reading, IsRead, held_count}
-use Rattle.spg_core.specs.Seen.{Seen, moved, logged}
-use Rattle.spg_core.specs.Slot.{stage_of, is_open, open_count}
+use Rattle.spg_core.specs.Slot.{stage_of}
+use Rattle.spg_core.specs.Stage.{IsRead, held_count}
+use Rattle.spg_core.specs.Seen.{Seen, moved, logged, untouched}
 use Rattle.spg_core.specs.Operations.{CanRead, ReadsFrom, CanClose, ClosesFrom}
-use Rattle.spg_core.specs.Latches.{NoLatches, SlotHolds}
-use Rattle.spg_core.specs.Kept.{seen_of, IsScanOf, SlotFits, IsKept}
-use Rattle.spg_core.specs.Sections.{ReadsFor, ReadsItem, HasMet}
-use Rattle.spg_core.proofs.Founds.{scan_opens, scan_reads, scan_closes}
-use Rattle.spg_core.proofs.Slots.{open_count-all, set_twice, stage_set, stage_is, table_is, logged_is, moved_is, free_slot, seen_as}
-use Rattle.spg_core.proofs.Steps.{with_fields, pages_are, rows_are, pages_same, same_rows, kept_logged, kept_moved, kept_still, room_ended, free_holds, holds_now, sane, past}
+use Rattle.spg_core.specs.Sections.{ReadsFor, HasMet}
+use Rattle.spg_core.specs.Kept.{fields_of, seen_of, IsState}
+use Rattle.spg_core.proofs.Slots.{seen_as, set_twice, stages_set, stage_set, stage_get, table_is, past_is, logged_is, moved_is}
+use Rattle.spg_core.proofs.Steps as steps
 
-module _ {O Key Recon Cond : Type 0} (m : Meaning Key Recon Cond) (s : Inside O Key Recon Cond) (kept : IsKept m s) where
-  abbrev before : History O Key Recon Cond
-  before = past m s kept
+-- a scan that holds nothing took each row once
+pub once_taken : {O Key Recon Cond : Type 0} {m : Meaning Key Recon Cond} {S : Sheets} {before past : History O Key Recon Cond} (q : Scanning O Key Recon Cond) → IsScanOf m S before past q → AreDistinct q.rows
+once_taken q D = (distinct_parts q.rows (copied_rows q.items) D.once).0
 
-  -- a scan holds no latch
-  scan_holds : (seat : ℕ) (q : Scanning O Key Recon Cond) → seat ≡ 0 → get_or s.slots.items seat Free ≡ Scan q → NoLatches s.table
-  scan_holds seat q first is = subst (λ (x : Slot O Key Recon Cond). SlotHolds s.table seat x) is (holds_now m s kept seat first)
+module _ {O Key Recon Cond : Type 0} (m : Meaning Key Recon Cond) (s : Inside O Key Recon Cond) (I : IsState m s) (seat : ℕ) where
+  abbrev slot_now : Slot O Key Recon Cond
+  slot_now = get_or s.slots.items seat Free
 
   -- ---- a scan opens
 
-  pub kept_opens : (seat : ℕ) (query : Query O Key Recon Cond) (scan : Scanning O Key Recon Cond) (at stamp : ℕ) (slots : Vec (Slot O Key Recon Cond) Global) (journal : Written O Key Recon Cond) → seat ≡ 0 → scan ≡ opened m query at stamp →
-      slots.items ≡ set s.slots.items seat (Scan scan) → journal.events ≡ s.journal.events ++ OpenScan seat query ∷ [] → stage_of (get_or s.slots.items seat Free) ≡ free → 64 ≤ journal.spare → IsKept m (with_fields m s s.table s.rows slots journal)
-  kept_opens seat query scan at stamp slots journal first is items events was room =
-      let e : Event O Key Recon Cond = OpenScan seat query in
-      let D : IsScanOf m (sheets_of s.table) before (e ∷ before) scan = subst (IsScanOf m (sheets_of s.table) before (e ∷ before)) (sym is) (scan_opens m (sheets_of s.table) before (sane m s kept) kept.holds seat query at stamp) in
-      let has : open_of seat (e ∷ before) ≡ scanning before scan.query = itself_opens e before ∙ ap (λ (z : Scanning O Key Recon Cond). scanning before z.query) (sym is) in
-      let most : open_count slots.items ≤ 64 = open_count-all slots.items (ap length items ∙ length-set s.slots.items seat (Scan scan) ∙ kept.seats) in
-      kept_logged m s kept e (Scan scan) s.table s.rows slots journal first items events (free_slot m s.table before seat (get_or s.slots.items seat Free) (kept.slots seat) was) tt (before, has, D)
-      (pages_same m s.table e before (λ r. refl) (λ r. refl) refl (pages_are m s kept)) (same_rows m s.rows e before (λ r. refl) (λ r. refl) (rows_are m s kept)) (free_holds m s kept seat first was) (omega arith) refl
-
-  pub opens_scan : (seen : Seen O Key Recon Cond) → seen_of s ≡ seen → (seat : ℕ) (query : Query O Key Recon Cond) (scan : Scanning O Key Recon Cond) (at stamp : ℕ) (slots : List (Slot O Key Recon Cond)) (events : List (Event O Key Recon Cond)) → seat ≡ 0 → scan ≡ opened m query at stamp →
-      at ≡ length s.journal.events → stamp ≡ s.table.clock → slots ≡ set s.slots.items seat (Scan scan) → events ≡ s.journal.events ++ OpenScan seat query ∷ [] →
-      (seen_as events (map stage_of slots) s.table s.origin ≡ logged seen seat (OpenScan seat query) (reading (opened m query (length seen.journal) seen.table.clock)) seen.table) × (get_or (map stage_of slots) seat free ≡ reading (opened m query (length seen.journal) seen.table.clock))
-  opens_scan seen view seat query scan at stamp slots events first is at_is stamp_is items events_are =
-      let now : scan ≡ opened m query (length seen.journal) seen.table.clock = is ∙ ap₂ (opened m query) (at_is ∙ ap (λ (v : Seen O Key Recon Cond). length v.journal) view) (stamp_is ∙ ap (λ (v : Seen O Key Recon Cond). v.table.clock) view) in (
-        logged_is s seen view seat (OpenScan seat query) (Scan scan) slots events s.table items events_are ∙ ap (λ (t : Table). logged seen seat (OpenScan seat query) (reading scan) t) (sym (table_is s seen view seat))
-            ∙ ap (λ (z : Scanning O Key Recon Cond). logged seen seat (OpenScan seat query) (reading z) seen.table) now,
-        stage_set slots s.slots.items seat (Scan scan) items kept.seats (omega (arith, first)) ∙ ap (λ (z : Scanning O Key Recon Cond). reading z) now,
-      )
+  pub scan_opens : (query : Query O Key Recon Cond) (scan : Scanning O Key Recon Cond) (slots : Vec (Slot O Key Recon Cond) Global) (journal : Written O Key Recon Cond) → scan ≡ opened m query (length s.journal.events) s.table.clock → stage_of slot_now ≡ free → seat < 64 →
+      slots.items ≡ set s.slots.items seat (Scan scan) → journal.events ≡ s.journal.events ++ OpenScan seat query ∷ [] → open_count (map stage_of slots.items) ≤ journal.spare → IsState m (steps.with_fields m s (untouched s.table) s.rows slots journal)
+  scan_opens query scan slots journal is none within items events room = record {
+    kept = calls.kept_opens_scan
+        m
+        (fields_of s)
+        (fields_of (steps.with_fields m s (untouched s.table) s.rows slots journal))
+        seat
+        (reading scan)
+        I.kept
+        (stages_set slots.items s.slots.items seat (Scan scan) items)
+        (stage_set slots.items s.slots.items seat (Scan scan) items (steps.seats m s I) within)
+        (steps.held_on s.table (untouched s.table) seat (rest_of s.table seat) (λ b. false) (λ b. refl) (steps.free_held m s I seat none))
+        room
+        refl
+        refl
+        refl
+        query
+        (ap reading (is ∙ ap (λ n. opened m query n s.table.clock) (sym (length-reverse s.journal.events))))
+        (steps.free_open m s I seat none)
+        events
+        refl;
+    unswept = steps.unswept_then m s I journal.events (OpenScan seat query) events refl;
+  }
 
   -- ---- a scan reads
 
-  pub can_read : (slot : Slot O Key Recon Cond) (seat item : ℕ) → SlotFits m s.table before seat slot → item < held_count (stage_of slot) → CanRead m s.table slot item
-  can_read Free seat item fits h = absurd (omega arith)
-  can_read (Insert key d) seat item fits h = absurd (omega arith)
-  can_read (Scan q) seat item (opened_at, has, D) h = (h, λ x r i. D.covers.sheltered item x r i)
+  pub can_read : (slot : Slot O Key Recon Cond) (item : ℕ) → StageFits m s.table (steps.past m s I) seat (stage_of slot) → item < held_count (stage_of slot) → CanRead m s.table slot item
+  can_read Free item has h = absurd (omega arith)
+  can_read (Insert key d) item has h = absurd (omega arith)
+  can_read (Scan q) item (before, has, D) h = (h, λ x r i. D.spots.sheltered (item, 0) x r (held x r, i, (refl, refl, refl)))
 
-  fits_read : (q q2 : Scanning O Key Recon Cond) (seat item by : ℕ) (out : ReadOut) → KeptLaw m → CodeLaw m → SlotFits m s.table before seat (Scan q) → IsReadOut m s.table s.rows q q2 item by out → SlotFits m s.table before seat (Scan q2)
-  fits_read q q2 seat item by Read K L (opened_at, has, D) (u, R) =
-      let asks : q.query ≡ q2.query = ap (λ (z : Scanning O Key Recon Cond). z.query) (sym R.after) in
-      (opened_at, has ∙ ap (scanning opened_at) asks, scan_reads m (sheets_of s.table) before (sane m s kept) kept.holds opened_at (put_since before seat opened_at q.query has) (killed_since before seat opened_at q.query has) s.rows kept.states K L q D q2 item R)
-  fits_read q q2 seat item by (Latched block holder) K L fits (a, b, c, is) = subst (λ (z : Scanning O Key Recon Cond). SlotFits m s.table before seat (Scan z)) (sym is) fits
+  module _ (q q2 : Scanning O Key Recon Cond) (item : ℕ) (slots : Vec (Slot O Key Recon Cond) Global) (here : slot_now ≡ Scan q) (items : slots.items ≡ set s.slots.items seat (Scan q2)) where
+    was : is_open (stage_of slot_now) ≡ true
+    was = ap (λ (x : Slot O Key Recon Cond). is_open (stage_of x)) here
 
-  kept_reads : (seat item : ℕ) (out : ReadOut) (slots : Vec (Slot O Key Recon Cond) Global) → seat ≡ 0 → KeptLaw m → CodeLaw m → (slot : Slot O Key Recon Cond) → get_or s.slots.items seat Free ≡ slot →
-      ReadsFrom m s.table s.rows s.slots.items slots.items seat item out slot → IsKept m (with_fields m s s.table s.rows slots s.journal)
-  kept_reads seat item out slots first K L Free is h = absurd h
-  kept_reads seat item out slots first K L (Insert key d) is h = absurd h
-  kept_reads seat item out slots first K L (Scan q) is (q2, items, R) =
-      kept_moved m s kept seat (Scan q2) s.table slots first items (ap is_open is) (fits_read q q2 seat item seat out K L (subst (SlotFits m s.table before seat) is (kept.slots seat)) R) (pages_are m s kept) (scan_holds seat q first is) refl
+    has : StageFits m s.table (steps.past m s I) seat (reading q)
+    has = subst (λ (x : Slot O Key Recon Cond). StageFits m s.table (steps.past m s I) seat (stage_of x)) here (steps.fits m s I seat)
 
-  reads_item : (seen : Seen O Key Recon Cond) → seen_of s ≡ seen → (seat item : ℕ) (out : ReadOut) (slots : List (Slot O Key Recon Cond)) → seat ≡ 0 → (slot : Slot O Key Recon Cond) → ReadsFrom m s.table s.rows s.slots.items slots seat item out slot →
-      ReadsFor m seen (seen_as s.journal.events (map stage_of slots) s.table s.origin) seat item out (stage_of slot)
-  reads_item seen view seat item out slots first Free h = absurd h
-  reads_item seen view seat item out slots first (Insert key d) h = absurd h
-  reads_item seen view seat item out slots first (Scan q) (q2, items, R) = (
+    -- it holds no latch
+    none : AreHeld (untouched s.table) seat (rest_of s.table seat) (λ b. false)
+    none = steps.held_on s.table (untouched s.table) seat (rest_of s.table seat) (λ b. false) (λ b. refl) (subst (λ (x : Slot O Key Recon Cond). AreHeld s.table seat (rest_of s.table seat) (stage_holds (stage_of x))) here (steps.held m s I seat))
+
+    reads_at : (out : ReadOut) → KeptLaw m → CodeLaw m → IsReadOut m s.table s.rows q q2 item seat out → IsKept m (fields_of (steps.with_fields m s (untouched s.table) s.rows slots s.journal))
+    reads_at Read K L (alone, R) = calls.kept_reads
+        m
+        (fields_of s)
+        (fields_of (steps.with_fields m s (untouched s.table) s.rows slots s.journal))
+        seat
+        (reading q2)
+        I.kept
+        (stages_set slots.items s.slots.items seat (Scan q2) items)
+        (stage_set slots.items s.slots.items seat (Scan q2) items (steps.seats m s I) (steps.low m s I seat was))
+        none
+        (steps.room_on m s I seat (Scan q2) slots.items items was)
+        refl
+        refl
+        K
+        L
+        q
+        item
+        R.item
+        R.items
+        R.found
+        _
+        (stage_get s.slots.items seat ∙ ap stage_of here)
+        (ap reading R.after)
+        R.at
+        (inl R.reads)
+        refl
+        refl
+        refl
+    reads_at (Latched block by) K L (place, latched, other, same) = calls.kept_still
+        m
+        (fields_of s)
+        (fields_of (steps.with_fields m s (untouched s.table) s.rows slots s.journal))
+        seat
+        (reading q2)
+        I.kept
+        (stages_set slots.items s.slots.items seat (Scan q2) items)
+        (stage_set slots.items s.slots.items seat (Scan q2) items (steps.seats m s I) (steps.low m s I seat was))
+        none
+        (steps.room_on m s I seat (Scan q2) slots.items items was)
+        refl
+        refl
+        refl
+        refl
+        refl
+        (subst (λ (z : Scanning O Key Recon Cond). StageFits m s.table (steps.past m s I) seat (reading z)) (sym same) has)
+
+    -- ---- it ends
+
+    closes_at : (closed : Closed) (ended : Vec (Slot O Key Recon Cond) Global) (journal : Written O Key Recon Cond) → q.items ≡ [] → IsClosing q closed → ended.items ≡ set s.slots.items seat Free → journal.events ≡ s.journal.events ++ CloseScan seat closed.rows ∷ [] → journal.spare + 1 ≡ s.journal.spare
+        → IsKept m (fields_of (steps.with_fields m s (untouched s.table) s.rows ended journal))
+    closes_at closed ended journal empty C all events less =
+        let (before, opened_at, D) = has in
+        calls.kept_closes_scan
+        m
+        (fields_of s)
+        (fields_of (steps.with_fields m s (untouched s.table) s.rows ended journal))
+        seat
+        free
+        I.kept
+        (stages_set ended.items s.slots.items seat Free all)
+        (stage_set ended.items s.slots.items seat Free all (steps.seats m s I) (steps.low m s I seat was))
+        none
+        (steps.room_ended m s I seat ended.items journal.spare all less was)
+        refl
+        refl
+        refl
+        q
+        closed.rows
+        refl
+        (stage_get s.slots.items seat ∙ ap stage_of here)
+        empty
+        C.same
+        (C.ascending (once_taken q D))
+        events
+        refl
+
+  pub kept_reads : (item : ℕ) (out : ReadOut) (slots : Vec (Slot O Key Recon Cond) Global) → KeptLaw m → CodeLaw m → (slot : Slot O Key Recon Cond) → slot_now ≡ slot → ReadsFrom m s.table s.rows s.slots.items slots.items seat item out slot → IsState m (steps.with_fields m s (untouched s.table) s.rows slots s.journal)
+  kept_reads item out slots K L Free here h = absurd h
+  kept_reads item out slots K L (Insert key d) here h = absurd h
+  kept_reads item out slots K L (Scan q) here (q2, items, R) = record { kept = reads_at q q2 item slots here items out K L R; unswept = I.unswept }
+
+  pub reads_seen : (seen : Seen O Key Recon Cond) → seen_of s ≡ seen → (item : ℕ) (out : ReadOut) (slots : List (Slot O Key Recon Cond)) (t2 : pages.Table) → t2 ≡ untouched s.table → (slot : Slot O Key Recon Cond) → slot_now ≡ slot → ReadsFrom m s.table s.rows s.slots.items slots seat item out slot →
+      ReadsFor m seen (seen_as s.journal.events (map stage_of slots) t2 s.origin) seat item out (stage_of slot)
+  reads_seen seen view item out slots t2 table Free here h = absurd h
+  reads_seen seen view item out slots t2 table (Insert key d) here h = absurd h
+  reads_seen seen view item out slots t2 table (Scan q) here (q2, items, R) = (
     q2,
     s.rows,
-    subst (λ (v : Seen O Key Recon Cond). IsReadOut m v.table s.rows q q2 item seat out) view R,
-    moved_is s seen view seat (Scan q2) slots s.table items ∙ ap (λ (t : Table). moved seen seat (reading q2) t) (sym (table_is s seen view seat)),
-    stage_set slots s.slots.items seat (Scan q2) items kept.seats (omega (arith, first)),
+    λ row. I.kept.tells.states row ∙ ap (state_of row) (sym (past_is s seen view 0)),
+    subst (λ (t : pages.Table). IsReadOut m t s.rows q q2 item seat out) (sym (table_is s seen view 0)) R,
+    moved_is s seen view seat (Scan q2) slots t2 items ∙ ap (λ (t : pages.Table). moved seen seat (reading q2) t) (table ∙ ap untouched (sym (table_is s seen view 0))),
+    stage_set slots s.slots.items seat (Scan q2) items (steps.seats m s I) (steps.low m s I seat (ap (λ (x : Slot O Key Recon Cond). is_open (stage_of x)) here)),
   )
-
-  -- what comes of a read: it is done, or nothing changes
-  pub kept_reads_out : (seat item : ℕ) (result : Result ReadOut Memory) (slots : Vec (Slot O Key Recon Cond) Global) → seat ≡ 0 → KeptLaw m → CodeLaw m →
-      IfOk result (λ out. ReadsFrom m s.table s.rows s.slots.items slots.items seat item out (get_or s.slots.items seat Free)) → OnErr result (slots.items ≡ s.slots.items) → IsKept m (with_fields m s s.table s.rows slots s.journal)
-  kept_reads_out seat item (Ok out) slots first K L ok err = kept_reads seat item out slots first K L (get_or s.slots.items seat Free) refl ok
-  kept_reads_out seat item (Err e) slots first K L ok err = kept_still m s kept s.table slots refl err
-
-  pub reads_item_out : (seen : Seen O Key Recon Cond) → seen_of s ≡ seen → (seat item : ℕ) (result : Result ReadOut Memory) (slots : List (Slot O Key Recon Cond)) → seat ≡ 0 →
-      IfOk result (λ out. ReadsFrom m s.table s.rows s.slots.items slots seat item out (get_or s.slots.items seat Free)) → IfOk result (λ out. ReadsItem m seen (seen_as s.journal.events (map stage_of slots) s.table s.origin) seat item out)
-  reads_item_out seen view seat item (Ok out) slots first ok =
-      let new : Seen O Key Recon Cond = seen_as s.journal.events (map stage_of slots) s.table s.origin in
-      subst (ReadsFor m seen new seat item out) (sym (stage_is s seen view seat)) (reads_item seen view seat item out slots first (get_or s.slots.items seat Free) ok)
-  reads_item_out seen view seat item (Err e) slots first ok = tt
-
-  pub same_out : (seen : Seen O Key Recon Cond) → seen_of s ≡ seen → (result : Result ReadOut Memory) (slots : Vec (Slot O Key Recon Cond) Global) → OnErr result (slots.items ≡ s.slots.items) → OnErr result (seen_as s.journal.events (map stage_of slots.items) s.table s.origin ≡ seen)
-  same_out seen view (Ok out) slots err = tt
-  same_out seen view (Err e) slots err = ap (λ (l : List (Slot O Key Recon Cond)). seen_as s.journal.events (map stage_of l) s.table s.origin) err ∙ view
 
   -- ---- a scan ends
 
-  pub is_read : (slot : Slot O Key Recon Cond) → IsRead (stage_of slot) → CanClose slot × (is_open slot ≡ true)
+  pub is_read : (slot : Slot O Key Recon Cond) → IsRead (stage_of slot) → CanClose slot × (is_open (stage_of slot) ≡ true)
   is_read Free h = absurd h
   is_read (Insert key d) h = absurd h
   is_read (Scan q) h = (h, refl)
 
-  pub told_events : (seat : ℕ) (told given : List RowAt) (events : List (Event O Key Recon Cond)) → events ≡ s.journal.events ++ CloseScan seat told ∷ [] → told ≡ given → events ≡ s.journal.events ++ CloseScan seat given ∷ []
-  told_events seat told given events h e = h ∙ ap (λ l. s.journal.events ++ CloseScan seat l ∷ []) e
+  pub closes_seats : (closed : Closed) (between : List (Slot O Key Recon Cond)) (slot : Slot O Key Recon Cond) → ClosesFrom s.slots.items between seat closed slot → length between ≡ 64
+  closes_seats closed between Free h = absurd h
+  closes_seats closed between (Insert key d) h = absurd h
+  closes_seats closed between (Scan q) (items, C) = ap length items ∙ length-set s.slots.items seat (Scan (emptied q)) ∙ steps.seats m s I
 
-  pub closes_seats : (seat : ℕ) (closed : Closed) (between : List (Slot O Key Recon Cond)) (slot : Slot O Key Recon Cond) → ClosesFrom s.slots.items between seat closed slot → length between ≡ 64
-  closes_seats seat closed between Free h = absurd h
-  closes_seats seat closed between (Insert key d) h = absurd h
-  closes_seats seat closed between (Scan q) (items, C) = ap length items ∙ length-set s.slots.items seat (Scan (emptied q)) ∙ kept.seats
+  pub kept_closes : (closed : Closed) (between slots : Vec (Slot O Key Recon Cond) Global) (journal : Written O Key Recon Cond) → (slot : Slot O Key Recon Cond) → slot_now ≡ slot → CanClose slot →
+      ClosesFrom s.slots.items between.items seat closed slot → slots.items ≡ set between.items seat Free → journal.events ≡ s.journal.events ++ CloseScan seat closed.rows ∷ [] → journal.spare + 1 ≡ s.journal.spare → IsState m (steps.with_fields m s (untouched s.table) s.rows slots journal)
+  kept_closes closed between slots journal Free here can h items events less = absurd h
+  kept_closes closed between slots journal (Insert key d) here can h items events less = absurd h
+  kept_closes closed between slots journal (Scan q) here empty (made, C) items events less = record {
+    kept = closes_at q (emptied q) 0 between here made closed slots journal empty C (set_twice s.slots.items between.items slots.items seat (Scan (emptied q)) Free made items) events less;
+    unswept = steps.unswept_then m s I journal.events (CloseScan seat closed.rows) events refl;
+  }
 
-  closes_right : (seat : ℕ) (q : Scanning O Key Recon Cond) (closed : Closed) → SlotFits m s.table before seat (Scan q) → q.items ≡ [] → IsClosing q closed → IsAllowed before (CloseScan seat closed.rows) × ClosesRight m before (CloseScan seat closed.rows)
-  closes_right seat q closed (opened_at, has, D) none C = (
-    (opened_at, q.query, has),
-    λ before2 query is.
-        let e : scanning opened_at q.query ≡ scanning before2 query = sym has ∙ is in
-        let same : opened_at ≡ before2 = cc in
-        let asks : q.query ≡ query = cc in
-        subst (λ (b : History O Key Recon Cond). ScanRight m b before query closed.rows) same (subst (λ (z : Query O Key Recon Cond). ScanRight m opened_at before z closed.rows) asks (scan_closes m (sheets_of s.table) opened_at before q D closed none C)),
-  )
-
-  pub kept_closes : (seat : ℕ) (closed : Closed) (between slots : Vec (Slot O Key Recon Cond) Global) (journal : Written O Key Recon Cond) → seat ≡ 0 → (slot : Slot O Key Recon Cond) → get_or s.slots.items seat Free ≡ slot → CanClose slot →
-      ClosesFrom s.slots.items between.items seat closed slot → slots.items ≡ set between.items seat Free → journal.events ≡ s.journal.events ++ CloseScan seat closed.rows ∷ [] → journal.spare + 1 ≡ s.journal.spare → IsKept m (with_fields m s s.table s.rows slots journal)
-  kept_closes seat closed between slots journal first Free is can h items events room = absurd h
-  kept_closes seat closed between slots journal first (Insert key d) is can h items events room = absurd h
-  kept_closes seat closed between slots journal first (Scan q) is none (emptied_are, C) items events room =
-      let e : Event O Key Recon Cond = CloseScan seat closed.rows in
-      let (allowed, right) = closes_right seat q closed (subst (SlotFits m s.table before seat) is (kept.slots seat)) none C in
-      let all : slots.items ≡ set s.slots.items seat Free = set_twice s.slots.items between.items slots.items seat (Scan (emptied q)) Free emptied_are items in
-      kept_logged m s kept e Free s.table s.rows slots journal first all events allowed right (itself_opens e before)
-      (pages_same m s.table e before (λ r. refl) (λ r. refl) refl (pages_are m s kept)) (same_rows m s.rows e before (λ r. refl) (λ r. refl) (rows_are m s kept)) (scan_holds seat q first is)
-      (room_ended m s kept seat slots.items journal.spare all room (ap is_open is)) refl
-
-  pub closes_scan : (seen : Seen O Key Recon Cond) → seen_of s ≡ seen → (seat : ℕ) (closed : Closed) (between slots : List (Slot O Key Recon Cond)) (events : List (Event O Key Recon Cond)) → seat ≡ 0 → (slot : Slot O Key Recon Cond) →
+  pub closes_seen : (seen : Seen O Key Recon Cond) → seen_of s ≡ seen → (closed : Closed) (between slots : List (Slot O Key Recon Cond)) (events : List (Event O Key Recon Cond)) (t2 : pages.Table) → t2 ≡ untouched s.table → (slot : Slot O Key Recon Cond) → slot_now ≡ slot →
       ClosesFrom s.slots.items between seat closed slot → slots ≡ set between seat Free → events ≡ s.journal.events ++ CloseScan seat closed.rows ∷ [] →
-      (seen_as events (map stage_of slots) s.table s.origin ≡ logged seen seat (CloseScan seat closed.rows) free seen.table) × (get_or (map stage_of slots) seat free ≡ free) × HasMet (stage_of slot) closed.met
-  closes_scan seen view seat closed between slots events first Free h items events_are = absurd h
-  closes_scan seen view seat closed between slots events first (Insert key d) h items events_are = absurd h
-  closes_scan seen view seat closed between slots events first (Scan q) (emptied_are, C) items events_are =
-      let all : slots ≡ set s.slots.items seat Free = set_twice s.slots.items between slots seat (Scan (emptied q)) Free emptied_are items in (
-        logged_is s seen view seat (CloseScan seat closed.rows) Free slots events s.table all events_are ∙ ap (λ (t : Table). logged seen seat (CloseScan seat closed.rows) free t) (sym (table_is s seen view seat)),
-        stage_set slots s.slots.items seat Free all kept.seats (omega (arith, first)),
+      (seen_as events (map stage_of slots) t2 s.origin ≡ logged seen seat (CloseScan seat closed.rows) free (untouched seen.table)) × (stage_in (map stage_of slots) seat ≡ free) × HasMet (stage_of slot) closed.met
+  closes_seen seen view closed between slots events t2 table Free here h items events_are = absurd h
+  closes_seen seen view closed between slots events t2 table (Insert key d) here h items events_are = absurd h
+  closes_seen seen view closed between slots events t2 table (Scan q) here (made, C) items events_are =
+      let all : slots ≡ set s.slots.items seat Free = set_twice s.slots.items between slots seat (Scan (emptied q)) Free made items in (
+        logged_is s seen view seat (CloseScan seat closed.rows) Free slots events t2 all events_are ∙ ap (λ (t : pages.Table). logged seen seat (CloseScan seat closed.rows) free t) (table ∙ ap untouched (sym (table_is s seen view 0))),
+        stage_set slots s.slots.items seat Free all (steps.seats m s I) (steps.low m s I seat (ap (λ (x : Slot O Key Recon Cond). is_open (stage_of x)) here)),
         C.met,
       )
+
+  pub told_events : (told given : List RowAt) (events : List (Event O Key Recon Cond)) → events ≡ s.journal.events ++ CloseScan seat told ∷ [] → told ≡ given → events ≡ s.journal.events ++ CloseScan seat given ∷ []
+  told_events told given events h e = h ∙ ap (λ l. s.journal.events ++ CloseScan seat l ∷ []) e

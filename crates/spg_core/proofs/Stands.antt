@@ -19,7 +19,8 @@ use Rattle.spg_descend.specs.Leaves.{released, parent_block, stand_block, is_hel
 use Rattle.spg_descend.specs.Follows.{IsAtInner, tuple_place, link_of, stand_below, latched}
 use Rattle.spg_descend.specs.Puts.{IsAtLeaves, IsAtEmpty, IsPutSpot}
 use Rattle.spg_descend.specs.Rules.{IsAtNoInner}
-use Rattle.spg_core.specs.Stepping.{HasInnerRoot, StandsAt, Stands, SamePages}
+use Rattle.spg_seats.specs.Descending.{HasInnerRoot, StandsAt, Stands}
+use Rattle.spg_core.specs.Stepping.{SamePages}
 
 pub root_range : (nulls : Bool) → (0 < root_of nulls) × (root_of nulls < 3)
 root_range true = (omega arith, omega arith)

@@ -10,3 +10,6 @@ pub mod Sections
 pub mod Through
 pub mod Counts
 pub mod Ends
+pub mod Telling
+pub mod Refusing
+pub mod Runs

@@ -8,15 +8,16 @@ use Rattle.spg_tree.specs.Table.{Table, sheets_of}
 use Rattle.spg_tree.specs.Descents.{Descending}
 use Rattle.spg_descend.specs.Carried.{IsCarried}
 use Rattle.spg_descend.specs.Leaves.{stand_block, parent_block}
-use Rattle.spg_scan.specs.Scanning.{Scanning, IsHeld, IsReadOut, IsClosing, emptied}
+use Rattle.spg_scan.specs.Scanning.{Scanning, IsClosing, emptied}
+use Rattle.spg_scan.specs.Reading.{IsHeld, IsReadOut}
 use Rattle.spg_scan.specs.declared.walk.ReadOut.{ReadOut}
 use Rattle.spg_scan.specs.declared.walk.Closed.{Closed}
 use Rattle.spg_core.specs.declared.answer.InsertOut.{InsertOut}
 use Rattle.spg_core.specs.declared.slot.Slot.{Slot}
 use Rattle.spg_core.specs.declared.slot.Slot.TheVariants.{Free, Insert, Scan}
-use Rattle.spg_core.specs.Stepping.{Stands, IsOutgrown, IsStepOut, MakesAtMostOne}
-use Rattle.spg_core.specs.Ends.{TakesOne}
-use Rattle.spg_core.specs.Latches.{InsertHolds, HoldsAfter}
+use Rattle.spg_seats.specs.Descending.{Stands}
+use Rattle.spg_core.specs.Stepping.{IsOutgrown}
+use Rattle.spg_core.specs.Telling.{StepDone}
 
 abbrev pub CanStep : {O Key Recon Cond : Type 0} → Meaning Key Recon Cond → Table → Slot O Key Recon Cond → Type 0
 CanStep m t Free = ⊥
@@ -32,8 +33,7 @@ IsOutgrownBy t (Scan s) = ⊥
 abbrev pub StepsFrom : {O Key Recon Cond : Type 0} → Meaning Key Recon Cond → Table → Table → List (Slot O Key Recon Cond) → List (Slot O Key Recon Cond) → ℕ → InsertOut → Slot O Key Recon Cond → Type 0
 StepsFrom m t t2 old new seat out Free = ⊥
 StepsFrom {O} {Key} {Recon} m t t2 old new seat out (Insert key d) =
-    (d2 : Descending Recon) × (new ≡ slice_set old seat (Insert key d2)) × IsStepOut m t t2 d d2 seat out × (InsertHolds t seat d → HoldsAfter t2 seat d2 out)
-    × TakesOne m t t2 d d2 out × MakesAtMostOne t t2
+    (d2 : Descending Recon) × (new ≡ slice_set old seat (Insert key d2)) × StepDone m t t2 d d2 seat out
 StepsFrom m t t2 old new seat out (Scan s) = ⊥
 
 abbrev pub StepsSlot : {O Key Recon Cond : Type 0} → Meaning Key Recon Cond → Table → Table → List (Slot O Key Recon Cond) → List (Slot O Key Recon Cond) → ℕ → InsertOut → Type 0

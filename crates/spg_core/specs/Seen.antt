@@ -1,12 +1,11 @@
 -- The state as contracts see it.
-use Rattle.std.specs.Prelude.{◌≡◌, ℕ, true, List, [], ◌∷◌, ◌++◌, slice_index_or, slice_set, reverse, Option, Some}
-use Rattle.spg_base.specs.Row.{RowAt}
+use Rattle.std.specs.Prelude.{ℕ, List, [], ◌∷◌, ◌++◌, slice_set, reverse}
 use Rattle.spg_base.specs.declared.recorded.Origin.{Origin}
 use Rattle.spg_rows.specs.declared.event.Event.{Event}
 use Rattle.spg_rows.specs.History.{History}
-use Rattle.spg_rows.specs.Rows.{is_present, key_of}
-use Rattle.spg_tree.specs.Table.{Table}
-use Rattle.spg_core.specs.Stage.{Stage, free}
+use Rattle.spg_tree.specs.Table.{Table, with_touched}
+use Rattle.spg_seats.specs.Slots.{Stage, stage_in}
+pub use Rattle.spg_rows.specs.Present.{IsPresentWith}
 
 -- the journal, the oldest event first; the stage of each of the 64 seats; the pages; with what the state was made
 pub record Seen (O Key Recon Cond : Type 0) : Type 0 where
@@ -16,7 +15,7 @@ pub record Seen (O Key Recon Cond : Type 0) : Type 0 where
   pub origin : Origin
 
 abbrev pub stage_at : {O Key Recon Cond : Type 0} → Seen O Key Recon Cond → ℕ → Stage O Key Recon Cond
-stage_at seen seat = slice_index_or seen.stages seat free
+stage_at seen seat = stage_in seen.stages seat
 
 -- the seat is then at this stage, with these pages, and nothing else changes
 abbrev pub moved : {O Key Recon Cond : Type 0} → Seen O Key Recon Cond → ℕ → Stage O Key Recon Cond → Table → Seen O Key Recon Cond
@@ -30,6 +29,6 @@ logged seen seat event stage table = record { journal = seen.journal ++ event �
 abbrev pub past_of : {O Key Recon Cond : Type 0} → Seen O Key Recon Cond → History O Key Recon Cond
 past_of seen = reverse seen.journal
 
--- the row is present, with this key or null
-abbrev pub IsPresentWith : {O Key Recon Cond : Type 0} → History O Key Recon Cond → RowAt → Option Key → Type 0
-IsPresentWith past row key = (is_present row past ≡ true) × (key_of row past ≡ Some key)
+-- the pages, with none touched: what a call leaves that is no section of an insert
+abbrev pub untouched : Table → Table
+untouched t = with_touched t []

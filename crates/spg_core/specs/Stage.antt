@@ -1,19 +1,15 @@
--- How far a seat's operation has come.
-use Rattle.std.specs.Prelude.{◌≡◌, ℕ, [], length, Option, ⊤}
+-- How far a seat's operation has come: nothing is open, an insert is on its way, or a scan holds items and has taken rows.
+use Rattle.std.specs.Prelude.{◌≡◌, ◌+◌, ◌^◌, ℕ, [], length, ⊤}
 use Rattle.spg_rows.specs.declared.event.Event.{Event}
 use Rattle.spg_rows.specs.declared.event.Event.TheVariants.{Drop, Leave}
 use Rattle.spg_rows.specs.declared.event.Why.{Why}
+use Rattle.spg_rows.specs.declared.event.Why.TheVariants.{Given, Full, Clock}
 use Rattle.spg_rows.specs.History.{History, Opened, nothing, inserting, scanning}
-use Rattle.spg_tree.specs.Descents.{Descending}
-use Rattle.spg_scan.specs.Scanning.{Scanning}
+pub use Rattle.spg_seats.specs.Slots.{Stage, free, descending, reading}
+use Rattle.spg_tree.specs.Table.{Table}
+use Rattle.spg_core.specs.Stepping.{IsNearLimit}
 use Rattle.spg_core.specs.declared.answer.OpenKind.{OpenKind}
 use Rattle.spg_core.specs.declared.answer.OpenKind.TheVariants as kind
-
--- nothing is open; an insert of a key or a null is on its way; a scan holds items and has taken rows
-pub data Stage (O Key Recon Cond : Type 0) : Type 0 where
-  free : Stage O Key Recon Cond
-  descending : Option Key → Descending Recon → Stage O Key Recon Cond
-  reading : Scanning O Key Recon Cond → Stage O Key Recon Cond
 
 abbrev pub IsInserting : {O Key Recon Cond : Type 0} → Stage O Key Recon Cond → Type 0
 IsInserting free = ⊥
@@ -37,6 +33,12 @@ abbrev pub given_up : {O Key Recon Cond : Type 0} → ℕ → Stage O Key Recon 
 given_up seat free why = Leave seat
 given_up seat (descending key d) why = Drop seat d.row why
 given_up seat (reading s) why = Leave seat
+
+-- an operation may be given up for this cause: want of room or of clock is a cause for an insert alone, where fewer than 4 blocks are left below the limit, or the clock stands at its end
+abbrev pub MayGiveUp : {O Key Recon Cond : Type 0} → Table → Stage O Key Recon Cond → Why → Type 0
+MayGiveUp t stage Given = ⊤
+MayGiveUp t stage Full = IsInserting stage × IsNearLimit t
+MayGiveUp t stage Clock = IsInserting stage × (t.clock + 1 ≡ 2 ^ 48)
 
 -- what `open_of` answers
 abbrev pub kind_of : {O Key Recon Cond : Type 0} → Stage O Key Recon Cond → OpenKind

@@ -1,5 +1,5 @@
 -- Where an open insert stands in a table, and what a section of it does.
-use Rattle.std.specs.Prelude.{◌≡◌, ◌⊎◌, ◌<◌, ◌+◌, ℕ, Bool, true, false, List, length, Option, Some, None, if◌then◌else◌}
+use Rattle.std.specs.Prelude.{◌≡◌, ◌⊎◌, ◌<◌, ◌+◌, ℕ, Bool, true, false, List, [], length, Option, Some, None, if◌then◌else◌}
 use Rattle.spg_opclass.specs.Meaning.{Meaning}
 use Rattle.spg_forest.specs.View.{Place}
 use Rattle.spg_forest.specs.Spot.{Frame}
@@ -8,12 +8,10 @@ use Rattle.spg_forest.specs.Sheets.{sheet_at}
 use Rattle.spg_forest.specs.Section.{Adds, Leaves, Cost}
 use Rattle.spg_tree.specs.Table.{Table, sheets_of, latch_at, tuple_at}
 use Rattle.spg_tree.specs.Descents.{Descending, in_nulls}
-use Rattle.spg_tree.specs.declared.stand.Stand.{Stand}
-use Rattle.spg_tree.specs.declared.stand.Stand.TheVariants.{Start, Root, At, Empty}
+use Rattle.spg_tree.specs.declared.stand.Stand.TheVariants.{Start, Root}
 use Rattle.spg_descend.specs.Carried.{carried, root_of, IsCarried}
-use Rattle.spg_descend.specs.Below.{IsLink}
 use Rattle.spg_descend.specs.Follows.{IsAtInner}
-use Rattle.spg_descend.specs.Puts.{IsAtLeaves, IsAtEmpty, Fits}
+use Rattle.spg_descend.specs.Puts.{Fits}
 use Rattle.spg_descend.specs.Rules.{IsAtNoInner}
 use Rattle.spg_forest.specs.Shape.{IsRestOf}
 use Rattle.spg_forest.specs.Sheets.{links}
@@ -24,26 +22,11 @@ use Rattle.spg_opclass.specs.declared.view.Choice.TheVariants as choice
 use Rattle.spg_descend.specs.Follows.{tuple_place}
 use Rattle.spg_descend.specs.Answers.{IsAnswered}
 use Rattle.spg_descend.specs.Makes.{MakesOne}
-use Rattle.spg_core.specs.declared.inner.Chosen.{Chosen}
-use Rattle.spg_core.specs.declared.inner.Chosen.TheVariants.{Node, Add, Split}
+use Rattle.spg_seats.specs.Descending.{HasInnerRoot, Stands}
+use Rattle.spg_core.specs.declared.choose.Chosen.{Chosen}
+use Rattle.spg_core.specs.declared.choose.Chosen.TheVariants.{Node, Add, Split}
 use Rattle.spg_core.specs.declared.answer.InsertOut.{InsertOut}
 use Rattle.spg_core.specs.declared.answer.InsertOut.TheVariants.{Descended, Restructured, Restarted, Put}
-
--- the root of a tree is an inner tuple
-abbrev pub HasInnerRoot : Table → Bool → Type 0
-HasInnerRoot t nulls = (sheet_at (sheets_of t) (root_of nulls)).inner ≡ true
-
--- the insert stands at the root of its tree; or below an inner root, at what the node of the tuple above leads to, or at its empty downlink
-abbrev pub StandsAt : Table → Bool → Stand → Option (Place × ℕ) → Type 0
-StandsAt t nulls Start parent = parent ≡ None
-StandsAt t nulls (Root b) parent = (b ≡ root_of nulls) × (parent ≡ None)
-StandsAt t nulls (At x) None = ⊥
-StandsAt t nulls (At x) (Some (p, i)) = HasInnerRoot t nulls × ((sheet_at (sheets_of t) x.block).nulls ≡ nulls) × IsLink t p i x × (IsAtInner t (At x) ⊎ IsAtLeaves (sheets_of t) nulls (At x))
-StandsAt t nulls Empty parent = HasInnerRoot t nulls × IsAtEmpty (sheets_of t) nulls Empty parent
-
--- the insert of a table stands there
-abbrev pub Stands : {Recon : Type 0} → Table → Descending Recon → Type 0
-Stands t d = StandsAt t (in_nulls d) d.stand d.parent
 
 -- the pages stay as they are
 abbrev pub SamePages : Table → Table → Type 0
@@ -86,16 +69,17 @@ IsStepOut {Key} m t t2 d d2 seat Put =
 abbrev pub named : ℕ → Frame → ℕ → ℕ
 named turn w node = if w.all_same then turn else node
 
--- the class answers a match with this rest, and the node is the one that is followed then; in the nulls tree it is the one that the counter names
-abbrev pub IsNamed : {Key Recon Cond : Type 0} → Meaning Key Recon Cond → Table → Descending Recon → ℕ → List ℕ → Type 0
-IsNamed m t d node rest =
-    ((d.recon ≡ None) × (node ≡ t.counter)) ⊎ ((answer : ℕ) × IsAnswered m t d (choice.Match answer rest) × (node ≡ named t.counter (frame_in (tuple_at t (tuple_place d.stand))) answer))
+-- the class answers a match with this rest, and the node is the one that is followed then; in the nulls tree, and at an all-the-same tuple, it is the one that the counter names
+abbrev pub IsNamed : {Key Recon Cond : Type 0} → Meaning Key Recon Cond → Table → Descending Recon → ℕ → List ℕ → Bool → Type 0
+IsNamed m t d node rest by_turn =
+    let w : Frame = frame_in (tuple_at t (tuple_place d.stand)) in
+    ((d.recon ≡ None) × (node ≡ t.counter) × (rest ≡ []) × (by_turn ≡ true)) ⊎ ((answer : ℕ) × IsAnswered m t d (choice.Match answer rest) × (node ≡ named t.counter w answer) × (by_turn ≡ w.all_same))
 
 -- What an insert does at an inner tuple: it goes down a node that is there, below which it carries what it carried, by what the class answers, with the rebuilt value there; or the class asks for a node or a split
 abbrev pub IsChosen : {O Key Recon Cond : Type 0} → Meaning Key Recon Cond → Table → Descending Recon → Chosen O Key Recon Cond → Type 0
 IsChosen {O} {Key} m t d (Node node rest by_turn below) =
     let x : Place = tuple_place d.stand in
-    (node < length (links (tuple_at t x))) × IsRestOf m (in_nulls d) rest × ((key : Option Key) → IsCarried m (sheets_of t) d key → GoesBelow m d.recon (frame_in (tuple_at t x)) node rest key) × IsNamed m t d node rest
+    (node < length (links (tuple_at t x))) × IsRestOf m (in_nulls d) rest × ((key : Option Key) → IsCarried m (sheets_of t) d key → GoesBelow m d.recon (frame_in (tuple_at t x)) node rest key) × IsNamed m t d node rest by_turn
     × (below ≡ down_of m d.recon (frame_in (tuple_at t x)) node)
 IsChosen m t d (Add at label) = (in_nulls d ≡ false) × IsAnswered m t d (choice.Add at label)
 IsChosen m t d (Split up labels child low) = (in_nulls d ≡ false) × IsAnswered m t d (choice.Split up labels child low)

@@ -6,7 +6,7 @@ use spg_base::{Block, Memory, SeatNo};
 /// Why an insert was not opened.
 #[derive(Clone, Copy, Debug, PartialEq, Eq)]
 pub enum OpenRefused {
-    /// The row is claimed.
+    /// The row is claimed, and waits for nobody.
     RowUsed,
     /// Want of memory.
     Memory,

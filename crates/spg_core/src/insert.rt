@@ -1,22 +1,24 @@
-ghost use Rattle.std.specs.Prelude.{◌≡◌, Option, IfOk, OnErr, IsErrOf, ◌+◌, ◌^◌};
-ghost use Rattle.spg_forest.specs.Tuples.{Live};
+ghost use Rattle.std.specs.Prelude.{◌≡◌, ◌⊎◌, ℕ, Option, IfOk, OnErr, IsErrOf, ◌+◌, ◌^◌};
 ghost use Rattle.spg_forest.specs.Shape.{Shape};
 ghost use Rattle.spg_tree.specs.Table.{sheets_of};
 ghost use Rattle.spg_tree.specs.declared.stand.Stand.TheVariants.{Start};
-ghost use Rattle.spg_tree.specs.declared.stand.StepRefused.TheVariants.{IndexFull, ClockFull};
-ghost use Rattle.spg_descend.specs.Carried.{carried, IsCarried};
-ghost use Rattle.spg_descend.specs.Puts.{Fits};
-ghost use Rattle.spg_descend.specs.Rules.{IsAtNoInner, MayMove};
+ghost use Rattle.spg_tree.specs.declared.stand.StepRefused.TheVariants.{IndexFull, ClockFull, Memory as NoMemory};
+ghost use Rattle.spg_descend.specs.declared.rule.Rule.TheVariants as rules;
+ghost use Rattle.spg_descend.specs.Carried.{IsCarried};
 ghost use Rattle.spg_split.specs.Splits.{IsAtRoot};
-ghost use Rattle.spg_core.specs.Stepping.{Stands, IsOutgrown, IsNearLimit, IsStepOut, MakesAtMostOne};
+ghost use Rattle.spg_seats.specs.Descending.{Stands, HoldsIts, ChangesHeld};
+ghost use Rattle.spg_seats.specs.Latching.{InsertHolds};
+ghost use Rattle.spg_core.specs.Stepping.{IsOutgrown, IsNearLimit, IsStepOut, MakesAtMostOne};
+ghost use Rattle.spg_core.specs.Telling.{IsRuleFor, StepTells, Does};
+ghost use Rattle.spg_core.specs.Refusing.{FindsNoPage, Ticks};
 ghost use Rattle.spg_core.specs.Ends.{TakesOne};
-ghost use Rattle.spg_core.specs.Latches.{InsertHolds, HoldsAfter};
+ghost use Rattle.spg_core.specs.Latches.{HoldsAfter};
 
 use crate::answer::InsertOut;
 use crate::inner::at_inner;
-use crate::latches::{hold_anew, stand_block};
+use crate::latches::{settle_latches, stand_block};
 use spg_base::SeatNo;
-use spg_descend::{Entered, PutOut, Rule, enter_root, put_leaf, release_latches, rule_at};
+use spg_descend::{Entered, PutOut, Rule, enter_root, put_leaf, rule_at};
 use spg_move::move_chain;
 use spg_opclass::OpClass;
 use spg_split::{SplitOut, split_chain, split_leaf};
@@ -28,10 +30,7 @@ fn begin<O: OpClass>(table: &mut PageTable, descent: &mut Descent<O>, seat: Seat
     requires shape { Shape O.meaning (sheets_of table.old) }
     requires start { descent.old.stand ≡ Start }
     requires stands { Stands table.old descent.old }
-    ensures ok { IsStepOut O.meaning table.old table.new descent.old descent.new seat result }
-    ensures latches { InsertHolds table.old seat descent.old → HoldsAfter table.new seat descent.new result }
-    ensures ends { TakesOne O.meaning table.old table.new descent.old descent.new result }
-    ensures makes { MakesAtMostOne table.old table.new }
+    ensures { Does O.meaning table.old table.new descent.old descent.new seat result }
 {
     let _count = table.page_count();
     match enter_root(table, descent, seat) {
@@ -40,34 +39,52 @@ fn begin<O: OpClass>(table: &mut PageTable, descent: &mut Descent<O>, seat: Seat
     }
 }
 
-/// Puts the leaf of an insert where it fits, and gives its latches free.
+/// Puts the leaf of an insert where it fits.
 fn put<O: OpClass>(
     alloc: Global,
     table: &mut PageTable,
-    descent: &mut Descent<O>,
+    descent: &Descent<O>,
     seat: SeatNo,
 ) -> Result<InsertOut, StepRefused>
     requires shape { Shape O.meaning (sheets_of table.old) }
-    requires elsewhere { IsAtNoInner table.old descent.old.stand }
-    requires fits { Fits table.old descent.old.stand (Live (carried descent.old) 0) }
-    requires of_key { (key : Option O.Key) × IsCarried O.meaning (sheets_of table.old) descent.old key }
-    requires stands { Stands table.old descent.old }
-    ensures ok { IfOk result (λ out. IsStepOut O.meaning table.old table.new descent.old descent.new seat out) }
-    ensures latches { IfOk result (λ out. InsertHolds table.old seat descent.old → HoldsAfter table.new seat descent.new out) }
-    ensures ends { IfOk result (λ out. TakesOne O.meaning table.old table.new descent.old descent.new out) }
-    ensures makes { IfOk result (λ _. MakesAtMostOne table.old table.new) }
-    ensures full { IsErrOf result IndexFull → IsOutgrown table.old descent.old × IsNearLimit table.old }
+    requires of_key { (key : Option O.Key) × IsCarried O.meaning (sheets_of table.old) descent.now key }
+    requires stands { Stands table.old descent.now }
+    requires rule { IsRuleFor table.old descent.now rules.Put }
+    ensures does { IfOk result (λ out. Does O.meaning table.old table.new descent.now descent.now seat out) }
+    ensures full { IsErrOf result IndexFull → IsOutgrown table.old descent.now × IsNearLimit table.old }
     ensures clock { IsErrOf result ClockFull → ⊥ }
+    ensures full_where { IsErrOf result IndexFull → FindsNoPage O.meaning table.old descent.now seat }
+    ensures clock_where { IsErrOf result ClockFull → Ticks O.meaning table.old descent.now }
+    ensures clock_first { Ticks O.meaning table.old descent.now → table.old.clock + 1 ≡ 2 ^ 48 → IsErrOf result ClockFull ⊎ IsErrOf result NoMemory }
     ensures err { OnErr result (table.new ≡ table.old) }
-    ensures err_descent { OnErr result (descent.new ≡ descent.old) }
 {
     match put_leaf(alloc, table, descent, seat)? {
-        PutOut::Put => {
-            release_latches(table, descent, seat);
-            Ok(InsertOut::Put)
-        }
+        PutOut::Put => Ok(InsertOut::Put),
         PutOut::NoRoom => unreachable!(),
     }
+}
+
+/// Moves the short chain of an insert to another page, with the insert's leaf behind its head.
+fn move_away<O: OpClass>(
+    alloc: Global,
+    table: &mut PageTable,
+    descent: &Descent<O>,
+    seat: SeatNo,
+) -> Result<InsertOut, StepRefused>
+    requires shape { Shape O.meaning (sheets_of table.old) }
+    requires of_key { (key : Option O.Key) × IsCarried O.meaning (sheets_of table.old) descent.now key }
+    requires stands { Stands table.old descent.now }
+    requires rule { IsRuleFor table.old descent.now rules.Move }
+    ensures does { IfOk result (λ out. Does O.meaning table.old table.new descent.now descent.now seat out) }
+    ensures full { IsErrOf result IndexFull → IsOutgrown table.old descent.now × IsNearLimit table.old }
+    ensures clock { IsErrOf result ClockFull → IsOutgrown table.old descent.now × (table.old.clock + 1 ≡ 2 ^ 48) }
+    ensures full_where { IsErrOf result IndexFull → FindsNoPage O.meaning table.old descent.now seat }
+    ensures clock_where { IsErrOf result ClockFull → Ticks O.meaning table.old descent.now }
+    ensures clock_first { Ticks O.meaning table.old descent.now → table.old.clock + 1 ≡ 2 ^ 48 → IsErrOf result ClockFull ⊎ IsErrOf result NoMemory }
+    ensures err { OnErr result (table.new ≡ table.old) }
+{
+    move_chain(alloc, table, descent, seat)?;
+    Ok(InsertOut::Put)
 }
 
 /// Divides the leaves of a root leaf page on which the leaf of an insert does not fit.
@@ -79,25 +96,21 @@ fn divide_root<O: OpClass>(
     seat: SeatNo,
 ) -> Result<InsertOut, StepRefused>
     requires shape { Shape O.meaning (sheets_of table.old) }
-    requires root { IsAtRoot descent.old.stand }
-    requires elsewhere { IsAtNoInner table.old descent.old.stand }
-    requires no_room { Fits table.old descent.old.stand (Live (carried descent.old) 0) → ⊥ }
     requires of_key { (key : Option O.Key) × IsCarried O.meaning (sheets_of table.old) descent.old key }
     requires stands { Stands table.old descent.old }
-    ensures ok { IfOk result (λ out. IsStepOut O.meaning table.old table.new descent.old descent.new seat out) }
-    ensures latches { IfOk result (λ out. InsertHolds table.old seat descent.old → HoldsAfter table.new seat descent.new out) }
-    ensures ends { IfOk result (λ out. TakesOne O.meaning table.old table.new descent.old descent.new out) }
-    ensures makes { IfOk result (λ _. MakesAtMostOne table.old table.new) }
+    requires rule { IsRuleFor table.old descent.old rules.Part }
+    requires root { IsAtRoot descent.old.stand }
+    ensures does { IfOk result (λ out. Does O.meaning table.old table.new descent.old descent.new seat out) }
     ensures full { IsErrOf result IndexFull → IsOutgrown table.old descent.old × IsNearLimit table.old }
     ensures clock { IsErrOf result ClockFull → ⊥ }
+    ensures full_where { IsErrOf result IndexFull → FindsNoPage O.meaning table.old descent.old seat }
+    ensures clock_where { IsErrOf result ClockFull → Ticks O.meaning table.old descent.old }
+    ensures clock_first { Ticks O.meaning table.old descent.old → table.old.clock + 1 ≡ 2 ^ 48 → IsErrOf result ClockFull ⊎ IsErrOf result NoMemory }
     ensures err { OnErr result (table.new ≡ table.old) }
     ensures err_descent { OnErr result (descent.new ≡ descent.old) }
 {
     match split_leaf(alloc, class, table, descent, seat)? {
-        SplitOut::Put => {
-            release_latches(table, descent, seat);
-            Ok(InsertOut::Put)
-        }
+        SplitOut::Put => Ok(InsertOut::Put),
         SplitOut::LeftOut => Ok(InsertOut::Restructured),
     }
 }
@@ -111,59 +124,56 @@ fn divide_chain<O: OpClass>(
     seat: SeatNo,
 ) -> Result<InsertOut, StepRefused>
     requires shape { Shape O.meaning (sheets_of table.old) }
-    requires below { IsAtRoot descent.old.stand → ⊥ }
-    requires elsewhere { IsAtNoInner table.old descent.old.stand }
-    requires no_room { Fits table.old descent.old.stand (Live (carried descent.old) 0) → ⊥ }
-    requires long { MayMove table.old descent.old.stand (Live (carried descent.old) 0) → ⊥ }
     requires of_key { (key : Option O.Key) × IsCarried O.meaning (sheets_of table.old) descent.old key }
     requires stands { Stands table.old descent.old }
-    ensures ok { IfOk result (λ out. IsStepOut O.meaning table.old table.new descent.old descent.new seat out) }
-    ensures latches { IfOk result (λ out. InsertHolds table.old seat descent.old → HoldsAfter table.new seat descent.new out) }
-    ensures ends { IfOk result (λ out. TakesOne O.meaning table.old table.new descent.old descent.new out) }
-    ensures makes { IfOk result (λ _. MakesAtMostOne table.old table.new) }
+    requires rule { IsRuleFor table.old descent.old rules.Part }
+    requires below { IsAtRoot descent.old.stand → ⊥ }
+    ensures does { IfOk result (λ out. Does O.meaning table.old table.new descent.old descent.new seat out) }
     ensures full { IsErrOf result IndexFull → IsOutgrown table.old descent.old × IsNearLimit table.old }
     ensures clock { IsErrOf result ClockFull → IsOutgrown table.old descent.old × (table.old.clock + 1 ≡ 2 ^ 48) }
+    ensures full_where { IsErrOf result IndexFull → FindsNoPage O.meaning table.old descent.old seat }
+    ensures clock_where { IsErrOf result ClockFull → Ticks O.meaning table.old descent.old }
+    ensures clock_first { Ticks O.meaning table.old descent.old → table.old.clock + 1 ≡ 2 ^ 48 → IsErrOf result ClockFull ⊎ IsErrOf result NoMemory }
     ensures err { OnErr result (table.new ≡ table.old) }
     ensures err_descent { OnErr result (descent.new ≡ descent.old) }
 {
-    let was = stand_block(descent.stand());
     match split_chain(alloc, class, table, descent, seat)? {
-        SplitOut::Put => {
-            release_latches(table, descent, seat);
-            Ok(InsertOut::Put)
-        }
-        SplitOut::LeftOut => {
-            let _count = table.page_count();
-            hold_anew(table, descent, was, seat);
-            Ok(InsertOut::Restructured)
-        }
+        SplitOut::Put => Ok(InsertOut::Put),
+        SplitOut::LeftOut => Ok(InsertOut::Restructured),
     }
 }
 
-/// Moves the short chain of an insert to another page, with the insert's leaf behind its head.
-fn move_away<O: OpClass>(
+/// What an insert does where it stands, by the rule that applies there. Where it changed pages its
+/// latches are not settled yet.
+fn section<O: OpClass>(
     alloc: Global,
+    class: &O,
     table: &mut PageTable,
-    descent: &Descent<O>,
+    descent: &mut Descent<O>,
     seat: SeatNo,
 ) -> Result<InsertOut, StepRefused>
     requires shape { Shape O.meaning (sheets_of table.old) }
-    requires elsewhere { IsAtNoInner table.old descent.now.stand }
-    requires no_room { Fits table.old descent.now.stand (Live (carried descent.now) 0) → ⊥ }
-    requires short { MayMove table.old descent.now.stand (Live (carried descent.now) 0) }
-    requires of_key { (key : Option O.Key) × IsCarried O.meaning (sheets_of table.old) descent.now key }
-    requires stands { Stands table.old descent.now }
-    ensures ok { IfOk result (λ out. IsStepOut O.meaning table.old table.new descent.now descent.now seat out) }
-    ensures latches { IfOk result (λ out. InsertHolds table.old seat descent.now → HoldsAfter table.new seat descent.now out) }
-    ensures ends { IfOk result (λ out. TakesOne O.meaning table.old table.new descent.now descent.now out) }
-    ensures makes { IfOk result (λ _. MakesAtMostOne table.old table.new) }
-    ensures full { IsErrOf result IndexFull → IsOutgrown table.old descent.now × IsNearLimit table.old }
-    ensures clock { IsErrOf result ClockFull → IsOutgrown table.old descent.now × (table.old.clock + 1 ≡ 2 ^ 48) }
+    requires of_key { (key : Option O.Key) × IsCarried O.meaning (sheets_of table.old) descent.old key }
+    requires stands { Stands table.old descent.old }
+    ensures does { IfOk result (λ out. Does O.meaning table.old table.new descent.old descent.new seat out) }
+    ensures full { IsErrOf result IndexFull → IsOutgrown table.old descent.old × IsNearLimit table.old }
+    ensures clock { IsErrOf result ClockFull → IsOutgrown table.old descent.old × (table.old.clock + 1 ≡ 2 ^ 48) }
+    ensures full_where { IsErrOf result IndexFull → FindsNoPage O.meaning table.old descent.old seat }
+    ensures clock_where { IsErrOf result ClockFull → Ticks O.meaning table.old descent.old }
+    ensures clock_first { Ticks O.meaning table.old descent.old → table.old.clock + 1 ≡ 2 ^ 48 → IsErrOf result ClockFull ⊎ IsErrOf result NoMemory }
     ensures err { OnErr result (table.new ≡ table.old) }
+    ensures err_descent { OnErr result (descent.new ≡ descent.old) }
 {
-    move_chain(alloc, table, descent, seat)?;
-    release_latches(table, descent, seat);
-    Ok(InsertOut::Put)
+    match rule_at(table, descent) {
+        Rule::Start => Ok(begin(table, descent, seat)),
+        Rule::Choose => at_inner(alloc, class, table, descent, seat),
+        Rule::Put => put(alloc, table, descent, seat),
+        Rule::Move => move_away(alloc, table, descent, seat),
+        Rule::Part => match descent.stand() {
+            Stand::Root(_) => divide_root(alloc, class, table, descent, seat),
+            _ => divide_chain(alloc, class, table, descent, seat),
+        },
+    }
 }
 
 /// The next section of an open insert, which is one of those that may come yet. After a refusal table
@@ -179,22 +189,22 @@ pub(crate) fn step<O: OpClass>(
     requires of_key { (key : Option O.Key) × IsCarried O.meaning (sheets_of table.old) descent.old key }
     requires stands { Stands table.old descent.old }
     ensures ok { IfOk result (λ out. IsStepOut O.meaning table.old table.new descent.old descent.new seat out) }
-    ensures latches { IfOk result (λ out. InsertHolds table.old seat descent.old → HoldsAfter table.new seat descent.new out) }
+    ensures told { IfOk result (λ out. StepTells O.meaning table.old table.new descent.old descent.new seat out) }
+    ensures latches { IfOk result (λ out. (rest : ℕ → Option ℕ) → InsertHolds table.old seat rest descent.old → HoldsAfter table.new seat rest descent.new out) }
+    ensures within { HoldsIts table.old seat descent.old → ChangesHeld table.old table.new seat }
     ensures ends { IfOk result (λ out. TakesOne O.meaning table.old table.new descent.old descent.new out) }
     ensures makes { IfOk result (λ _. MakesAtMostOne table.old table.new) }
     ensures full { IsErrOf result IndexFull → IsOutgrown table.old descent.old × IsNearLimit table.old }
     ensures clock { IsErrOf result ClockFull → IsOutgrown table.old descent.old × (table.old.clock + 1 ≡ 2 ^ 48) }
+    ensures full_where { IsErrOf result IndexFull → FindsNoPage O.meaning table.old descent.old seat }
+    ensures clock_where { IsErrOf result ClockFull → Ticks O.meaning table.old descent.old }
+    ensures clock_first { Ticks O.meaning table.old descent.old → table.old.clock + 1 ≡ 2 ^ 48 → IsErrOf result ClockFull ⊎ IsErrOf result NoMemory }
     ensures err { OnErr result (table.new ≡ table.old) }
     ensures err_descent { OnErr result (descent.new ≡ descent.old) }
 {
-    match rule_at(table, descent) {
-        Rule::Start => Ok(begin(table, descent, seat)),
-        Rule::Choose => at_inner(alloc, class, table, descent, seat),
-        Rule::Put => put(alloc, table, descent, seat),
-        Rule::Move => move_away(alloc, table, descent, seat),
-        Rule::Part => match descent.stand() {
-            Stand::Root(_) => divide_root(alloc, class, table, descent, seat),
-            _ => divide_chain(alloc, class, table, descent, seat),
-        },
-    }
+    let was = stand_block(descent.stand());
+    let out = section(alloc, class, table, descent, seat)?;
+    let _count = table.page_count();
+    settle_latches(table, descent, was, seat, &out);
+    Ok(out)
 }

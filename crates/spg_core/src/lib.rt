@@ -2,16 +2,20 @@
 #![tactic(auto)]
 
 mod answer;
+mod choose;
 mod inner;
 mod insert;
 mod latches;
+mod laws;
 mod operations;
+mod recorded;
 mod slot;
 mod stat;
 mod state;
 mod through;
 
 pub use answer::{InsertOut, InsertRan, OpenKind, OpenRefused};
+pub use laws::calls_keep;
 pub use spg_scan::{Closed, ReadOut};
 pub use spg_tree::StepRefused;
 pub use state::State;

@@ -1,14 +1,17 @@
-ghost use Rattle.std.specs.Prelude.{◌≡◌, ◌<◌, ◌+◌, ◌^◌, [], ℕ, false, Option, length, slice_set, slice_index_or, IfOk, OnErr, IsErrOf, IfSome, ◌≤◌, vec_capacity};
+ghost use Rattle.std.specs.Prelude.{◌≡◌, ◌⊎◌, ◌<◌, ◌+◌, ◌^◌, [], ℕ, Option, length, slice_set, slice_index_or, IfOk, OnErr, IsErrOf, IfSome, ◌≤◌, vec_capacity};
 ghost use Rattle.spg_forest.specs.Shape.{Shape};
 ghost use Rattle.spg_rows.specs.Table.{state_in};
 ghost use Rattle.spg_rows.specs.declared.table.RowState.TheVariants as row_state;
 ghost use Rattle.spg_tree.specs.Table.{sheets_of};
-ghost use Rattle.spg_tree.specs.declared.stand.StepRefused.TheVariants.{IndexFull, ClockFull};
+ghost use Rattle.spg_tree.specs.declared.stand.StepRefused.TheVariants.{IndexFull, ClockFull, Memory as NoMemory};
 ghost use Rattle.spg_core.specs.declared.slot.Slot.TheVariants as kept;
-ghost use Rattle.spg_core.specs.Slot.{GivesBack};
+ghost use Rattle.spg_seats.specs.Slots.{stage_holds};
+ghost use Rattle.spg_seats.specs.Latching.{AreHeld, HoldsNone};
+ghost use Rattle.spg_core.specs.Telling.{IsButLatches};
+ghost use Rattle.spg_core.specs.Slot.{GivesBack, stage_of};
 ghost use Rattle.spg_core.specs.Operations.{CanStep, StepsSlot, IsOutgrownBy, CanRead, ReadsSlot, CanClose, ClosesSlot, CanRelease, IsInsert, IsRowOf};
-ghost use Rattle.spg_core.specs.Stepping.{SamePages, IsNearLimit};
-ghost use Rattle.spg_core.specs.Latches.{SlotHolds, NoLatches};
+ghost use Rattle.spg_core.specs.Stepping.{IsNearLimit};
+ghost use Rattle.spg_core.specs.Sections.{FindsNoPageFor, TicksFor};
 ghost use Rattle.spg_scan.specs.Scanning.{IsClosing, emptied};
 
 use crate::answer::InsertOut;
@@ -18,7 +21,7 @@ use spg_base::{List, Memory, Row, Rows, SeatNo};
 use spg_descend::release_latches;
 use spg_opclass::OpClass;
 use spg_rows::RowTable;
-use spg_scan::{Closed, ReadOut, Scan};
+use spg_scan::{Closed, ReadOut, Scan, Walk};
 use spg_tree::{PageTable, StepRefused};
 use std::alloc::Global;
 
@@ -36,6 +39,9 @@ pub(crate) fn step_slot<O: OpClass>(
     ensures ok { IfOk result (λ out. StepsSlot O.meaning table.old table.new slots.old.items slots.new.items seat out) }
     ensures full { IsErrOf result IndexFull → IsOutgrownBy table.old (slice_index_or slots.old.items seat kept.Free) × IsNearLimit table.old }
     ensures clock { IsErrOf result ClockFull → IsOutgrownBy table.old (slice_index_or slots.old.items seat kept.Free) × (table.old.clock + 1 ≡ 2 ^ 48) }
+    ensures full_where { IsErrOf result IndexFull → FindsNoPageFor O.meaning table.old seat (stage_of (slice_index_or slots.old.items seat kept.Free)) }
+    ensures clock_where { IsErrOf result ClockFull → TicksFor O.meaning table.old (stage_of (slice_index_or slots.old.items seat kept.Free)) }
+    ensures clock_first { TicksFor O.meaning table.old (stage_of (slice_index_or slots.old.items seat kept.Free)) → table.old.clock + 1 ≡ 2 ^ 48 → IsErrOf result ClockFull ⊎ IsErrOf result NoMemory }
     ensures err { OnErr result (table.new ≡ table.old) }
     ensures err_slots { OnErr result (slots.new.items ≡ slots.old.items) }
 {
@@ -131,8 +137,8 @@ pub(crate) fn release_slot<O: OpClass>(
     seat: SeatNo,
 )
     requires { CanRelease table.old rows.old slot.now }
-    ensures pages { SamePages table.old table.new }
-    ensures latches { SlotHolds table.old seat slot.now → NoLatches table.new }
+    ensures pages { IsButLatches table.old table.new }
+    ensures latches { (rest : ℕ → Option ℕ) → AreHeld table.old seat rest (stage_holds (stage_of slot.now)) → HoldsNone table.new seat rest }
     ensures rows { GivesBack slot.now rows.old rows.new }
 {
     if let Slot::Insert { descent, .. } = slot {

@@ -7,7 +7,7 @@ use crate::answer::OpenKind;
 use spg_base::{Memory, SeatNo};
 use spg_opclass::OpClass;
 use spg_rows::{Event, Why};
-use spg_scan::Scan;
+use spg_scan::{Scan, Walk};
 use spg_tree::Descent;
 use std::alloc::Global;
 

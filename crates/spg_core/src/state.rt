@@ -1,21 +1,24 @@
-ghost use Rattle.std.specs.Prelude.{◌≡◌, ◌≢◌, ◌<◌, ◌≤◌, ◌+◌, ◌^◌, ◌↔◌, ◌⊎◌, [], ℕ, suc, true, false, Option, Some, None, IfOk, OnOk, OnErr, IsErrOf, IsTrue};
+ghost use Rattle.std.specs.Prelude.{◌≡◌, ◌≢◌, ◌<◌, ◌≤◌, ◌+◌, ◌^◌, ◌↔◌, ◌⊎◌, [], ℕ, suc, Option, Some, None, IfOk, OnOk, OnErr, IsErrOf, IsTrue};
 ghost use Rattle.spg_base.specs.declared.recorded.Origin.{Origin};
 ghost use Rattle.spg_forest.specs.Shape.{Represents};
-ghost use Rattle.spg_forest.specs.Walk.{weight_of};
-ghost use Rattle.spg_rows.specs.Rows.{is_claimed};
+ghost use Rattle.spg_base.specs.Row.{RowAt};
+ghost use Rattle.spg_rows.specs.Table.{state_in, key_in};
+ghost use Rattle.spg_rows.specs.Rows.{state_of};
+ghost use Rattle.spg_rows.specs.Told.{IsUsed};
 ghost use Rattle.spg_rows.specs.Right.{Right};
 ghost use Rattle.spg_rows.specs.declared.table.RowState.TheVariants as row_state;
 ghost use Rattle.spg_rows.specs.declared.event.Event.TheVariants as event;
 ghost use Rattle.spg_rows.specs.History.{open_of};
-ghost use Rattle.spg_tree.specs.Table.{Table, sheets_of, start_table};
-ghost use Rattle.spg_core.specs.Stage.{free, IsInserting, IsRead, IsStageOf, held_count, given_up, kind_of};
+ghost use Rattle.spg_tree.specs.Table.{sheets_of};
+ghost use Rattle.spg_seats.specs.Slots.{StageFits, LatchesAre, kept_key};
+ghost use Rattle.spg_seats.specs.Descending.{ChangesHeld};
+ghost use Rattle.spg_core.specs.Stage.{free, IsInserting, IsRead, IsStageOf, MayGiveUp, held_count, kind_of};
 ghost use Rattle.spg_core.specs.Seen.{stage_at, past_of, IsPresentWith};
 ghost use Rattle.spg_core.specs.Stepping.{IsNearLimit, MakesAtMostOne};
 ghost use Rattle.spg_core.specs.Ends.{SeatEnds, SeatThenEnds};
-ghost use Rattle.spg_core.specs.Latches.{StageHolds, LatchesAfter, ChangesHeld};
-ghost use Rattle.spg_core.specs.Kept.{RootsAreHeavy};
+ghost use Rattle.spg_core.specs.Kept.{RootsAreHeavy, IsUnswept};
 ghost use Rattle.spg_core.specs.Counts.{IsStat};
-ghost use Rattle.spg_core.specs.Sections.{IsNew, OpensInsert, IsInsertOut, IsNoRestart, IsHeavy, OpensScan, ReadsItem, ClosesScan, GivesUp};
+ghost use Rattle.spg_core.specs.Sections.{IsNew, OpensInsert, IsInsertOut, TellsSection, LatchesAfter, OthersHold, IsHeavy, SeatFindsNoPage, SeatTicks, KillsRow, OpensScan, ReadsItem, ClosesScan, GivesUp};
 
 use crate::answer::{InsertOut, OpenKind, OpenRefused};
 use crate::operations::{close_slot, end_insert, read_slot, release_slot, step_slot};
@@ -33,8 +36,8 @@ use std::marker::Model;
 /// An open needs room for its own event and for the events that end what all seats have open.
 const ROOM: u64 = SEATS as u64 + 1;
 
-/// An index, what each seat has open, and the journal of all that was done. A seat has at most one
-/// operation open; so far seat 0 alone may have one.
+/// An index, what each of 64 seats has open, and the journal of all that was done. A seat has at most
+/// one operation open. The sections of the seats come in any order.
 #[derive(Drop)]
 pub struct State<O: OpClass> {
     alloc: Global,
@@ -48,13 +51,13 @@ pub struct State<O: OpClass> {
 
 impl<O: OpClass> Model for State<O> {
     ghost use Rattle.spg_core.specs.Seen.{Seen};
-    ghost use Rattle.spg_core.specs.Kept.{seen_of, IsKept};
+    ghost use Rattle.spg_core.specs.Kept.{seen_of, IsState};
 
     ghost Value = { Seen O O.Key O.Recon O.Cond };
 
     ghost view = { seen_of };
 
-    ghost invariant = { λ s. IsKept O.meaning s };
+    ghost invariant = { λ s. IsState O.meaning s };
 }
 
 impl<O: OpClass> State<O> {
@@ -85,30 +88,40 @@ impl<O: OpClass> State<O> {
         &self.class
     }
 
-    /// With what the state was made.
+    /// With what the state was made. The limit is that of the pages.
     pub fn origin(&self) -> Origin
-        ensures { result ≡ self.now.origin }
+        ensures value { result ≡ self.now.origin }
+        ensures limit { self.now.table.limit ≡ result.limit }
     {
         self.origin
     }
 
-    /// The journal. It is legal, and each closed scan is right.
+    /// The journal. It is legal, and each closed scan is right. So far it has no sweep.
     pub fn journal(&self) -> &Journal<O>
         ensures events { result.now.events ≡ self.now.journal }
         ensures right { Right O.meaning self.now.journal }
+        ensures unswept { IsUnswept (past_of self.now) }
     {
         &self.journal
     }
 
+    /// The state of each row, and the key of each that is not free. They are what the journal says.
+    pub fn rows(&self) -> &RowTable<O>
+        ensures states { (row : RowAt) → state_in result.now row ≡ state_of row (past_of self.now) }
+        ensures keys { (row : RowAt) → key_in result.now row ≡ kept_key row (past_of self.now) }
+    {
+        &self.rows
+    }
+
     /// The pages. They are well formed and hold just the rows that are present, each with its key. A
     /// root is an inner tuple only where the keys of its tree that were ever inserted take more than
-    /// 8,160 bytes. An open insert has latched just the block where it stands and that of the tuple
-    /// above, and nothing else is latched.
+    /// 8,160 bytes. A block is latched by a seat exactly where the seat's open insert stands on it or
+    /// has the tuple above on it.
     pub fn pages(&self) -> &PageTable
         ensures value { result.now ≡ self.now.table }
         ensures represents { Represents O.meaning (sheets_of self.now.table) (IsPresentWith (past_of self.now)) }
         ensures heavy { RootsAreHeavy O.meaning self.now.table (past_of self.now) }
-        ensures latches { StageHolds self.now.table 0 (stage_at self.now 0) }
+        ensures latches { LatchesAre self.now.table self.now.stages }
     {
         &self.table
     }
@@ -120,7 +133,8 @@ impl<O: OpClass> State<O> {
         self.table.clock()
     }
 
-    /// The blocks that the last section of an insert changed or added.
+    /// The blocks that the last section of an insert changed or added. A call that is none leaves it
+    /// empty.
     pub fn touched(&self) -> &Touched
         ensures { result.now ≡ self.now.table.touched }
     {
@@ -135,25 +149,27 @@ impl<O: OpClass> State<O> {
         stat_of(&self.table)
     }
 
-    /// What the seat has open. It is what the journal says.
+    /// What the seat has open. It is what the journal says. An open insert carries its key to where it
+    /// stands, and what a scan holds covers the rows that it must give.
     pub fn open_of(&self, seat: SeatNo) -> OpenKind
         ensures kind { result ≡ kind_of (stage_at self.now seat) }
         ensures journal { IsStageOf (open_of seat (past_of self.now)) (stage_at self.now seat) }
+        ensures fits { StageFits O.meaning self.now.table (past_of self.now) seat (stage_at self.now seat) }
     {
         kind(slot_at(&self.slots, seat))
     }
 
-    /// Opens an insert. It claims the row. `RowUsed` exactly where the row is claimed.
+    /// Opens an insert. It claims the row. `RowUsed` exactly where the row is claimed, and waits for
+    /// nobody.
     pub fn open_insert(
         &mut self,
         seat: SeatNo,
         row: Row,
         key: Option<O::Key>,
     ) -> Result<(), OpenRefused>
-        requires first { seat ≡ 0 }
         requires free { stage_at self.old seat ≡ free }
         ensures ok { OnOk result (OpensInsert O.meaning self.old self.new seat row key) }
-        ensures row_used { IsErrOf result OpenRefused.RowUsed ↔ (is_claimed row (past_of self.old) ≡ true) }
+        ensures row_used { IsErrOf result OpenRefused.RowUsed ↔ IsUsed (past_of self.old) row }
         ensures err { OnErr result (self.new ≡ self.old) }
     {
         if !is_free(self.rows.state(row)) {
@@ -170,31 +186,37 @@ impl<O: OpClass> State<O> {
             key: told,
         });
         set_slot(&mut self.slots, seat, Slot::Insert { key, descent });
+        self.table.set_touched(Touched::new());
         Ok(())
     }
 
-    /// The next section of an insert. `Descended` where it comes to the root, or from an inner tuple
-    /// to the child or the empty downlink of a node. `Restructured` where the leaves are divided
-    /// without its own, where a node is put into the inner tuple at which it stands, and where that
-    /// tuple is split. `Put` where the row is put, and the insert has ended. `IndexFull` only where a
-    /// page is wanted and there may be none: fewer than 4 blocks are left below the limit. `ClockFull`
-    /// only where a chain below a root moves or is divided, or an inner tuple moves that has one more
-    /// node, and the clock is 2^48 - 1. Both only where the keys of its tree that were ever inserted
-    /// take more than 8,160 bytes. It changes only blocks that the seat had latched or that nobody
-    /// had; at its start, and once its row is put, it has latched none. It makes one inner tuple at
-    /// most, and takes one of the sections that may come yet. `Restarted` does not come about so far,
-    /// since seat 0 alone may have something open.
+    /// The next section of an insert. `Descended` where it comes to the root, or from an inner
+    /// tuple to the child or the empty downlink of a node. `Restructured` where the leaves are
+    /// divided without its own, where a node is put into the inner tuple at which it stands, and
+    /// where that tuple is split. `Put` where the row is put, and the insert has ended. `IndexFull`
+    /// only where a pick of the section finds no page, and fewer than 4 blocks are left below the
+    /// limit. `ClockFull` where a chain moves, one below a root is divided, or a tuple with one
+    /// more node does not fit in its place, and the clock is 2^48 - 1. Both only where the keys of
+    /// its tree that were ever inserted take more than 8,160 bytes. `Restarted` exactly where the
+    /// root or child to be visited stands on a block that another seat has latched: the insert is
+    /// at its start then. It changes only blocks that the seat had latched or that nobody had; at
+    /// its start, and once its row is put, the seat has latched none. The latches of the other
+    /// seats stay. It makes one inner tuple at most, and takes one of the sections that may come
+    /// yet.
     pub fn insert_step(&mut self, seat: SeatNo) -> Result<InsertOut, StepRefused>
-        requires first { seat ≡ 0 }
         requires inserting { IsInserting (stage_at self.old seat) }
         ensures ok { IfOk result (λ out. IsInsertOut self.old self.new seat out) }
+        ensures told { IfOk result (λ out. TellsSection O.meaning self.old self.new seat out) }
         ensures latches { IfOk result (λ out. LatchesAfter self.new seat out) }
-        ensures alone { IfOk result (λ out. IsNoRestart out) }
+        ensures others { OthersHold self.old.table self.new.table seat }
         ensures within { ChangesHeld self.old.table self.new.table seat }
         ensures makes { IfOk result (λ _. MakesAtMostOne self.old.table self.new.table) }
         ensures ends { IfOk result (λ out. (n : ℕ) → SeatEnds O.meaning self.old seat (suc n) → SeatThenEnds O.meaning self.new seat n out) }
         ensures full { IsErrOf result StepRefused.IndexFull → IsHeavy O.meaning self.old seat × IsNearLimit self.old.table }
         ensures clock { IsErrOf result StepRefused.ClockFull → IsHeavy O.meaning self.old seat × (self.old.table.clock + 1 ≡ 2 ^ 48) }
+        ensures full_where { IsErrOf result StepRefused.IndexFull → SeatFindsNoPage O.meaning self.old seat }
+        ensures clock_where { IsErrOf result StepRefused.ClockFull → SeatTicks O.meaning self.old seat }
+        ensures clock_first { SeatTicks O.meaning self.old seat → self.old.table.clock + 1 ≡ 2 ^ 48 → IsErrOf result StepRefused.ClockFull ⊎ IsErrOf result StepRefused.Memory }
         ensures err { OnErr result (self.new ≡ self.old) }
     {
         let out = step_slot(
@@ -212,9 +234,24 @@ impl<O: OpClass> State<O> {
         Ok(out)
     }
 
+    /// Deletes the row. True exactly where it is live; else nothing changes.
+    pub fn kill(&mut self, seat: SeatNo, row: Row) -> Result<bool, Memory>
+        requires free { stage_at self.old seat ≡ free }
+        ensures ok { IfOk result (λ killed. KillsRow self.old self.new seat row killed) }
+        ensures err { OnErr result (self.new ≡ self.old) }
+    {
+        if !is_live(self.rows.state(row)) {
+            return Ok(false);
+        }
+        self.journal.reserve(ROOM)?;
+        self.rows.kill(row, self.journal.len());
+        self.journal.append(Event::Kill { seat, row });
+        self.table.set_touched(Touched::new());
+        Ok(true)
+    }
+
     /// Opens a scan. It holds the roots that the query begins at.
     pub fn open_scan(&mut self, seat: SeatNo, query: Query<O>) -> Result<(), Memory>
-        requires first { seat ≡ 0 }
         requires free { stage_at self.old seat ≡ free }
         ensures ok { OnOk result (OpensScan O.meaning self.old self.new seat query) }
         ensures err { OnErr result (self.new ≡ self.old) }
@@ -226,18 +263,19 @@ impl<O: OpClass> State<O> {
         self.journal.reserve(ROOM)?;
         self.journal.append(Event::OpenScan { seat, query: told });
         set_slot(&mut self.slots, seat, Slot::Scan(scan));
+        self.table.set_touched(Touched::new());
         Ok(())
     }
 
     /// Reads a held item: what it leads to takes its place, and the live rows that the query asks for
-    /// are taken.
+    /// are taken. `Latched` exactly where another seat has latched the item's block, and the scan stays
+    /// as it is.
     pub fn scan_read(&mut self, seat: SeatNo, item: usize) -> Result<ReadOut, Memory>
-        requires first { seat ≡ 0 }
         requires held { item < held_count (stage_at self.old seat) }
         ensures ok { IfOk result (λ out. ReadsItem O.meaning self.old self.new seat item out) }
         ensures err { OnErr result (self.new ≡ self.old) }
     {
-        read_slot(
+        let out = read_slot(
             self.alloc,
             &self.class,
             &self.table,
@@ -245,12 +283,13 @@ impl<O: OpClass> State<O> {
             &mut self.slots,
             seat,
             item,
-        )
+        )?;
+        self.table.set_touched(Touched::new());
+        Ok(out)
     }
 
     /// Ends a scan that holds nothing, and gives its rows, ascending.
     pub fn close_scan(&mut self, seat: SeatNo) -> Result<Closed, Memory>
-        requires first { seat ≡ 0 }
         requires read { IsRead (stage_at self.old seat) }
         ensures ok { IfOk result (λ closed. ClosesScan self.old self.new seat closed) }
         ensures err { OnErr result (self.new ≡ self.old) }
@@ -258,19 +297,22 @@ impl<O: OpClass> State<O> {
         let (told, closed) = close_slot(self.alloc, &mut self.slots, seat)?;
         self.journal.append(Event::CloseScan { seat, rows: told });
         set_slot(&mut self.slots, seat, Slot::Free);
+        self.table.set_touched(Touched::new());
         Ok(closed)
     }
 
-    /// Gives up what the seat has open: an insert with this cause. Nothing is latched then.
-    /// It takes no memory.
+    /// Gives up what the seat has open: an insert with this cause, `Full` only where fewer than 4
+    /// blocks are left below the limit, `Clock` only where the clock is 2^48 - 1. The seat has nothing
+    /// latched then. It takes no memory.
     pub fn abandon(&mut self, seat: SeatNo, why: Why)
-        requires first { seat ≡ 0 }
         requires open { stage_at self.old seat ≢ free }
+        requires why { MayGiveUp self.old.table (stage_at self.old seat) why }
         ensures { GivesUp self.old self.new seat why }
     {
         let slot = set_slot(&mut self.slots, seat, Slot::Free);
         release_slot(&mut self.table, &mut self.rows, &slot, seat);
         self.journal.append(give_up(&slot, seat, why));
+        self.table.set_touched(Touched::new());
     }
 }
 
@@ -296,6 +338,15 @@ fn is_free(state: RowState) -> bool
 {
     match state {
         RowState::Free => true,
+        _ => false,
+    }
+}
+
+fn is_live(state: RowState) -> bool
+    ensures { IsTrue result ↔ (state ≡ row_state.Live) }
+{
+    match state {
+        RowState::Live => true,
         _ => false,
     }
 }

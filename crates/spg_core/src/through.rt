@@ -3,7 +3,8 @@ ghost use Rattle.spg_tree.specs.declared.stand.StepRefused.TheVariants.{IndexFul
 ghost use Rattle.spg_core.specs.Stage.{IsInserting};
 ghost use Rattle.spg_core.specs.Seen.{stage_at};
 ghost use Rattle.spg_core.specs.Stepping.{IsNearLimit};
-ghost use Rattle.spg_core.specs.Sections.{IsHeavy};
+ghost use Rattle.spg_seats.specs.Descending.{ChangesHeld};
+ghost use Rattle.spg_core.specs.Sections.{IsHeavy, OthersHold, SeatFindsNoPage, SeatTicks};
 ghost use Rattle.spg_core.specs.Through.{StillInserts, RunsThrough};
 
 use crate::answer::{InsertOut, InsertRan};
@@ -18,15 +19,18 @@ impl<O: OpClass> State<O> {
     /// may come yet. After a refusal the sections before it stand, and the insert is open as they left
     /// it. `IndexFull` only where fewer than 4 blocks are left below the
     /// limit, `ClockFull` only where the clock is 2^48 - 1, and both only where the keys of its tree
-    /// that were ever inserted take more than 8,160 bytes. `Restarted` does not come about so far,
-    /// since seat 0 alone may have something open.
+    /// that were ever inserted take more than 8,160 bytes. After `Put` and `Restarted` the seat has
+    /// nothing latched. Only blocks change that the seat had latched or that nobody had, and the latches
+    /// of the other seats stay. It waits for nobody.
     pub fn insert_through(&mut self, seat: SeatNo) -> Result<InsertRan, StepRefused>
-        requires first { seat ≡ 0 }
         requires inserting { IsInserting (stage_at self.old seat) }
         ensures ok { IfOk result (λ ran. RunsThrough self.old self.new seat ran) }
-        ensures alone { IfOk result (λ ran. ran ≡ InsertRan.Put) }
+        ensures others { OthersHold self.old.table self.new.table seat }
+        ensures within { ChangesHeld self.old.table self.new.table seat }
         ensures full { IsErrOf result IndexFull → IsHeavy O.meaning self.new seat × IsNearLimit self.new.table }
         ensures clock { IsErrOf result ClockFull → IsHeavy O.meaning self.new seat × (self.new.table.clock + 1 ≡ 2 ^ 48) }
+        ensures full_where { IsErrOf result IndexFull → SeatFindsNoPage O.meaning self.new seat }
+        ensures clock_where { IsErrOf result ClockFull → SeatTicks O.meaning self.new seat }
         ensures err { OnErr result (StillInserts self.old self.new seat) }
     {
         // Each section takes one of those that may come yet, and these are fewer than 2^64, so a return

@@ -1,19 +1,20 @@
 -- No section at an inner tuple, and no move of a chain, touches a block that another seat has latched.
-use Rattle.std.proofs.Common.{◌≡◌, ℕ, ◌-◌, ◌||◌, nat_eq, nat_le, Bool, true, false, List, [], ◌∷◌, ◌++◌, Option, Some, length, refl, sym, ap, subst, inl}
+use Rattle.std.proofs.Common.{◌≡◌, ℕ, ◌-◌, ◌<◌, ◌≤◌, ◌||◌, nat_eq, nat_le, Bool, true, false, List, [], ◌∷◌, ◌++◌, ◌⊎◌, ⊎_elim, Option, Some, length, refl, sym, ap, subst, inl, inr, arith}
 use Rattle.std.specs.List.{range_with_len}
 use Rattle.std.proofs.lemmas.Bool.{eq-eqb}
 use Rattle.spg_forest.specs.View.{Place}
-use Rattle.spg_forest.specs.Tuples.{Tuple}
+use Rattle.spg_forest.specs.Tuples.{Tuple, IsAmong}
 use Rattle.spg_forest.specs.Sheets.{size_of}
 use Rattle.spg_tree.specs.Table.{Table, sheet_at}
 use Rattle.spg_tree.specs.Descents.{Descending, in_nulls}
 use Rattle.spg_tree.specs.declared.stand.Stand.{Stand}
 use Rattle.spg_tree.specs.declared.stand.Stand.TheVariants.{Start, Root, At, Empty}
 use Rattle.spg_descend.specs.Follows.{tuple_place}
-use Rattle.spg_descend.specs.Held.{IsNoOthers, TouchesFree}
-use Rattle.spg_descend.specs.Leaves.{stand_block, is_held}
+use Rattle.spg_descend.specs.Held.{IsNoOthers, TouchesFree, IsFreeHome}
+use Rattle.spg_descend.specs.Leaves.{stand_block, parent_block, is_held}
 use Rattle.spg_descend.proofs.Held.{MayTouch, picked_free, may_at, may_above, may_free, all_none, all_more, all_both, all_either, all_new, touches, touches_one}
 use Rattle.spg_split.specs.Homes.{another}
+use Rattle.spg_move.proofs.Picks.{left_among, right_among, range_among, another_cases}
 use Rattle.spg_move.specs.Answers.{IsInnerOf}
 use Rattle.spg_move.specs.Splitting.{lower_want, fits_beside, split_touched, IsHome, IsParted}
 use Rattle.spg_move.specs.Widening.{node_want, blocks_shifted, widened_table, IsShifted}
@@ -75,3 +76,35 @@ split_held t t2 d x c seat up low a e latched P =
     (all_both M ((x.block ∷ []) ++ xs) rs
     (all_both M (x.block ∷ []) xs (all_more M x.block [] here (all_none M)) (all_either M (nat_eq P.home x.block || nat_le n P.home) P.home (home_free (fits_beside t x up low) t P.housed d x low P.home seat here P.goes)))
     (all_new t d seat (now - n) latched))
+
+-- the page of a longer tuple that has gone elsewhere is among those touched
+shift_touched : (x p b n now : ℕ) → p < n → b < now → IsAmong b (blocks_shifted x p b n now)
+shift_touched x p b n now hp hb =
+    ⊎_elim (λ e. subst (λ (k : ℕ). IsAmong k (blocks_shifted x p b n now)) (sym e) above) (λ c. ⊎_elim new (λ a. left_among b (((x ∷ []) ++ xs) ++ ys) rs (right_among b ((x ∷ []) ++ xs) ys a)) c) (another_cases b p n)
+  where
+    xs : List ℕ
+    xs = another p x n
+
+    ys : List ℕ
+    ys = another b p n
+
+    rs : List ℕ
+    rs = range_with_len n (now - n)
+
+    front : (k : ℕ) → IsAmong k ((x ∷ []) ++ xs) → IsAmong k (blocks_shifted x p b n now)
+    front k a = left_among k (((x ∷ []) ++ xs) ++ ys) rs (left_among k ((x ∷ []) ++ xs) ys a)
+
+    above : IsAmong p (blocks_shifted x p b n now)
+    above = ⊎_elim (λ e. front p (left_among p (x ∷ []) xs (inl e))) (λ c. ⊎_elim (λ le. absurd (omega arith)) (λ a. front p (right_among p (x ∷ []) xs a)) c) (another_cases p x n)
+
+    new : n ≤ b → IsAmong b (blocks_shifted x p b n now)
+    new le = right_among b (((x ∷ []) ++ xs) ++ ys) rs (range_among (now - n) n b le (omega arith))
+
+-- and no other seat has latched it
+pub shifted_home : {Recon : Type 0} (t t2 : Table) (d : Descending Recon) (nulls : Bool) (x p : Place) (i : ℕ) (u : Tuple) (seat : ℕ) (to : Place) → p.block < length t.pages → IsShifted t t2 nulls x p i u seat to → IsFreeHome t t2 d.parent to.block seat
+shifted_home t t2 d nulls x p i u seat to hp P =
+    let at : to.block ≡ P.block = ap (λ (z : Place). z.block) P.at in
+    let there : P.block < length P.picked.pages = P.is_picked.there in
+    let among : IsAmong P.block t2.touched = subst (λ (bs : List ℕ). IsAmong P.block bs) (sym (ap (λ (z : Table). z.touched) P.after)) (shift_touched x.block p.block P.block (length t.pages) (length P.picked.pages) hp there) in
+    let Is : ℕ → Type 0 = λ b. IsAmong b t2.touched × ((parent_block d.parent ≡ Some b) ⊎ IsNoOthers t seat b) in
+    subst Is (sym at) (among, inr (picked_free t P.picked (node_want nulls x.block (size_of u) seat) P.block P.is_picked))

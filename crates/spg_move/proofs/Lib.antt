@@ -18,3 +18,4 @@ pub mod NodeWrites
 pub mod NodeShift
 pub mod NodeMoved
 pub mod Held
+pub mod Tables

@@ -1,7 +1,7 @@
 -- A node put into an inner tuple that stays in its place.
-use Rattle.std.proofs.Common.{◌≡◌, ℕ, ◌≤◌, false, List, [], ◌∷◌, Option, Some, None, get_or, set, length, length-set, ⊎_elim, refl, sym, ap, ◌∙◌, subst, inl, arith}
+use Rattle.std.proofs.Common.{◌≡◌, ℕ, ◌≤◌, ◌<◌, false, List, [], ◌∷◌, Option, Some, None, get_or, set, length, length-set, ⊎_elim, refl, sym, ap, ◌∙◌, subst, inl, arith}
 use Rattle.std.proofs.lemmas.Bool.{cases_eq}
-use Rattle.std.proofs.lemmas.List.Edits.{get_or-insert_at}
+use Rattle.std.proofs.lemmas.List.Edits.{get_or-insert_at, length-insert}
 use Rattle.std.specs.Prelude.{ℤ}
 use Rattle.spg_opclass.specs.Meaning.{Meaning}
 use Rattle.spg_opclass.specs.Laws.{AddLaw, CodeLaw}
@@ -16,6 +16,7 @@ use Rattle.spg_forest.specs.Section.{Leaves}
 use Rattle.spg_forest.specs.Walk.{spread}
 use Rattle.spg_forest.specs.Edits.{tuple_of, spot_of, put, CanPut}
 use Rattle.spg_forest.specs.Changes.{Becomes}
+use Rattle.spg_forest.specs.Exact.{IsExact}
 use Rattle.spg_forest.proofs.Changes.{adds_node}
 use Rattle.spg_forest.proofs.Edits.{sheet_same, sheet_other, tuple_put}
 use Rattle.spg_forest.proofs.Joins.{weight_replaced}
@@ -33,6 +34,7 @@ use Rattle.spg_descend.specs.Carried.{carried, IsCarried, WayFits}
 use Rattle.spg_descend.specs.Follows.{IsAtInner, tuple_place, link_of}
 use Rattle.spg_descend.specs.Makes.{MakesNone}
 use Rattle.spg_descend.specs.Puts.{IsQuiet}
+use Rattle.spg_descend.proofs.Exact.{exact_page, put_differs}
 use Rattle.spg_descend.proofs.PutLaws.{kind_kept}
 use Rattle.spg_split.proofs.ChainPages.{Stage, begin_stage}
 use Rattle.spg_descend.specs.Answers.{IsAnswered}
@@ -165,3 +167,14 @@ module _ {Key Recon Cond : Type 0} (m : Meaning Key Recon Cond) (adds : AddLaw m
 
     pub added_here : (t2 : Table) (d2 : Descending Recon) → t2 ≡ widened_table t x (widened (tuple_at t x) at label) → d2 ≡ with_node d → IsNodeAdded m t t2 d d2 at label
     added_here t2 d2 et ed = subst (λ (u : Table). IsNodeAdded m t u d d2 at label) (sym et) (subst (λ (e : Descending Recon). IsNodeAdded m t (widened_table t x (Inner w2 ns2)) d e at label) (sym ed) (inl (refl, quiet, makes, link_now, widens)))
+
+  -- the block named is the one written
+  pub exact_here : (t2 : Table) → t2 ≡ widened_table t x (widened (tuple_at t x) at label) → IsExact S (sheets_of t2) t2.touched
+  exact_here t2 et =
+      let there : x.block < length t.pages = (standing.here m adds codes t d at label H A main K W).1 in
+      let more = length-insert ns at None (standing.place_within m adds codes t d at label H A main K W) in
+      let is : tuple_at t x ≡ Inner w ns = standing.is m adds codes t d at label H A main K W in
+      subst (λ (z : Table). IsExact S (sheets_of z) z.touched) (sym et)
+      (exact_page t x.block (with_tuple (tuples_at t x.block) x.offset (Inner w2 ns2)) there
+      (put_differs (tuples_at t x.block) x.offset (Inner w2 ns2) (standing.within m adds codes t d at label H A main K W)
+      (λ q. let e : Inner w2 ns2 ≡ Inner w ns = q ∙ is in let k : length ns2 ≡ length ns = ap (λ (u : Tuple). length (links u)) e in omega arith)))

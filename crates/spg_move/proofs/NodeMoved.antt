@@ -1,5 +1,5 @@
 -- What comes of an inner tuple that goes to a picked page with one more node.
-use Rattle.std.proofs.Common.{◌≡◌, ℕ, ◌+◌, ◌≤◌, ◌<◌, Bool, false, List, Option, Some, None, get_or, set, length, refl, sym, ap, ◌∙◌, subst, inl, inr, arith}
+use Rattle.std.proofs.Common.{◌≡◌, ℕ, ◌+◌, ◌≤◌, ◌<◌, Bool, false, List, [], ◌∷◌, ◌++◌, ⊎_elim, Option, Some, None, get_or, set, length, refl, sym, ap, ◌∙◌, subst, inl, inr, arith}
 use Rattle.std.specs.Prelude.{ℤ, ◌%◌}
 use Rattle.std.proofs.lemmas.List.Edits.{get_or-insert_at}
 use Rattle.spg_opclass.specs.Meaning.{Meaning}
@@ -7,7 +7,7 @@ use Rattle.spg_opclass.specs.Laws.{AddLaw, CodeLaw}
 use Rattle.spg_opclass.specs.declared.view.Choice.TheVariants.{Add}
 use Rattle.spg_forest.specs.View.{Place}
 use Rattle.spg_forest.specs.Spot.{Frame, Spot}
-use Rattle.spg_forest.specs.Tuples.{Tuple, Inner, IsAmong}
+use Rattle.spg_forest.specs.Tuples.{Tuple, Inner, Redirect, Placeholder, IsAmong}
 use Rattle.spg_forest.specs.Pages.{tuple_on, moved}
 use Rattle.spg_forest.specs.Classes.{class_of}
 use Rattle.spg_forest.specs.Fit.{FitAt}
@@ -16,6 +16,8 @@ use Rattle.spg_forest.specs.Shape.{Shape, IsTupleOf, spots}
 use Rattle.spg_forest.specs.Section.{Leaves}
 use Rattle.spg_forest.specs.Edits.{tuple_of}
 use Rattle.spg_forest.specs.Changes.{IsLonger}
+use Rattle.spg_forest.specs.Exact.{IsWritten, AreOnce, IsExact}
+use Rattle.spg_forest.proofs.Exact.{written_at, among_cases, once_both, exact_range}
 use Rattle.spg_forest.specs.Puts.{IsComing}
 use Rattle.spg_forest.proofs.Keeping.{leaves_coming}
 use Rattle.spg_forest.proofs.Picks.{picked_shape, picked_spots, leaves_after_pick}
@@ -24,6 +26,7 @@ use Rattle.spg_forest.proofs.Stock.{tuple_is}
 use Rattle.spg_forest.proofs.Writes.{high_spot}
 use Rattle.spg_page.specs.Kinds.{IsOffset, kind_of}
 use Rattle.spg_page.specs.Reads.{frame_in}
+use Rattle.spg_page.proofs.SheetFacts.{free_place_free}
 use Rattle.spg_tree.specs.Table.{Table, sheets_of, tuples_at, tuple_at, with_touched}
 use Rattle.spg_tree.specs.Table as table
 use Rattle.spg_tree.specs.Pick.{Picks}
@@ -37,14 +40,16 @@ use Rattle.spg_descend.specs.Follows.{IsAtInner, tuple_place, link_of}
 use Rattle.spg_descend.specs.Makes.{MakesOne}
 use Rattle.spg_descend.proofs.Makes.{makes_same}
 use Rattle.spg_split.specs.Below.{IsLedTo}
+use Rattle.spg_split.specs.Homes.{another}
 use Rattle.spg_split.specs.Writing.{new_place}
+use Rattle.spg_split.proofs.BlocksTouched.{another_is, another_once}
 use Rattle.spg_descend.specs.Answers.{IsAnswered}
 use Rattle.spg_move.specs.Answers.{IsInnerOf}
 use Rattle.spg_move.specs.Nodes.{node_cost, FitsWider, Widens, IsNodeAdded}
 use Rattle.spg_move.specs.Widening.{widened, shifted_table, blocks_shifted, node_want, IsHung, IsShifted, IsShiftedAt, IsShiftedFrom}
 use Rattle.spg_move.proofs.Picks.{PicksPage, picks_page}
 use Rattle.spg_move.proofs.NodePicks.{shifted_few, IsAway, away}
-use Rattle.spg_move.proofs.NodeShift.{CanShift, S2, shifts, y_now, p_now, leads_now, count_now, kinds_now, table_is, makes_one}
+use Rattle.spg_move.proofs.NodeShift.{CanShift, S2, shifts, x_now, y_now, p_now, leads_now, count_now, kinds_now, table_is, makes_one}
 use Rattle.spg_move.proofs.NodeStanding as standing
 
 -- a pick changes no tuple
@@ -225,6 +230,52 @@ module _ {Key Recon Cond : Type 0} (m : Meaning Key Recon Cond) (adds : AddLaw m
         (subst (λ (z : Descending Recon). IsNodeAdded m t T d z at label) (sym (ed ∙ ap (λ (z : Place). with_node (placed d (At z) d.parent)) e))
         (inr (wide, y, refl, ticks, makes, same_parity, subst (λ (q : Option (Place × ℕ)). IsLedTo T q y) (sym pa) led, widens)))
 
+    -- ---- the blocks named are those written or added
+    abbrev n : ℕ
+    n = length t.pages
+
+    at_T : (z : Place) (u v : Tuple) → tuple_of (S2 m t1 b x p i w w2 ns ns2 wp nsp can) z ≡ u → tuple_at t z ≡ v → (u ≡ v → ⊥) → IsWritten S (sheets_of T) z.block
+    at_T z u v e f k = written_at S (sheets_of T) z (λ q. k (sym (ap (λ (Z : Sheets). tuple_of Z z) sheets_T ∙ e) ∙ q ∙ f))
+
+    x_written : IsWritten S (sheets_of T) x.block
+    x_written = at_T x (Redirect y t1.clock) (Inner w ns) (x_now m t1 b x p i w w2 ns ns2 wp nsp can) (standing.is m adds codes t d at label H A main K W) (λ q. cc)
+
+    p_written : IsWritten S (sheets_of T) p.block
+    p_written = at_T p (Inner wp (set nsp i (Some y))) (Inner wp nsp) (p_now m t1 b x p i w w2 ns ns2 wp nsp can) above_is.0
+        (λ q. let c : set nsp i (Some y) ≡ nsp = ap links q in
+        let e : Some y ≡ Some x = sym (leads_now m t1 b x p i w w2 ns ns2 wp nsp can) ∙ ap (λ gs. get_or gs i None) c ∙ above_is.1 in
+        let f : y ≡ x = cc in apart (ap (λ (z : Place). z.block) (sym f)))
+
+    y_written : IsWritten S (sheets_of T) b
+    y_written = at_T y (Inner w2 ns2) Placeholder (y_now m t1 b x p i w w2 ns ns2 wp nsp can) (sym (same_tuple y) ∙ free_place_free (tuples_at t1 b)) (λ q. cc)
+
+    abbrev front : List ℕ
+    front = (x.block ∷ []) ++ another p.block x.block n
+
+    each_written : (c : ℕ) → IsAmong c (front ++ another b p.block n) → (c < n) × IsWritten S (sheets_of T) c
+    each_written c a = ⊎_elim
+        (λ f. ⊎_elim (λ e. here c e) (λ g. let (e, k, l) = another_is c p.block x.block n g in (omega arith, subst (IsWritten S (sheets_of T)) (sym e) p_written)) (among_cases c (x.block ∷ []) (another p.block x.block n) f))
+        (λ g. let (e, k, l) = another_is c b p.block n g in (omega arith, subst (IsWritten S (sheets_of T)) (sym e) y_written)) (among_cases c front (another b p.block n) a)
+      where
+        here : (c : ℕ) → IsAmong c (x.block ∷ []) → (c < n) × IsWritten S (sheets_of T) c
+        here c (inl e) = let h = hung.here.1 in (omega arith, subst (IsWritten S (sheets_of T)) (sym e) x_written)
+        here c (inr j) = absurd j
+
+    once : AreOnce (front ++ another b p.block n)
+    once = once_both front (another b p.block n) (once_both (x.block ∷ []) (another p.block x.block n) ((λ j. j), tt) (another_once p.block x.block n) (λ e j g. first e j (another_is e p.block x.block n g))) (another_once b p.block n)
+        (λ e f g. ⊎_elim (λ j. second e j (another_is e b p.block n g)) (λ j. let (r, k, l) = another_is e b p.block n g in k (sym r ∙ (another_is e p.block x.block n j).0)) (among_cases e (x.block ∷ []) (another p.block x.block n) f))
+      where
+        first : (e : ℕ) → IsAmong e (x.block ∷ []) → (e ≡ p.block) × (p.block ≡ x.block → ⊥) × (p.block < n) → ⊥
+        first e (inl q) (r, k, l) = k (sym r ∙ q)
+        first e (inr j) r = j
+
+        second : (e : ℕ) → IsAmong e (x.block ∷ []) → (e ≡ b) × (b ≡ p.block → ⊥) × (b < n) → ⊥
+        second e (inl q) (r, k, l) = apart (sym q ∙ r)
+        second e (inr j) r = j
+
+    pub exact_there : (t2 : Table) → t2 ≡ T → IsExact S (sheets_of t2) t2.touched
+    exact_there t2 et = subst (λ (z : Table). IsExact S (sheets_of z) z.touched) (sym et) (exact_range S (sheets_of T) (front ++ another b p.block n) n (length t1.pages) refl (sym count_T) P.least once each_written)
+
   -- the tuple has gone to a picked page
   pub shifted_out : (FitsWider t d at label → ⊥) → (t2 : Table) (d2 : Descending Recon) (u : Tuple) (seat : ℕ) (to : Place) → IsShiftedFrom t t2 d u seat to → u ≡ widened (tuple_at t x) at label → d2 ≡ with_node (placed d (At to) d.parent) → IsNodeAdded m t t2 d d2 at label
   shifted_out wide t2 d2 u seat to R eu ed = go d.stand d.parent refl refl R
@@ -241,4 +292,21 @@ module _ {Key Recon Cond : Type 0} (m : Meaning Key Recon Cond) (adds : AddLaw m
           let link : IsLink t p i x = subst (λ (v : Place). IsLink t p i v) (sym ex) a.2 in
           let s : IsShifted t t2 (in_nulls d) x p i (widened (tuple_at t x) at label) seat to = subst (λ (v : Tuple). IsShifted t t2 (in_nulls d) x p i v seat to) eu (subst (λ (v : Place). IsShifted t t2 (in_nulls d) v p i u seat to) (sym ex) r) in
           moved_there p i ep high hung link s.picked s.block seat s.picks s.is_picked wide t2 d2 to s.at s.after ed
+      go Empty pa eq ep r = absurd r
+
+  pub exact_out : (t2 : Table) (u : Tuple) (seat : ℕ) (to : Place) → IsShiftedFrom t t2 d u seat to → u ≡ widened (tuple_at t x) at label → IsExact S (sheets_of t2) t2.touched
+  exact_out t2 u seat to R eu = go d.stand d.parent refl refl R
+    where
+      go : (st : Stand) (pa : Option (Place × ℕ)) → d.stand ≡ st → d.parent ≡ pa → IsShiftedAt t t2 d st pa u seat to → IsExact S (sheets_of t2) t2.touched
+      go Start pa eq ep r = absurd r
+      go (Root b) pa eq ep r = absurd r
+      go (At z) None eq ep r = absurd r
+      go (At z) (Some (p, i)) eq ep r =
+          let ex : x ≡ z = ap tuple_place eq in
+          let a : IsInnerOf t (in_nulls d) (At z) (Some (p, i)) = subst (λ (q : Option (Place × ℕ)). IsInnerOf t (in_nulls d) (At z) q) ep (subst (λ (s : Stand). IsInnerOf t (in_nulls d) s d.parent) eq A) in
+          let high : 3 ≤ x.block = subst (λ (v : Place). 3 ≤ v.block) (sym ex) a.0.0 in
+          let hung : IsHung t x p i = subst (λ (v : Place). IsHung t v p i) (sym ex) (standing.hung_at m t H (in_nulls d) d.stand d.parent z p i eq ep A) in
+          let link : IsLink t p i x = subst (λ (v : Place). IsLink t p i v) (sym ex) a.2 in
+          let s : IsShifted t t2 (in_nulls d) x p i (widened (tuple_at t x) at label) seat to = subst (λ (v : Tuple). IsShifted t t2 (in_nulls d) x p i v seat to) eu (subst (λ (v : Place). IsShifted t t2 (in_nulls d) v p i u seat to) (sym ex) r) in
+          exact_there p i ep high hung link s.picked s.block seat s.picks s.is_picked t2 s.after
       go Empty pa eq ep r = absurd r

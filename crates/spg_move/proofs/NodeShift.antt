@@ -221,6 +221,10 @@ module _ {Key Recon Cond : Type 0} (m : Meaning Key Recon Cond) (u : Table) (b :
   y_now = ap (λ (F : Place → Tuple). F y) tuples_now ∙ put_at_other (put_at (put_at (tuple_of S0) y (Inner w2 ns2)) x red) p (Inner wp gs) y (λ e. p_not_y (sym e))
       ∙ put_at_other (put_at (tuple_of S0) y (Inner w2 ns2)) x red y y_not_x ∙ put_at_same (tuple_of S0) y (Inner w2 ns2) y refl
 
+  pub x_now : tuple_of S2 x ≡ red
+  x_now = ap (λ (F : Place → Tuple). F x) tuples_now ∙ put_at_other (put_at (put_at (tuple_of S0) y (Inner w2 ns2)) x red) p (Inner wp gs) x (λ e. D.hung.apart (sym e))
+      ∙ put_at_same (put_at (tuple_of S0) y (Inner w2 ns2)) x red x refl
+
   pub p_now : tuple_of S2 p ≡ Inner wp gs
   p_now = ap (λ (F : Place → Tuple). F p) tuples_now ∙ put_at_same (put_at (put_at (tuple_of S0) y (Inner w2 ns2)) x red) p (Inner wp gs) p refl
 

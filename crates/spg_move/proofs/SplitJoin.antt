@@ -1,13 +1,17 @@
 -- The split of an inner tuple as the insert and its callers see it.
 use Rattle.std.proofs.lemmas.List.{length-replicate}
-use Rattle.std.proofs.Common.{◌≡◌, ℕ, ◌+◌, ◌≤◌, ◌<◌, ℤ, Bool, false, List, [], ⊎_elim, Option, Some, None, get_or, length, refl, sym, ap, ◌∙◌, subst, arith}
+use Rattle.std.proofs.Common.{◌≡◌, ℕ, ◌+◌, ◌≤◌, ◌<◌, ℤ, Bool, true, false, List, [], ◌∷◌, ◌++◌, ⊎_elim, Option, Some, None, get_or, length, refl, sym, ap, ◌∙◌, subst, inl, inr, arith}
 use Rattle.spg_base.specs.Row.{RowAt}
 use Rattle.spg_opclass.specs.Meaning.{Meaning, upper, lower}
 use Rattle.spg_opclass.specs.Laws.{SplitLaw, CodeLaw, inner_size}
 use Rattle.spg_opclass.specs.declared.view.Choice.TheVariants.{Split}
 use Rattle.spg_forest.specs.View.{Place}
 use Rattle.spg_forest.specs.Spot.{Frame, Spot, Branch, child_of}
-use Rattle.spg_forest.specs.Tuples.{Tuple, Inner, IsAmong}
+use Rattle.spg_forest.specs.Tuples.{Tuple, Inner, Placeholder, IsAmong}
+use Rattle.spg_forest.specs.Links.{IsTarget}
+use Rattle.spg_forest.specs.Exact.{IsWritten, AreOnce, IsExact}
+use Rattle.spg_forest.proofs.Exact.{written_at, among_cases, once_both, exact_range}
+use Rattle.spg_forest.proofs.Stock.{tuple_is as stock_tuple}
 use Rattle.spg_forest.specs.Pages.{tuple_on}
 use Rattle.spg_forest.specs.Classes.{class_of, HasEntry, HasRecon}
 use Rattle.spg_forest.specs.Sheets.{Sheet, Sheets, sheet_at, size_of, links}
@@ -25,6 +29,7 @@ use Rattle.spg_page.specs.Kinds.{IsOffset, IsInner}
 use Rattle.spg_page.specs.Reads.{frame_in}
 use Rattle.spg_tree.specs.Table.{Table, sheets_of, tuples_at, tuple_at, latch_at}
 use Rattle.spg_tree.specs.Table as table
+use Rattle.spg_tree.specs.Pick.{IsFull}
 use Rattle.spg_tree.specs.Descents.{Descending, in_nulls, risen}
 use Rattle.spg_tree.specs.declared.stand.Stand.{Stand}
 use Rattle.spg_tree.specs.declared.stand.Stand.TheVariants.{Start, Root, At, Empty}
@@ -32,12 +37,15 @@ use Rattle.spg_descend.specs.Carried.{IsCarried, WayFits}
 use Rattle.spg_descend.specs.Follows.{IsAtInner, tuple_place, link_of}
 use Rattle.spg_descend.specs.Makes.{MakesOne}
 use Rattle.spg_descend.proofs.Makes.{makes_same}
+use Rattle.spg_descend.proofs.NotFull.{picks_not_full}
 use Rattle.spg_descend.specs.Puts.{IsQuiet}
+use Rattle.spg_split.specs.Homes.{another}
 use Rattle.spg_split.specs.Parts.{bare}
+use Rattle.spg_split.proofs.BlocksTouched.{another_is, another_once}
 use Rattle.spg_descend.specs.Answers.{IsAnswered}
 use Rattle.spg_move.specs.Answers.{IsInnerOf}
 use Rattle.spg_move.specs.Splits.{PartsTuple, split_cost, lower_want_at, fits_beside_at}
-use Rattle.spg_move.specs.Splitting.{lower_want, fits_beside, split_touched, MayPart, IsParted}
+use Rattle.spg_move.specs.Splitting.{lower_want, fits_beside, split_touched, IsHome, MayPart, IsParted}
 use Rattle.spg_move.proofs.SplitHomes.{IsHoused, housed, IsAway, away, touched_few}
 use Rattle.spg_move.proofs.SplitLaw.{IsDivision}
 use Rattle.spg_move.proofs.SplitLaw as law
@@ -239,6 +247,41 @@ module _ {Key Recon Cond : Type 0} (m : Meaning Key Recon Cond) (t : Table) (H :
       carries = carries;
     })
 
+    -- ---- the blocks named are those written or added
+    abbrev n : ℕ
+    n = length t.pages
+
+    y_before : tuple_at t y ≡ Placeholder
+    y_before = sym (ap (λ (zs : List Tuple). tuple_on zs y.offset) (HH.tuples y.block)) ∙ law.y_was m u x c h w ns pre low labels D
+
+    x_written : IsWritten S (sheets_of t2) x.block
+    x_written = written_at S (sheets_of t2) x (λ q.
+        let f : tuple_at t x ≡ Inner w ns = standing.at_x m t H splits codes d c pre low labels I N K A in
+        let e : Inner (upper pre labels) us ≡ Inner w ns = sym x_after ∙ q ∙ f in
+        let g : get_or ns c None ≡ Some y = ap (λ (a : Tuple). get_or (links a) c None) (sym e) ∙ law.us_child m u x c h w ns pre low labels D in
+        let k = (H.links.downlink x w ns c y (stock_tuple S x ∙ f) g).1 in
+        subst IsTarget (stock_tuple S y ∙ y_before) k)
+
+    y_written : IsWritten S (sheets_of t2) h
+    y_written = written_at S (sheets_of t2) y (λ q. let e : Inner (lower w low) ns ≡ Placeholder = sym (law.y_c m u x c h w ns pre low labels D) ∙ sym (ap (λ (Z : Sheets). tuple_of Z y) after_is) ∙ q ∙ y_before in cc)
+
+    each_written : (e : ℕ) → IsAmong e ((x.block ∷ []) ++ another h x.block n) → (e < n) × IsWritten S (sheets_of t2) e
+    each_written e a = ⊎_elim (λ i. here e i) (λ i. let (r, k, l) = another_is e h x.block n i in (omega arith, subst (IsWritten S (sheets_of t2)) (sym r) y_written)) (among_cases e (x.block ∷ []) (another h x.block n) a)
+      where
+        here : (e : ℕ) → IsAmong e (x.block ∷ []) → (e < n) × IsWritten S (sheets_of t2) e
+        here e (inl r) = let can = standing.can m t H splits codes d c pre low labels I N K A in let k = can.block in (omega arith, subst (IsWritten S (sheets_of t2)) (sym r) x_written)
+        here e (inr i) = absurd i
+
+    once : AreOnce ((x.block ∷ []) ++ another h x.block n)
+    once = once_both (x.block ∷ []) (another h x.block n) ((λ i. i), tt) (another_once h x.block n) (λ e i j. first e i (another_is e h x.block n j))
+      where
+        first : (e : ℕ) → IsAmong e (x.block ∷ []) → (e ≡ h) × (h ≡ x.block → ⊥) × (h < n) → ⊥
+        first e (inl q) (r, k, l) = k (sym r ∙ q)
+        first e (inr i) r = i
+
+    pub exact : IsExact S (sheets_of t2) t2.touched
+    exact = subst (λ (zs : List ℕ). IsExact S (sheets_of t2) zs) (sym touched_is) (exact_range S (sheets_of t2) ((x.block ∷ []) ++ another h x.block n) n (length u.pages) refl (sym pages_after) HH.pages.count once each_written)
+
   -- ---- what the code has: the place, its page, and the two tuples
   module _ (at : Place) (page : Sheet) (place_is : at ≡ x) (page_is : page ≡ table.sheet_at t at.block) where
     tuple_is : tuple_on page.tuples at.offset ≡ tuple_at t x
@@ -275,3 +318,18 @@ module _ {Key Recon Cond : Type 0} (m : Meaning Key Recon Cond) (t : Table) (H :
 
       pub parts_of : (t2 : Table) (seat : ℕ) (d2 : Descending Recon) → IsParted t t2 at c seat a b → d2 ≡ risen d → PartsTuple m t t2 d d2 pre labels c
       parts_of t2 seat d2 P e = parts t2 seat (subst (λ (o : Place). IsParted t t2 o c seat up lo) place_is (subst (λ (z : Tuple). IsParted t t2 at c seat z lo) upper_is (subst (λ (z : Tuple). IsParted t t2 at c seat a z) lower_same P))) d2 e
+
+      -- the whole table
+      pub table_of : (t2 : Table) (seat : ℕ) → IsParted t t2 at c seat a b → IsParted t t2 (tuple_place d.stand) c seat up lo
+      table_of t2 seat P = subst (λ (o : Place). IsParted t t2 o c seat up lo) place_is (subst (λ (z : Tuple). IsParted t t2 at c seat z lo) upper_is (subst (λ (z : Tuple). IsParted t t2 at c seat a z) lower_same P))
+
+      pub exact_of : (t2 : Table) (seat : ℕ) → IsParted t t2 at c seat a b → IsExact (sheets_of t) (sheets_of t2) t2.touched
+      exact_of t2 seat P = exact t2 seat (table_of t2 seat P)
+
+      -- where a page is picked, the pick is not full
+      pub not_full_of : (t2 : Table) (seat : ℕ) → IsParted t t2 at c seat a b → fits_beside_at t d pre labels low ≡ false → IsFull t (lower_want_at t d low seat) → ⊥
+      not_full_of t2 seat P n F = go (fits_beside t at a b) (beside_is ∙ n) P.goes
+        where
+          go : (y : Bool) → y ≡ false → IsHome y t P.housed at b P.home seat → ⊥
+          go true e h = cc
+          go false e (Q, k) = picks_not_full t (lower_want (table.sheet_at t at.block).nulls at.block b seat) P.home P.housed Q (subst (IsFull t) (sym (want_is seat)) F)

@@ -149,7 +149,7 @@ module _ {Key Recon Cond : Type 0} (m : Meaning Key Recon Cond) (u : Table) (x :
   can_y : CanPut Sa y
   can_y = record { block = let k = D.there in let l = count_a in omega arith; positive = omega arith; within = let f = free_place_length ts in omega arith }
 
-  y_was : tuple_of S y ≡ Placeholder
+  pub y_was : tuple_of S y ≡ Placeholder
   y_was = sym (ap (λ (T : Place → Tuple). T y) (tuple_put S x (Inner v bs) D.can) ∙ put_at_other (tuple_of S) x (Inner v bs) y y_not_x) ∙ y_a
 
   pub y_free : (V y ≡ Nothing) × (y.offset ≡ 0 → ⊥)
@@ -267,6 +267,10 @@ module _ {Key Recon Cond : Type 0} (m : Meaning Key Recon Cond) (u : Table) (x :
 
   pub x_c : tuple_of Sc x ≡ Inner v us
   x_c = ap (λ (T : Place → Tuple). T x) (tuple_put Sb x (Inner v us) can_b) ∙ put_at_same (tuple_of Sb) x (Inner v us) x refl
+
+  pub y_c : tuple_of Sc y ≡ Inner lo ns
+  y_c = ap (λ (T : Place → Tuple). T y) (tuple_put Sb x (Inner v us) can_b) ∙ put_at_other (tuple_of Sb) x (Inner v us) y y_not_x
+      ∙ ap (λ (T : Place → Tuple). T y) (tuple_put Sa y (Inner lo ns) can_y) ∙ put_at_same (tuple_of Sa) y (Inner lo ns) y refl
 
   -- another inner tuple stays
   pub kept : (p : Place) (f : Frame) (ks : List (Option Place)) → tuple_at u p ≡ Inner f ks → (p ≡ x → ⊥) → tuple_of Sc p ≡ Inner f ks

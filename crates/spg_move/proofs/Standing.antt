@@ -10,9 +10,11 @@ use Rattle.spg_forest.specs.Pages.{place, tuple_on, with_tuple, all_live, moved,
 use Rattle.spg_forest.specs.Sheets.{Sheet, Sheets, sheet_at, with_tuples, pages_of, weight, size_of, free_place, links, linked}
 use Rattle.spg_forest.specs.Shape.{Shape, spots, IsKindOf, IsRestOf}
 use Rattle.spg_forest.specs.Section.{Adds}
+use Rattle.spg_forest.specs.Exact.{IsExact}
 use Rattle.spg_forest.specs.Edits.{CanPut}
 use Rattle.spg_forest.specs.Puts.{IsComing}
 use Rattle.spg_forest.proofs.Edits.{sheet_laid, page_is}
+use Rattle.spg_forest.proofs.Exact.{exact_three}
 use Rattle.spg_forest.proofs.Flat.{none_on}
 use Rattle.spg_forest.proofs.Picks.{picked_shape, picked_spots, adds_after_pick}
 use Rattle.spg_forest.proofs.Relocate.{within_from_some}
@@ -38,12 +40,14 @@ use Rattle.spg_descend.specs.Puts.{IsAtLeaves}
 use Rattle.spg_descend.specs.Rules.{MayMove, IsShort}
 use Rattle.spg_descend.proofs.EmptyLaw.{inner_within}
 use Rattle.spg_descend.proofs.Makes.{makes_same, makes_none_at, makes_linked}
-use Rattle.spg_descend.proofs.Picked.{PicksLeaf, picks_leaf}
+use Rattle.spg_descend.proofs.Exact.{link_differs, taken_differs}
+use Rattle.spg_descend.proofs.Picked.{PicksLeaf, picks_leaf, new_at_end}
 use Rattle.spg_descend.proofs.PutLaws.{bucket_tuple, kind_kept}
 use Rattle.spg_split.specs.Placing.{chained, leaves_in, HaveRoom}
 use Rattle.spg_split.proofs.Chaining.{list_tuple}
 use Rattle.spg_split.proofs.Reading.{leaves_in_live, length-all_live}
-use Rattle.spg_split.proofs.Written.{tuples_other}
+use Rattle.spg_split.proofs.Totals.{chained_differs}
+use Rattle.spg_split.proofs.Written.{tuples_same, tuples_other, pages_same}
 use Rattle.spg_move.specs.Moves.{MovesCarried, carried_want, move_cost}
 use Rattle.spg_move.specs.Moving.{with_new, chain_leaves, chain_want, left, moved_table}
 use Rattle.spg_move.proofs.Leaving.{chain_leaf, left_tuple, linked as linked_there}
@@ -292,3 +296,59 @@ module _ {Key Recon Cond : Type 0} (m : Meaning Key Recon Cond) (t : Table) (d :
         (subst (λ (ts : List Tuple). (o : ℕ) → IsInner (tuple_on (left ts x.offset y t1.clock) o) → IsInner (tuple_on ts o)) (sym x_now) left_inner) in
         let made_p : MakesNone tx (with_link tx p i (Some y)) = makes_linked tx p i (Some y) in
         subst (λ (z : Table). MakesNone t z) (sym et) (λ z e. makes_same t t1 P.tuples z (made_b z (made_x z (made_p z e))))
+
+    -- ---- the blocks named are those written
+    abbrev T : Table
+    T = moved_table t1 b x p i vs
+
+    abbrev lp : List Tuple
+    lp = with_tuple (tuples_at tx p.block) p.offset (linked (tuple_at tx p) i (Some y))
+
+    abbrev lx : List Tuple
+    lx = left (tuples_at tb x.block) x.offset y t1.clock
+
+    count_b : length tb.pages ≡ length t1.pages
+    count_b = pages_same t1 b (chained (tuples_at t1 b) 0 vs)
+
+    count_x : length tx.pages ≡ length t1.pages
+    count_x = pages_same tb x.block lx ∙ count_b
+
+    count_t : length T.pages ≡ length t1.pages
+    count_t = pages_same tx p.block lp ∙ count_x
+
+    some_vs : 0 < length vs
+    some_vs = let e = with_new_count ls (carried d) in omega arith
+
+    p_was : tuples_at tx p.block ≡ tuples_at t p.block
+    p_was = tuples_other tb x.block lx p.block p_not_x ∙ tuples_other t1 b (chained (tuples_at t1 b) 0 vs) p.block p_not_b ∙ P.tuples p.block
+
+    b_written : tuples_at T b ≡ tuples_at t b → ⊥
+    b_written q =
+        let a : tuples_at T b ≡ chained (tuples_at t1 b) 0 vs = tuples_other tx p.block lp b (λ k. p_not_b (sym k)) ∙ tuples_other tb x.block lx b (λ k. x_not_b (sym k)) ∙ tuples_same t1 b (chained (tuples_at t1 b) 0 vs) P.there in
+        chained_differs (tuples_at t1 b) vs some_vs (sym a ∙ q ∙ sym (P.tuples b))
+
+    x_written : tuples_at T x.block ≡ tuples_at t x.block → ⊥
+    x_written q =
+        let h : x.block < length tb.pages = let a = there in let k = P.least in let e = count_b in omega arith in
+        let a : tuples_at T x.block ≡ lx = tuples_other tx p.block lp x.block (λ k. p_not_x (sym k)) ∙ tuples_same tb x.block lx h in
+        let e : lx ≡ left (tuples_at t x.block) x.offset y t1.clock = ap (λ (zs : List Tuple). left zs x.offset y t1.clock) x_now in
+        taken_differs (tuples_at t x.block) x.offset y t1.clock chained_there begins_there (sym e ∙ sym a ∙ q)
+
+    p_written : tuples_at T p.block ≡ tuples_at t p.block → ⊥
+    p_written q =
+        let (w, ns, e, l) = above in
+        let h : p.block < length tx.pages = let a = parent_after.1 in let k = count_x in omega arith in
+        let a : tuples_at T p.block ≡ lp = tuples_same tx p.block lp h in
+        let within : IsOffset (tuples_at tx p.block) p.offset = subst (λ (zs : List Tuple). IsOffset zs p.offset) (sym p_was) p_within in
+        link_differs (tuples_at tx p.block) p.offset i w ns (Some y) within.0 within.1 (ap (λ (zs : List Tuple). tuple_on zs p.offset) p_was ∙ e) (within_from_some ns i x l)
+        (λ k. let c : Some x ≡ Some y = sym l ∙ k in let f : x ≡ y = cc in x_not_b (ap (λ (z : Place). z.block) f)) (sym a ∙ q ∙ sym p_was)
+
+    new_is_b : (c : ℕ) → length t.pages ≤ c → c < length T.pages → c ≡ b
+    new_is_b c g h =
+        let k : length T.pages ≡ length t1.pages = count_t in
+        let more : length t1.pages ≤ length t.pages + 1 = K.more in
+        let a : b ≡ length t.pages = new_at_end t t1 (chain_want (in_nulls d) vs x.block seat) b refl Q (omega arith) in omega arith
+
+    pub exact : (t2 : Table) → t2 ≡ moved_table t1 b x p i vs → IsExact S (sheets_of t2) t2.touched
+    exact t2 et = subst (λ (z : Table). IsExact S (sheets_of z) z.touched) (sym et)
+        (exact_three S (sheets_of T) b x.block p.block (λ e. x_not_b (sym e)) (λ e. p_not_b (sym e)) (λ e. p_not_x (sym e)) (inl b_written) (inl x_written) (inl p_written) new_is_b)

@@ -4,4 +4,5 @@ pub mod Answers
 pub mod Splits
 pub mod Splitting
 pub mod Nodes
+pub mod Tables
 pub mod Widening

@@ -1,6 +1,7 @@
 ghost use Rattle.std.specs.Prelude.{◌≡◌, ◌<◌, ◌+◌, ◌^◌, ◌↔◌, Option, Some as Just, OnOk, OnErr, IsErrOf};
 ghost use Rattle.spg_forest.specs.Tuples.{Live};
 ghost use Rattle.spg_forest.specs.Shape.{Shape};
+ghost use Rattle.spg_forest.specs.Exact.{IsExact};
 ghost use Rattle.spg_tree.specs.Table.{sheets_of};
 ghost use Rattle.spg_tree.specs.Pick.{IsFull};
 ghost use Rattle.spg_tree.specs.declared.stand.Stand.TheVariants.{At};
@@ -12,13 +13,13 @@ ghost use Rattle.spg_descend.specs.Rules.{MayMove};
 ghost use Rattle.spg_descend.specs.Below.{IsAtChain, IsTicked};
 ghost use Rattle.spg_descend.specs.Makes.{MakesNone};
 ghost use Rattle.spg_move.specs.Moves.{MovesCarried, carried_want};
+ghost use Rattle.spg_move.specs.Tables.{MovesTable};
 
 use crate::leaves::{bytes_of, leaf_tuple};
 use crate::moving::{chain_tuples, write_chain};
 use spg_base::{Memory, Place, SeatNo};
 use spg_opclass::OpClass;
-use spg_page::PageKind;
-use spg_tree::{Descent, PageTable, Stand, StepRefused};
+use spg_tree::{Descent, PageTable, Stand, StepRefused, Want};
 use std::alloc::Global;
 
 /// Moves the short chain at a place, to which a node of the tuple above leads, with the insert's leaf
@@ -42,7 +43,10 @@ fn move_from<O: OpClass>(
     ensures held { OnOk result (TouchesFree table.old table.new descent.now seat) }
     ensures ticked { OnOk result (IsTicked table.old table.new) }
     ensures makes { OnOk result (MakesNone table.old table.new) }
+    ensures table { OnOk result (MovesTable table.old table.new descent.now seat) }
+    ensures exact { OnOk result (IsExact (sheets_of table.old) (sheets_of table.new) table.new.touched) }
     ensures full { IsErrOf result IndexFull → IsFull table.old (carried_want table.old descent.now seat) }
+    ensures not_full { OnOk result (IsFull table.old (carried_want table.old descent.now seat) → ⊥) }
     ensures clock { IsErrOf result ClockFull → ⊥ }
     ensures err { OnErr result (table.new ≡ table.old) }
 {
@@ -50,16 +54,9 @@ fn move_from<O: OpClass>(
     let new = leaf_tuple(alloc, descent.row(), descent.rest().as_slice())?;
     let need = bytes_of(leaves.as_slice()) + new.size() as usize + 4;
     let count = leaves.len() + 1;
-    let block = table.pick_page(
-        alloc,
-        PageKind::Leaf,
-        descent.is_nulls(),
-        None,
-        need as u16,
-        count as u16,
-        Some(at.block),
-        seat,
-    )?;
+    let nulls = descent.is_nulls();
+    let want = Want::leaf(nulls, need as u16, count as u16, seat).avoiding(at.block);
+    let block = table.pick(alloc, &want)?;
     write_chain(table, block, at, parent, node, leaves.as_slice(), &new);
     Ok(())
 }
@@ -67,11 +64,14 @@ fn move_from<O: OpClass>(
 /// Moves the short chain at which an insert stands, with the insert's leaf behind its head, to one
 /// other leaf page. The old head becomes a redirect to the new one with the clock's moment, the other
 /// tuples become placeholders, the downlink of the tuple above is set, and the clock is raised. A dead
-/// tuple is a chain of no tuples. No inner tuple is made. Of the blocks touched, each but that where
-/// the insert stands and that of the tuple above was latched by no other seat. `ClockFull` comes
-/// exactly where the clock is 2^48 - 1, before a page is picked; `IndexFull` only where the pick of a
-/// leaf page for the chain with its new leaf, by this seat and not on the old block, needs a new page
-/// and there may be none. After a refusal the table is as it was.
+/// tuple is a chain of no tuples. No inner tuple is made. `table` tells the whole table: the order of
+/// the chain and where it is, and the pages remembered, which are those after the pick; latches and
+/// counter stay as they are. The blocks touched are exactly those written or added, each once; each but
+/// that where the insert stands and that of the tuple above was latched by no other seat. `ClockFull`
+/// comes exactly where the clock is 2^48 - 1, before a page is picked; `IndexFull` exactly where the
+/// pick of a leaf page for the chain with its new leaf, by this seat and not on the old block, needs a
+/// new page and there may be none, unless memory is short before. After a refusal the table is as it
+/// was.
 pub fn move_chain<O: OpClass>(
     alloc: Global,
     table: &mut PageTable,
@@ -87,7 +87,10 @@ pub fn move_chain<O: OpClass>(
     ensures held { OnOk result (TouchesFree table.old table.new descent.now seat) }
     ensures ticked { OnOk result (IsTicked table.old table.new) }
     ensures makes { OnOk result (MakesNone table.old table.new) }
+    ensures table { OnOk result (MovesTable table.old table.new descent.now seat) }
+    ensures exact { OnOk result (IsExact (sheets_of table.old) (sheets_of table.new) table.new.touched) }
     ensures full { IsErrOf result IndexFull → IsFull table.old (carried_want table.old descent.now seat) }
+    ensures not_full { OnOk result (IsFull table.old (carried_want table.old descent.now seat) → ⊥) }
     ensures clock { IsErrOf result ClockFull → table.old.clock + 1 ≡ 2 ^ 48 }
     ensures clock_first { table.old.clock + 1 ≡ 2 ^ 48 → IsErrOf result ClockFull }
     ensures err { OnErr result (table.new ≡ table.old) }

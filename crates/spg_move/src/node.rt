@@ -1,18 +1,20 @@
-ghost use Rattle.std.specs.Prelude.{◌≡◌, ◌≤◌, ◌+◌, ◌^◌, false, Option, OnOk, IfOk, OnErr, IsErrOf};
+ghost use Rattle.std.specs.Prelude.{◌≡◌, ◌⊎◌, ◌≤◌, ◌+◌, ◌^◌, false, Option, OnOk, IfOk, OnErr, IsErrOf};
 ghost use Rattle.spg_opclass.specs.declared.view.Choice.TheVariants.{Add};
 ghost use Rattle.spg_forest.specs.Sheets.{size_of};
 ghost use Rattle.spg_forest.specs.Shape.{Shape};
+ghost use Rattle.spg_forest.specs.Exact.{IsExact};
 ghost use Rattle.spg_tree.specs.Table.{sheets_of, tuples_at};
 ghost use Rattle.spg_tree.specs.Pick.{IsFull};
 ghost use Rattle.spg_tree.specs.Descents.{in_nulls, placed, with_node, IsParent};
 ghost use Rattle.spg_tree.specs.declared.stand.Stand.TheVariants.{At};
-ghost use Rattle.spg_tree.specs.declared.stand.StepRefused.TheVariants.{IndexFull, ClockFull};
+ghost use Rattle.spg_tree.specs.declared.stand.StepRefused.TheVariants.{IndexFull, ClockFull, Memory};
 ghost use Rattle.spg_descend.specs.Carried.{IsCarried};
 ghost use Rattle.spg_descend.specs.Follows.{tuple_place};
-ghost use Rattle.spg_descend.specs.Held.{TouchesFree};
+ghost use Rattle.spg_descend.specs.Held.{TouchesFree, IsFreeHome, StandsFree};
 ghost use Rattle.spg_descend.specs.Answers.{IsAnswered};
 ghost use Rattle.spg_move.specs.Answers.{IsInnerOf};
 ghost use Rattle.spg_move.specs.Nodes.{IsNodeAdded, FitsWider, wider_want};
+ghost use Rattle.spg_move.specs.Tables.{NodeTable};
 ghost use Rattle.spg_move.specs.Widening.{FitsInPlace, node_want, IsShiftedFrom};
 
 use crate::node_tuple::longer_tuple;
@@ -38,8 +40,10 @@ fn shift_tuple<O: OpClass>(
     requires no_room { FitsInPlace (tuples_at table.old (tuple_place descent.now.stand).block) (tuple_place descent.now.stand).offset longer.now → ⊥ }
     ensures ok { IfOk result (λ to. IsShiftedFrom table.old table.new descent.now longer.now seat to) }
     ensures held { OnOk result (TouchesFree table.old table.new descent.now seat) }
+    ensures home { IfOk result (λ to. IsFreeHome table.old table.new descent.now.parent to.block seat) }
     ensures full { IsErrOf result IndexFull → IsFull table.old (node_want (in_nulls descent.now) (tuple_place descent.now.stand).block (size_of longer.now) seat) }
     ensures clock { IsErrOf result ClockFull → table.old.clock + 1 ≡ 2 ^ 48 }
+    ensures clock_first { table.old.clock + 1 ≡ 2 ^ 48 → IsErrOf result ClockFull }
     ensures err { OnErr result (table.new ≡ table.old) }
 {
     if table.clock() + 1 == 1 << 48 {
@@ -76,12 +80,15 @@ fn note_shift<O: OpClass>(descent: &mut Descent<O>, to: Place)
 /// then. Else it goes to a picked inner page of the same tree and of the same parity as its old block,
 /// the one inner tuple that is made; the old place becomes a redirect to it with the clock's moment,
 /// the downlink of the tuple above is set, the clock is raised by one, and the insert stands at the new
-/// place. In both cases the insert notes that it has added a node, and the touched blocks are those
-/// changed or added, each once. Of the blocks touched, each but that where the insert stands and that
-/// of the tuple above was latched by no other seat. `ClockFull` comes only where the longer tuple does
-/// not fit and the clock is 2^48 - 1, before a page is picked; `IndexFull` only where it does not fit
-/// and the pick of an inner page for it, by this seat and not on the old block, needs a new page and
-/// there may be none. After a refusal table and insert are as they were. The latches stay as they are.
+/// place, whose block is among those touched and is that of the tuple above or was latched by no other
+/// seat. In both cases the insert notes that it has added a node, and the touched blocks are exactly
+/// those written or added, each once; `table` tells the whole table. Of the blocks touched, each but
+/// that where the insert stands and that of the tuple above was latched by no other seat. `ClockFull`
+/// comes exactly where the longer tuple does not fit and the clock is 2^48 - 1, before a page is
+/// picked, unless memory is short before; `IndexFull` exactly where it does not fit and the pick of an
+/// inner page for it, by this seat and not on the old block, needs a new page and there may be none,
+/// unless memory is short before. After a refusal table and insert are as they were. The latches and
+/// the counter stay as they are; the pages remembered are those after the pick.
 pub fn add_node<O: OpClass>(
     alloc: Global,
     table: &mut PageTable,
@@ -97,8 +104,13 @@ pub fn add_node<O: OpClass>(
     requires answer { IsAnswered O.meaning table.old descent.old (Add at label) }
     ensures ok { OnOk result (IsNodeAdded O.meaning table.old table.new descent.old descent.new at label) }
     ensures held { OnOk result (TouchesFree table.old table.new descent.old seat) }
+    ensures stands { OnOk result (StandsFree table.old table.new descent.old descent.new seat) }
+    ensures table { OnOk result (NodeTable table.old table.new descent.old descent.new at label seat) }
+    ensures exact { OnOk result (IsExact (sheets_of table.old) (sheets_of table.new) table.new.touched) }
     ensures full { IsErrOf result IndexFull → (FitsWider table.old descent.old at label → ⊥) × IsFull table.old (wider_want table.old descent.old at label seat) }
+    ensures not_full { OnOk result ((FitsWider table.old descent.old at label → ⊥) → IsFull table.old (wider_want table.old descent.old at label seat) → ⊥) }
     ensures clock { IsErrOf result ClockFull → (FitsWider table.old descent.old at label → ⊥) × (table.old.clock + 1 ≡ 2 ^ 48) }
+    ensures clock_first { (FitsWider table.old descent.old at label → ⊥) → table.old.clock + 1 ≡ 2 ^ 48 → IsErrOf result ClockFull ⊎ IsErrOf result Memory }
     ensures err { OnErr result (table.new ≡ table.old) }
     ensures err_descent { OnErr result (descent.new ≡ descent.old) }
 {

@@ -10,8 +10,8 @@ ghost use Rattle.spg_move.specs.Widening.{FitsInPlace, widened_table, shifted_ta
 
 use crate::writes::{add_on, push_another, put_at};
 use spg_base::{Block, Offset, Place, SeatNo, Stamp, parity};
-use spg_page::{Page, PageKind, TupleBytes};
-use spg_tree::{PageTable, StepRefused, Touched};
+use spg_page::{Page, TupleBytes};
+use spg_tree::{PageTable, StepRefused, Touched, Want};
 use std::alloc::Global;
 
 /// Whether a tuple fits in the place of the one at an offset.
@@ -97,16 +97,9 @@ pub(crate) fn shift(
     ensures sound { IsSound table.old }
 {
     let before = table.page_count();
-    let block = table.pick_page(
-        alloc,
-        PageKind::Inner,
-        nulls,
-        Some(parity(at.block)),
-        longer.size() + 4,
-        1,
-        Some(at.block),
-        seat,
-    )?;
+    let need = longer.size() + 4;
+    let want = Want::inner(nulls, parity(at.block), need, seat).avoiding(at.block);
+    let block = table.pick(alloc, &want)?;
     let touched = touched_by(at.block, parent.block, block, before, table.page_count());
     let to = write_shifted(table, block, at, parent, node, longer);
     table.set_touched(touched);

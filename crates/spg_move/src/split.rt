@@ -1,6 +1,7 @@
 ghost use Rattle.std.specs.Prelude.{◌≡◌, false, Option, OnOk, OnErr, IsErrOf};
 ghost use Rattle.spg_opclass.specs.declared.view.Choice.TheVariants.{Split};
 ghost use Rattle.spg_forest.specs.Shape.{Shape};
+ghost use Rattle.spg_forest.specs.Exact.{IsExact};
 ghost use Rattle.spg_tree.specs.Table.{sheets_of};
 ghost use Rattle.spg_tree.specs.Pick.{IsFull};
 ghost use Rattle.spg_tree.specs.Descents.{in_nulls};
@@ -10,7 +11,8 @@ ghost use Rattle.spg_descend.specs.Follows.{tuple_place};
 ghost use Rattle.spg_descend.specs.Held.{TouchesFree};
 ghost use Rattle.spg_descend.specs.Answers.{IsAnswered};
 ghost use Rattle.spg_move.specs.Answers.{IsInnerOf};
-ghost use Rattle.spg_move.specs.Splits.{PartsTuple, lower_want_at, fits_beside_at};
+ghost use Rattle.spg_move.specs.Splits.{PartsTuple, upper_at, lower_at, lower_want_at, fits_beside_at};
+ghost use Rattle.spg_move.specs.Splitting.{IsParted};
 
 use crate::split_pages::part_tuple;
 use crate::split_tuples::{lower_tuple, upper_tuple};
@@ -27,12 +29,13 @@ use std::alloc::Global;
 /// mark of the old tuple. It goes on the page of the upper tuple where it fits there beside it and that
 /// page is no root, else on an inner page of the next parity, one more than that of the upper tuple's
 /// block modulo 3, which is picked. The insert stays where it stands, and the rise is noted. Touched
-/// are the blocks that are changed or added. Of the blocks touched, each but that where the insert
-/// stands and that of the tuple above was latched by no other seat. The clock stays, so `ClockFull`
-/// never comes; `IndexFull` comes only where the lower tuple does not fit beside the upper one on a
-/// page that is no root, and the pick of a page of that parity for it, by this seat, needs a new page
-/// and there may be none. After a refusal table and insert are as they were. The latches stay as they
-/// are.
+/// are exactly the blocks that are written or added, each once. Of the blocks touched, each but that
+/// where the insert stands and that of the tuple above was latched by no other seat. The clock stays,
+/// so `ClockFull` never comes; `IndexFull` comes exactly where the lower tuple does not fit beside the
+/// upper one on a page that is no root, and the pick of a page of that parity for it, by this seat,
+/// needs a new page and there may be none, unless memory is short before. After a refusal table and
+/// insert are as they were. `table` tells the whole table: the pages remembered are those after the
+/// pick, and latches and counter stay as they are.
 pub fn split_tuple<O: OpClass>(
     alloc: Global,
     table: &mut PageTable,
@@ -50,7 +53,10 @@ pub fn split_tuple<O: OpClass>(
     requires answer { IsAnswered O.meaning table.old descent.old (Split upper_prefix.now upper_labels.now child lower_prefix.now) }
     ensures ok { OnOk result (PartsTuple O.meaning table.old table.new descent.old descent.new upper_prefix.now upper_labels.now child) }
     ensures held { OnOk result (TouchesFree table.old table.new descent.old seat) }
+    ensures table { OnOk result (IsParted table.old table.new (tuple_place descent.old.stand) child seat (upper_at upper_prefix.now upper_labels.now) (lower_at table.old descent.old lower_prefix.now)) }
+    ensures exact { OnOk result (IsExact (sheets_of table.old) (sheets_of table.new) table.new.touched) }
     ensures full { IsErrOf result IndexFull → (fits_beside_at table.old descent.old upper_prefix.now upper_labels.now lower_prefix.now ≡ false) × IsFull table.old (lower_want_at table.old descent.old lower_prefix.now seat) }
+    ensures not_full { OnOk result (fits_beside_at table.old descent.old upper_prefix.now upper_labels.now lower_prefix.now ≡ false → IsFull table.old (lower_want_at table.old descent.old lower_prefix.now seat) → ⊥) }
     ensures clock { IsErrOf result ClockFull → ⊥ }
     ensures err { OnErr result (table.new ≡ table.old) }
     ensures err_descent { OnErr result (descent.new ≡ descent.old) }

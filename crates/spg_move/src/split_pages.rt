@@ -9,8 +9,8 @@ ghost use Rattle.spg_move.specs.Splitting.{upper_table, parted_table, lower_want
 
 use crate::writes::{add_on, push_another, put_at};
 use spg_base::{Block, Place, SeatNo, parity};
-use spg_page::{PageKind, TupleBytes};
-use spg_tree::{PageTable, StepRefused, Touched};
+use spg_page::TupleBytes;
+use spg_tree::{PageTable, StepRefused, Touched, Want};
 use std::alloc::Global;
 
 /// Whether the lower tuple fits beside the upper one, once that has replaced the old one, on a page
@@ -45,16 +45,7 @@ fn pick_home(
     let nulls = table.page(at.block).is_nulls();
     let next = (parity(at.block) + 1) % 3;
     let need = lower.size() + 4;
-    let block = table.pick_page(
-        alloc,
-        PageKind::Inner,
-        nulls,
-        Some(next),
-        need,
-        1,
-        None,
-        seat,
-    )?;
+    let block = table.pick(alloc, &Want::inner(nulls, next, need, seat))?;
     Ok(block)
 }
 

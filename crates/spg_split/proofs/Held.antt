@@ -1,14 +1,15 @@
 -- A division touches no block that another seat has latched.
-use Rattle.std.proofs.Common.{◌≡◌, ℕ, ◌+◌, ◌-◌, ◌||◌, nat_eq, nat_le, Bool, true, false, List, [], ◌∷◌, ◌++◌, Some, length, ap, subst, sym}
+use Rattle.std.proofs.Common.{◌≡◌, ℕ, ◌+◌, ◌-◌, ◌<◌, ◌≤◌, ◌||◌, nat_eq, nat_le, Bool, true, false, List, [], ◌∷◌, ◌++◌, Some, ◌⊎◌, ⊎_elim, length, ap, ◌∙◌, subst, sym, inl, inr, arith}
 use Rattle.std.specs.Prelude.{Result, Ok, Err, IfOk, OnOk}
 use Rattle.std.specs.List.{range_with_len}
 use Rattle.spg_forest.specs.View.{Place}
-use Rattle.spg_forest.specs.Tuples.{Tuple}
+use Rattle.spg_forest.specs.Tuples.{Tuple, IsAmong}
 use Rattle.spg_forest.specs.Sheets.{size_of}
 use Rattle.spg_tree.specs.Table.{Table, sheet_at}
 use Rattle.spg_tree.specs.Descents.{Descending}
 use Rattle.spg_tree.specs.declared.stand.Stand.TheVariants.{Root, At}
-use Rattle.spg_descend.specs.Held.{TouchesFree}
+use Rattle.spg_descend.specs.Held.{TouchesFree, IsNoOthers, IsFreeHome, StandsFree}
+use Rattle.spg_descend.specs.Leaves.{parent_block}
 use Rattle.spg_descend.proofs.Held.{MayTouch, picked_free, first_free, second_free, may_root, may_at, may_above, may_free, AreAll, all_none, all_more, all_both, all_either, all_new, touches, touches_two}
 use Rattle.spg_split.specs.declared.parts.Parts.{Parts}
 use Rattle.spg_split.specs.declared.part.Parting.{Parting}
@@ -17,11 +18,21 @@ use Rattle.spg_split.specs.declared.homes.Homes.{Homes}
 use Rattle.spg_split.specs.Homes.{AreHomes, fits_above, inner_want, rest_want, another, blocks_touched}
 use Rattle.spg_split.specs.Parts.{PutsLists, lists_want}
 use Rattle.spg_split.specs.Parting.{IsParted}
+use Rattle.spg_split.specs.Ways.{NotesChain}
+use Rattle.spg_split.specs.declared.put.Parted.{Parted}
+use Rattle.spg_split.specs.declared.put.Parted.TheVariants.{With, Without}
+use Rattle.spg_split.specs.declared.split.SplitOut.{SplitOut}
+use Rattle.spg_split.proofs.BlocksTouched.{left_among, right_among, range_among, another_cases}
 
 -- a fact of each good outcome
 pub on_ok_then : {A E : Type 0} (r : Result A E) (P : A → Type 0) (Q : Type 0) → ((a : A) → P a → Q) → IfOk r P → OnOk r Q
 on_ok_then (Ok a) P Q h p = h a p
 on_ok_then (Err b) P Q h p = tt
+
+-- a fact of each good outcome from two
+pub on_ok_both : {A E : Type 0} (r : Result A E) (P1 P2 : A → Type 0) (Q : Type 0) → ((a : A) → P1 a → P2 a → Q) → IfOk r P1 → IfOk r P2 → OnOk r Q
+on_ok_both (Ok a) P1 P2 Q h p q = h a p q
+on_ok_both (Err b) P1 P2 Q h p q = tt
 
 -- a division at a root
 pub root_held : {Recon : Type 0} (t t2 : Table) (d : Descending Recon) (root seat : ℕ) (p : Parts) (leaves : List Tuple) → d.stand ≡ Root root → PutsLists t t2 root seat p leaves → TouchesFree t t2 d seat
@@ -62,3 +73,56 @@ chain_held t t2 d x p i seat parts done s a latched P =
     touches t t2 d seat (blocks_touched x.block p.block P.homes (length t.pages) (length P.housed.pages)) (ap (λ (z : Table). z.touched) P.after)
     (all_touched t d seat x.block p.block (length P.housed.pages) P.homes latched mb mp
     (homes_are (fits_above t p.block (size_of parts.inner + 4)) (nat_le 1 P.plan.rest.tuples) t P.housed d seat x.block p.block (size_of parts.inner + 4) (sheet_at t x.block).nulls P.plan.rest P.homes mb mp P.picks))
+
+-- the page of its inner tuple
+inner_home : (here away : Bool) (t t2 : Table) (seat b p need : ℕ) (nulls : Bool) (rest : ListSize) (h : Homes) →
+    AreHomes here away t t2 b p (inner_want nulls p need seat) (rest_want nulls b rest seat) h → (h.inner ≡ p) ⊎ (IsNoOthers t seat h.inner × (h.inner < length t2.pages))
+inner_home true false t t2 seat b p need nulls rest h (i, r, e) = inl i
+inner_home true true t t2 seat b p need nulls rest h (i, q, P) = inl i
+inner_home false false t t2 seat b p need nulls rest h (r, q, P) = inr (picked_free t t2 (inner_want nulls p need seat) h.inner P, P.there)
+inner_home false true t t2 seat b p need nulls rest h (q, P) =
+    let a : h.inner < length P.between.pages = P.first.there in
+    let l : length P.between.pages ≤ length t2.pages = P.second.least in
+    inr (first_free t t2 (inner_want nulls p need seat) (rest_want nulls b rest seat) h.inner h.rest P, omega arith)
+
+-- is among those touched
+inner_touched : (b p n now : ℕ) (h : Homes) → (h.inner ≡ p) ⊎ (h.inner < now) → IsAmong h.inner (blocks_touched b p h n now)
+inner_touched b p n now h where_is =
+    ⊎_elim above (λ c. ⊎_elim new (λ a. front (right_among h.inner (b ∷ p ∷ []) xs a)) c) (another_cases h.inner p n)
+  where
+    xs : List ℕ
+    xs = another h.inner p n
+
+    ys : List ℕ
+    ys = another h.rest b n
+
+    rs : List ℕ
+    rs = range_with_len n (now - n)
+
+    front : IsAmong h.inner ((b ∷ p ∷ []) ++ xs) → IsAmong h.inner (blocks_touched b p h n now)
+    front a = left_among h.inner (((b ∷ p ∷ []) ++ xs) ++ ys) rs (left_among h.inner ((b ∷ p ∷ []) ++ xs) ys a)
+
+    above : h.inner ≡ p → IsAmong h.inner (blocks_touched b p h n now)
+    above e = front (left_among h.inner (b ∷ p ∷ []) xs (inr (inl e)))
+
+    new : n ≤ h.inner → IsAmong h.inner (blocks_touched b p h n now)
+    new le = ⊎_elim above (λ k. right_among h.inner (((b ∷ p ∷ []) ++ xs) ++ ys) rs (range_among (now - n) n h.inner le (omega arith))) where_is
+
+-- where the new inner tuple stands
+pub chain_home : {Recon : Type 0} (t t2 : Table) (d : Descending Recon) (x p : Place) (i seat : ℕ) (parts : Parts) (done : Parting) → d.parent ≡ Some (p, i) → IsParted t t2 x p i seat parts done → IsFreeHome t t2 d.parent done.at.block seat
+chain_home t t2 d x p i seat parts done a P =
+    let h : Homes = P.homes in
+    let now : ℕ = length P.housed.pages in
+    let home = inner_home (fits_above t p.block (size_of parts.inner + 4)) (nat_le 1 P.plan.rest.tuples) t P.housed seat x.block p.block (size_of parts.inner + 4) (sheet_at t x.block).nulls P.plan.rest h P.picks in
+    let at : done.at.block ≡ h.inner = ap (λ (z : Place). z.block) P.at in
+    let among : IsAmong h.inner t2.touched = subst (λ (bs : List ℕ). IsAmong h.inner bs) (sym (ap (λ (z : Table). z.touched) P.after)) (inner_touched x.block p.block (length t.pages) now h (⊎_elim (λ e. inl e) (λ f. inr f.1) home)) in
+    let above : parent_block d.parent ≡ Some p.block = ap parent_block a in
+    let free : (parent_block d.parent ≡ Some h.inner) ⊎ IsNoOthers t seat h.inner = ⊎_elim (λ e. inl (above ∙ ap (λ (b : ℕ). Some b) (sym e))) (λ f. inr f.0) home in
+    let Is : ℕ → Type 0 = λ b. IsAmong b t2.touched × ((parent_block d.parent ≡ Some b) ⊎ IsNoOthers t seat b) in
+    subst Is (sym at) (among, free)
+
+-- where the insert stands then
+pub noted_free : {Recon : Type 0} (t t2 : Table) (d d2 : Descending Recon) (z : Place) (seat : ℕ) (way : Parted) (out : SplitOut) → NotesChain d d2 z way out → IsFreeHome t t2 d.parent z.block seat → StandsFree t t2 d d2 seat
+noted_free t t2 d d2 z seat With out (o, e) h = inl (ap (λ (x : Descending _). x.stand) e)
+noted_free t t2 d d2 z seat (Without false) out (o, e) h = inr (z, ap (λ (x : Descending _). x.stand) e, h)
+noted_free t t2 d d2 z seat (Without true) out (o, e) h = inr (z, ap (λ (x : Descending _). x.stand) e, h)

@@ -31,3 +31,7 @@ pub mod Makes
 pub mod Causes
 pub mod Held
 pub mod Fulls
+pub mod Tables
+pub mod RootExact
+pub mod ChainExact
+pub mod ChainNamed

@@ -1,35 +1,16 @@
 -- The lists that stay have room on the old page, and those that go away have room together.
-use Rattle.std.proofs.Common.{◌≡◌, ℕ, zero, suc, ◌+◌, ◌-◌, ◌*◌, ◌≤◌, ◌<◌, List, [], ◌∷◌, ⊎_elim, Option, Some, None, length, get_or, nat_le, refl, sym, ap, subst, arith}
-use Rattle.std.specs.Prelude.{min}
+use Rattle.std.proofs.Common.{◌≡◌, ℕ, zero, suc, ◌+◌, ◌-◌, ◌≤◌, ◌<◌, List, [], ◌∷◌, ⊎_elim, None, length, get_or, nat_le, refl, sym, ap, subst, arith}
 use Rattle.std.proofs.lemmas.Bool.{cases_lt, cond-true, cond-false, le-leb, lt-leb}
 use Rattle.spg_forest.specs.View.{Leaf}
 use Rattle.spg_forest.specs.Tuples.{Tuple, Live}
 use Rattle.spg_forest.specs.Pages.{all_live}
-use Rattle.spg_forest.specs.Sheets.{weight, gaps, size_of, free_place}
-use Rattle.spg_forest.specs.Edits.{added}
+use Rattle.spg_forest.specs.Sheets.{weight, gaps, size_of}
 use Rattle.spg_page.specs.Changes.{free_of, room_of}
 use Rattle.spg_page.specs.Reads.{leaf_in}
-use Rattle.spg_page.specs.Told.{number_of}
-use Rattle.spg_chain.specs.Added.{IsLeafIn}
 use Rattle.spg_split.specs.declared.plan.Left.{Left}
 use Rattle.spg_split.specs.Placing.{taken_by, leaves_in, chained, HaveRooms}
 use Rattle.spg_split.specs.Planning.{size_of_list, room_left, less, staying, from_node}
-use Rattle.spg_split.proofs.Room.{Change, added_change, added_live}
-use Rattle.spg_split.proofs.Totals.{total, IsSum, total_none, total_in, total_past, bytes, count, bytes_sum, count_sum, have_rooms}
-
--- what a chain takes on a page: it fills placeholders first
-chain_takes : (ts : List Tuple) (last : Option ℕ) (ls : List Leaf) → IsLeafIn ts last →
-    (weight (chained ts (number_of last) ls) + 20 * min (length ls) (gaps ts) ≡ weight ts + weight (all_live ls)) × (gaps (chained ts (number_of last) ls) + min (length ls) (gaps ts) ≡ gaps ts)
-chain_takes ts last [] a = (omega arith, omega arith)
-chain_takes ts last (l ∷ ls) a =
-    let us : List Tuple = added ts (number_of last) (suc (free_place ts)) l in
-    let (x, y) = chain_takes us (Some (suc (free_place ts))) ls (added_live ts last l a) in
-    go us (chained us (suc (free_place ts)) ls) (added_change ts last l a) x y
-  where
-    go : (us vs : List Tuple) → Change ts us (size_of (Live l 0)) → weight vs + 20 * min (length ls) (gaps us) ≡ weight us + weight (all_live ls) → gaps vs + min (length ls) (gaps us) ≡ gaps us →
-        (weight vs + 20 * min (suc (length ls)) (gaps ts) ≡ weight ts + weight (all_live (l ∷ ls))) × (gaps vs + min (suc (length ls)) (gaps ts) ≡ gaps ts)
-    go us vs (Change.behind x y z) p q = (omega arith, omega arith)
-    go us vs (Change.filled y z) p q = (omega arith, omega arith)
+use Rattle.spg_split.proofs.Totals.{chain_takes, total, IsSum, total_none, total_in, total_past, bytes, count, bytes_sum, count_sum, have_rooms}
 
 -- the lists that stay have room one after another
 pub stay_rooms : (ts : List Tuple) (L : ℕ → List Leaf) (l : Left) (k n : ℕ) → weight ts ≤ 8160 → l.free ≡ free_of ts → l.gaps ≡ gaps ts → HaveRooms ts L k (staying L l k n)

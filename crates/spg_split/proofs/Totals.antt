@@ -9,7 +9,8 @@ use Rattle.spg_forest.proofs.Chain.{put_on_same}
 use Rattle.spg_page.proofs.SheetFacts.{free_place_free, free_place_length}
 use Rattle.spg_chain.proofs.Laid.{head_there, added_behind, with_tuple_at}
 use Rattle.spg_forest.specs.Pages.{all_live, tuple_on, with_tuple}
-use Rattle.spg_forest.specs.Sheets.{weight, size_of, free_place, relinked}
+use Rattle.std.specs.Prelude.{min}
+use Rattle.spg_forest.specs.Sheets.{weight, gaps, size_of, free_place, relinked}
 use Rattle.spg_forest.specs.Edits.{added}
 use Rattle.spg_page.specs.Changes.{room_of}
 use Rattle.spg_page.specs.Reads.{leaf_in}
@@ -88,6 +89,37 @@ least_total : (L : ℕ → List Leaf) (k n : ℕ) → 20 * total count L k n ≤
 unfolding total
 least_total L k zero = omega arith
 least_total L k (suc n) = let a = least_weight (L k) in let b = least_total L (suc k) n in omega arith
+
+-- what a chain takes on a page: it fills placeholders first
+pub chain_takes : (ts : List Tuple) (last : Option ℕ) (ls : List Leaf) → IsLeafIn ts last →
+    (weight (chained ts (number_of last) ls) + 20 * min (length ls) (gaps ts) ≡ weight ts + weight (all_live ls)) × (gaps (chained ts (number_of last) ls) + min (length ls) (gaps ts) ≡ gaps ts)
+chain_takes ts last [] a = (omega arith, omega arith)
+chain_takes ts last (l ∷ ls) a =
+    let us : List Tuple = added ts (number_of last) (suc (free_place ts)) l in
+    let (x, y) = chain_takes us (Some (suc (free_place ts))) ls (added_live ts last l a) in
+    go us (chained us (suc (free_place ts)) ls) (added_change ts last l a) x y
+  where
+    go : (us vs : List Tuple) → Change ts us (size_of (Live l 0)) → weight vs + 20 * min (length ls) (gaps us) ≡ weight us + weight (all_live ls) → gaps vs + min (length ls) (gaps us) ≡ gaps us →
+        (weight vs + 20 * min (suc (length ls)) (gaps ts) ≡ weight ts + weight (all_live (l ∷ ls))) × (gaps vs + min (suc (length ls)) (gaps ts) ≡ gaps ts)
+    go us vs (Change.behind x y z) p q = (omega arith, omega arith)
+    go us vs (Change.filled y z) p q = (omega arith, omega arith)
+
+-- so it changes the page
+pub chained_differs : (ts : List Tuple) (ls : List Leaf) → 0 < length ls → chained ts 0 ls ≡ ts → ⊥
+chained_differs ts [] h e = absurd (omega arith)
+chained_differs ts (l ∷ ls) h e = let (a, b) = chain_takes ts None (l ∷ ls) tt in let w = ap weight e in let g = ap gaps e in absurd (omega arith)
+
+-- what lists take: the bytes of the page rise by theirs, but for the placeholders that they fill
+placed_takes : (ts : List Tuple) (L : ℕ → List Leaf) (k n : ℕ) → weight (placed ts L k n) + 20 * gaps ts ≡ weight ts + total bytes L k n + 20 * gaps (placed ts L k n)
+unfolding total
+placed_takes ts L k zero = omega arith
+placed_takes ts L k (suc n) =
+    let (a, b) = chain_takes ts None (L k) tt in
+    let c = placed_takes (chained ts 0 (L k)) L (suc k) n in omega arith
+
+-- so they change it, where there is a leaf among them
+pub placed_differs : (ts : List Tuple) (L : ℕ → List Leaf) (k n : ℕ) → 0 < total count L k n → placed ts L k n ≡ ts → ⊥
+placed_differs ts L k n h e = let a = placed_takes ts L k n in let b = least_total L k n in let w = ap weight e in let g = ap gaps e in absurd (omega arith)
 
 -- a chain leaves the room that others want
 chain_room : (ts : List Tuple) (last : Option ℕ) (ls : List Leaf) (w c : ℕ) → IsLeafIn ts last → weight ts ≤ 8160 → 20 * c ≤ w → bytes ls + w ≤ room_of ts (count ls + c) → (weight (chained ts (number_of last) ls) ≤ 8160) × (w ≤ room_of (chained ts (number_of last) ls) c)

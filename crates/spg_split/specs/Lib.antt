@@ -13,3 +13,4 @@ pub mod Parting
 pub mod Shrinks
 pub mod Causes
 pub mod Fulls
+pub mod Tables

@@ -1,10 +1,11 @@
 ghost use Rattle.std.specs.Prelude.{◌≡◌, ◌⊎◌, ◌+◌, ◌^◌, ◌<◌, Option, Some as Just, IfOk, OnOk, OnErr, IsErrOf};
 ghost use Rattle.spg_forest.specs.Tuples.{Live};
 ghost use Rattle.spg_forest.specs.Shape.{Shape};
+ghost use Rattle.spg_forest.specs.Exact.{IsExact};
 ghost use Rattle.spg_tree.specs.Table.{sheets_of};
 ghost use Rattle.spg_tree.specs.declared.stand.StepRefused.TheVariants.{IndexFull, ClockFull};
 ghost use Rattle.spg_descend.specs.Carried.{carried, IsCarried};
-ghost use Rattle.spg_descend.specs.Held.{TouchesFree};
+ghost use Rattle.spg_descend.specs.Held.{TouchesFree, IsFreeHome, StandsFree};
 ghost use Rattle.spg_descend.specs.Puts.{Fits};
 ghost use Rattle.spg_descend.specs.Rules.{MayMove};
 ghost use Rattle.spg_descend.specs.Below.{IsAtChain, IsTicked};
@@ -14,6 +15,7 @@ ghost use Rattle.spg_split.specs.Below.{IsChainSplit, SplitsWithout, MakesBelow}
 ghost use Rattle.spg_split.specs.Ways.{IsChainWay, NotesChain, IsBelowParent};
 ghost use Rattle.spg_split.specs.Causes.{IsCause, IsCauseOf, RisesOnly, chain_bytes, chain_in_one};
 ghost use Rattle.spg_split.specs.Fulls.{IsChainFull};
+ghost use Rattle.spg_split.specs.Tables.{DividesBelow, ChainTable};
 
 use crate::division::divide;
 use crate::part::{Parting, part_chain};
@@ -46,6 +48,9 @@ fn divide_chain<O: OpClass>(
     requires tick { table.old.clock + 1 < 2 ^ 48 }
     ensures ok { IfOk result (λ done. IsChainWay O.meaning table.old table.new descent.now done.at done.way × IsTicked table.old table.new × MakesBelow table.old table.new descent.now.parent done.at) }
     ensures held { OnOk result (TouchesFree table.old table.new descent.now seat) }
+    ensures home { IfOk result (λ done. IsFreeHome table.old table.new descent.now.parent done.at.block seat) }
+    ensures table { IfOk result (λ done. DividesBelow O.meaning table.old table.new descent.now descent.now.stand descent.now.parent seat done) }
+    ensures exact { OnOk result (IsExact (sheets_of table.old) (sheets_of table.new) table.new.touched) }
     ensures cause { IfOk result (λ done. IsCauseOf (chain_bytes O.meaning table.old descent.now) done.way) }
     ensures rise { IfOk result (λ done. RisesOnly (chain_in_one O.meaning table.old descent.now) done.way) }
     ensures full { IsErrOf result IndexFull → IsChainFull O.meaning table.old descent.now seat }
@@ -82,16 +87,20 @@ fn note_chain<O: OpClass>(descent: &mut Descent<O>, done: Parting) -> SplitOut
 
 /// Divides the chain at which an insert stands below a root, and its own leaf, by the class. The new
 /// inner tuple goes on the page of the tuple above where it fits and that page is no root, else on a
-/// picked inner page of the next parity. The old head becomes a redirect to it with the clock's
-/// moment, the other tuples become placeholders, the downlink of the tuple above is set, and the clock
-/// is raised. Of the blocks touched, each but that where the insert stands and that of the tuple above
-/// was latched by no other seat. Lists stay on the old page, in node order, while each fits there; the
+/// picked inner page of the next parity. The old head becomes a redirect to it with the clock's moment,
+/// the other tuples become placeholders, the downlink of the tuple above is set, and the clock is
+/// raised. Of the blocks touched, each but that where the insert stands and that of the tuple above was
+/// latched by no other seat. Lists stay on the old page, in node order, while each fits there; the
 /// first that does not and all after it go to one other leaf page. `LeftOut` comes exactly where the
 /// lists that must go elsewhere do not fit with the leaf on one page; then it is in none of them, and
-/// the insert stands at the new inner tuple. The spread rises then only where all leaves but the new one are in one node.
-/// `ClockFull` comes exactly where the clock is 2^48 - 1, before a page is picked; `IndexFull` only
-/// where the pick of a page for the inner tuple or for the lists that go needs a new page and there may
-/// be none. After a refusal table and insert are as they were. The latches stay as they are.
+/// the insert stands at the new inner tuple, whose block is among those touched and is that of the
+/// tuple above or was latched by no other seat. The spread rises then only where all leaves but the new
+/// one are in one node. `ClockFull` comes exactly where the clock is 2^48 - 1, before a page is picked;
+/// `IndexFull` exactly where the pick of a page for the inner tuple or for the lists that go needs a
+/// new page and there may be none, unless memory is short before. After a refusal table and insert are
+/// as they were. `table` tells the whole table: the inner tuple is that of the class's meaning, its
+/// nodes lead to its lists, and the pages remembered are those after the picks. The blocks touched are
+/// exactly those written or added, each once. Latches and counter stay as they are.
 pub fn split_chain<O: OpClass>(
     alloc: Global,
     class: &O,
@@ -106,10 +115,14 @@ pub fn split_chain<O: OpClass>(
     requires long { MayMove table.old descent.old.stand (Live (carried descent.old) 0) → ⊥ }
     ensures ok { IfOk result (λ out. IsChainSplit O.meaning table.old table.new descent.old descent.new out) }
     ensures held { OnOk result (TouchesFree table.old table.new descent.old seat) }
+    ensures stands { OnOk result (StandsFree table.old table.new descent.old descent.new seat) }
+    ensures table { IfOk result (λ out. ChainTable O.meaning table.old table.new descent.old descent.new seat out) }
+    ensures exact { OnOk result (IsExact (sheets_of table.old) (sheets_of table.new) table.new.touched) }
     ensures cause { IfOk result (λ out. IsCause (chain_bytes O.meaning table.old descent.old) out) }
     ensures rise { IfOk result (λ out. (out ≡ SplitOut.LeftOut → (z : PlaceAt) × SplitsWithout O.meaning table.old table.new descent.old descent.new z 0) ⊎ chain_in_one O.meaning table.old descent.old) }
     ensures ticked { IfOk result (λ out. IsTicked table.old table.new) }
     ensures full { IsErrOf result IndexFull → IsChainFull O.meaning table.old descent.old seat }
+    ensures not_full { OnOk result (IsChainFull O.meaning table.old descent.old seat → ⊥) }
     ensures clock { IsErrOf result ClockFull → table.old.clock + 1 ≡ 2 ^ 48 }
     ensures clock_first { table.old.clock + 1 ≡ 2 ^ 48 → IsErrOf result ClockFull }
     ensures err { OnErr result (table.new ≡ table.old) }

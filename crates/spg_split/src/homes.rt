@@ -8,7 +8,7 @@ ghost use Rattle.spg_split.specs.Homes.{PicksHomes, another, blocks_touched};
 
 use crate::plan::ListSize;
 use spg_base::{Block, SeatNo, parity};
-use spg_page::{PageKind, TupleBytes};
+use spg_page::TupleBytes;
 use spg_tree::{PageTable, StepRefused, Touched, Want};
 use std::alloc::Global;
 
@@ -33,16 +33,7 @@ fn fits_above(table: &PageTable, parent: Block, need: u16) -> bool
 fn inner_want(nulls: bool, parent: Block, need: u16, seat: SeatNo) -> Want
     ensures { result ≡ homes.inner_want nulls parent need seat }
 {
-    Want {
-        kind: PageKind::Inner,
-        nulls,
-        parity: Some((parity(parent) + 1) % 3),
-        need,
-        count: 1,
-        avoid: None,
-        besides: None,
-        seat,
-    }
+    Want::inner(nulls, (parity(parent) + 1) % 3, need, seat)
 }
 
 /// What is asked of a page for lists.
@@ -51,16 +42,7 @@ fn rest_want(nulls: bool, old: Block, rest: ListSize, seat: SeatNo) -> Want
     requires tuples { rest.tuples ≤ 409 }
     ensures { result ≡ homes.rest_want nulls old rest seat }
 {
-    Want {
-        kind: PageKind::Leaf,
-        nulls,
-        parity: None,
-        need: rest.bytes as u16,
-        count: rest.tuples as u16,
-        avoid: Some(old),
-        besides: None,
-        seat,
-    }
+    Want::leaf(nulls, rest.bytes as u16, rest.tuples as u16, seat).avoiding(old)
 }
 
 /// Picks the pages that a division needs: both or none.

@@ -16,8 +16,8 @@ use crate::parts::{Parts, bytes_of};
 use crate::placing::put_lists;
 use crate::root::make_inner_root;
 use spg_base::{Block, List, Place, SeatNo};
-use spg_page::{PageKind, TupleBytes};
-use spg_tree::{PageTable, StepRefused, Touched};
+use spg_page::TupleBytes;
+use spg_tree::{PageTable, StepRefused, Touched, Want};
 use std::alloc::Global;
 
 /// How a division is done.
@@ -87,16 +87,8 @@ fn put_parts(
     let leaves = &leaves.as_slice()[..count];
     let nulls = table.page(root).is_nulls();
     let need = bytes_of(leaves) as u16;
-    let block = table.pick_page(
-        alloc,
-        PageKind::Leaf,
-        nulls,
-        None,
-        need,
-        count as u16,
-        None,
-        seat,
-    )?;
+    let want = Want::leaf(nulls, need, count as u16, seat);
+    let block = table.pick(alloc, &want)?;
     write_parts(
         table,
         root,

@@ -1,6 +1,7 @@
 ghost use Rattle.std.specs.Prelude.{◌≡◌, ◌⊎◌, Option, IfOk, OnOk, OnErr, IsErrOf};
 ghost use Rattle.spg_forest.specs.Tuples.{Live};
 ghost use Rattle.spg_forest.specs.Shape.{Shape};
+ghost use Rattle.spg_forest.specs.Exact.{IsExact};
 ghost use Rattle.spg_tree.specs.Table.{sheets_of};
 ghost use Rattle.spg_tree.specs.Descents.{in_nulls};
 ghost use Rattle.spg_tree.specs.declared.stand.Stand.TheVariants.{Root};
@@ -11,6 +12,7 @@ ghost use Rattle.spg_descend.specs.Puts.{IsAtLeaves, Fits};
 ghost use Rattle.spg_split.specs.Splits.{IsAtRoot, IsSplitOut, PartsWithout};
 ghost use Rattle.spg_split.specs.Fulls.{IsRootFull};
 ghost use Rattle.spg_split.specs.Ways.{IsSplitWay, Notes};
+ghost use Rattle.spg_split.specs.Tables.{RootTable};
 ghost use Rattle.spg_split.specs.Causes.{IsCause, IsCauseOf, RisesOnly, root_bytes, root_in_one};
 
 use crate::division::divide;
@@ -48,9 +50,12 @@ fn split_root<O: OpClass>(
     requires no_room { Fits table.old descent.now.stand (Live (carried descent.now) 0) → ⊥ }
     ensures ok { IfOk result (λ way. IsSplitWay O.meaning table.old table.new descent.now way) }
     ensures held { OnOk result (TouchesFree table.old table.new descent.now seat) }
+    ensures table { OnOk result (RootTable O.meaning table.old table.new descent.now seat) }
+    ensures exact { OnOk result (IsExact (sheets_of table.old) (sheets_of table.new) table.new.touched) }
     ensures cause { IfOk result (λ way. IsCauseOf (root_bytes O.meaning table.old descent.now) way) }
     ensures rise { IfOk result (λ way. RisesOnly (root_in_one O.meaning table.old descent.now) way) }
     ensures full { IsErrOf result IndexFull → IsRootFull O.meaning table.old descent.now seat }
+    ensures not_full { OnOk result (IsRootFull O.meaning table.old descent.now seat → ⊥) }
     ensures clock { IsErrOf result ClockFull → ⊥ }
     ensures err { OnErr result (table.new ≡ table.old) }
 {
@@ -74,15 +79,17 @@ fn note<O: OpClass>(descent: &mut Descent<O>, way: Parted) -> SplitOut
     }
 }
 
-/// Divides the leaves of the root leaf page at which an insert stands, and its own leaf, by the
-/// class. The new inner tuple becomes the root's only tuple, and each list goes as a chain to one
-/// other leaf page. Of the blocks touched, each but that where the insert stands and that of the tuple
-/// above was latched by no other seat.
-/// Where the class puts all in one node, the tuple is all-the-same: it has 8 nodes of
-/// that label, which are filled in turn. `LeftOut` comes exactly where the lists do not fit with the
-/// leaf on one page; then it is in none of them. The spread rises then only where all leaves but the new
-/// one are in one node. `IndexFull` comes only where a pick needs a new page and there may be none.
-/// After a refusal table and insert are as they were.
+/// Divides the leaves of the root leaf page at which an insert stands, and its own leaf, by the class.
+/// The new inner tuple becomes the root's only tuple, and each list goes as a chain to one other leaf
+/// page. Of the blocks touched, each but that where the insert stands and that of the tuple above was
+/// latched by no other seat. Where the class puts all in one node, the tuple is all-the-same: it has 8
+/// nodes of that label, which are filled in turn. `LeftOut` comes exactly where the lists do not fit
+/// with the leaf on one page; then it is in none of them. The spread rises then only where all leaves
+/// but the new one are in one node. `table` tells the whole table: the inner tuple is that of the
+/// class's meaning, its nodes lead to its lists, and the pages remembered are those after the pick. The
+/// blocks touched are exactly those written or added, each once. `IndexFull` comes exactly where the
+/// pick for the lists needs a new page and there may be none, unless memory is short before. After a
+/// refusal table and insert are as they were.
 pub fn split_leaf<O: OpClass>(
     alloc: Global,
     class: &O,
@@ -97,9 +104,12 @@ pub fn split_leaf<O: OpClass>(
     requires no_room { Fits table.old descent.old.stand (Live (carried descent.old) 0) → ⊥ }
     ensures ok { IfOk result (λ out. IsSplitOut O.meaning table.old table.new descent.old descent.new out) }
     ensures held { OnOk result (TouchesFree table.old table.new descent.old seat) }
+    ensures table { OnOk result (RootTable O.meaning table.old table.new descent.old seat) }
+    ensures exact { OnOk result (IsExact (sheets_of table.old) (sheets_of table.new) table.new.touched) }
     ensures cause { IfOk result (λ out. IsCause (root_bytes O.meaning table.old descent.old) out) }
     ensures rise { IfOk result (λ out. (out ≡ SplitOut.LeftOut → PartsWithout O.meaning table.old table.new descent.old descent.new 0) ⊎ root_in_one O.meaning table.old descent.old) }
     ensures full { IsErrOf result IndexFull → IsRootFull O.meaning table.old descent.old seat }
+    ensures not_full { OnOk result (IsRootFull O.meaning table.old descent.old seat → ⊥) }
     ensures clock { IsErrOf result ClockFull → ⊥ }
     ensures err { OnErr result (table.new ≡ table.old) }
     ensures err_descent { OnErr result (descent.new ≡ descent.old) }

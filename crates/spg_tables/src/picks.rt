@@ -67,17 +67,11 @@ fn leaf(
     if need > 8160 {
         return Ok(None);
     }
-    let avoid = if avoid == 0 { None } else { Some(Block(avoid)) };
-    let picked = table.pick_page(
-        alloc,
-        PageKind::Leaf,
-        false,
-        None,
-        need,
-        1,
-        avoid,
-        SeatNo::first(),
-    );
+    let mut want = Want::leaf(false, need, 1, SeatNo::first());
+    if avoid > 0 {
+        want = want.avoiding(Block(avoid));
+    }
+    let picked = table.pick(alloc, &want);
     told(picked)
 }
 
@@ -92,16 +86,7 @@ fn inner(
     if need > 8160 || parity > 2 {
         return Ok(None);
     }
-    let picked = table.pick_page(
-        alloc,
-        PageKind::Inner,
-        nulls,
-        Some(parity),
-        need,
-        1,
-        None,
-        seat,
-    );
+    let picked = table.pick(alloc, &Want::inner(nulls, parity, need, seat));
     told(picked)
 }
 

@@ -10,3 +10,11 @@ mod classes;
 mod divides;
 #[cfg(test)]
 mod driver;
+#[cfg(test)]
+mod held;
+#[cfg(test)]
+mod latches;
+#[cfg(test)]
+mod replay;
+#[cfg(test)]
+mod seats;

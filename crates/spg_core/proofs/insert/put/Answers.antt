@@ -1,38 +1,28 @@
-use Rattle.std.proofs.Common.{refl, subst}
-use Rattle.spg_descend.specs.Puts.{IsPutOut, cost_at}
+use Rattle.std.proofs.Common.{rules, ◌≡◌, refl, subst, inl}
+use Rattle.spg_descend.specs.Puts.{IsPutOut, leaf_want}
 use Rattle.spg_descend.specs.declared.put.PutOut.{PutOut}
 use Rattle.spg_core.proofs.Stands.{stand_put}
-use Rattle.spg_core.proofs.Moves.{put_out, kinds_grow, makes_none, freed_pages}
-use Rattle.spg_core.proofs.Holding.{put_free}
+use Rattle.spg_tree.specs.Pick.{IsFull}
+use Rattle.spg_tree.specs.declared.stand.Stand.TheVariants.{Empty}
+use Rattle.spg_core.proofs.Ticks.{put_ticks}
 use Rattle.spg_core.proofs.insert.put.Goals as goal
 
 pub put_leaf-requires-clause-spot : goal.put_leaf-requires-clause-spot
-put_leaf-requires-clause-spot g c κs within = stand_put g.O.OpClass.meaning c.args.table.now c.args.descent.now c.requires.shape c.requires.stands c.requires.elsewhere
+put_leaf-requires-clause-spot g c = stand_put g.O.OpClass.meaning c.args.table.now c.args.descent.now c.requires.shape c.requires.stands c.requires.rule.0
 
-pub returns-clause-ok : goal.returns-clause-ok
-returns-clause-ok g c =
-    let m = g.O.OpClass.meaning in
-    let t = c.args.table.now in
-    let d = c.args.descent.now in
-    let t1 = c.put_leaf.new.table in
-    let (fits, puts, quiet, makes) = subst (λ (o : PutOut). IsPutOut m t t1 d o) c.in-Put.is c.in_ok-put_leaf.ensures.ok in
-    put_out m t t1 c.release_latches.new.table d d c.args.seat c.requires.elsewhere (λ key C. (cost_at d.stand, λ x. x, puts key C)) quiet.limit (kinds_grow t t1 d quiet.roots) c.release_latches.ensures.table refl
+pub returns-clause-does : goal.returns-clause-does
+returns-clause-does g c =
+    let done = c.in_ok-put_leaf.ensures in
+    let put = subst (λ (o : PutOut). IsPutOut g.O.OpClass.meaning c.args.table.now c.put_leaf.new.table c.args.descent.now o) c.in-Put.is done.ok in
+    record { told = (refl, inl (c.requires.rule, put, done.table c.in-Put.is)); exact = done.exact c.in-Put.is; held = done.held c.in-Put.is; stood = inl refl }
 
-pub returns-clause-latches : goal.returns-clause-latches
-returns-clause-latches g c = λ h.
-    let m = g.O.OpClass.meaning in
-    let t = c.args.table.now in
-    let d = c.args.descent.now in
-    let t1 = c.put_leaf.new.table in
-    let (fits, puts, quiet, makes) = subst (λ (o : PutOut). IsPutOut m t t1 d o) c.in-Put.is c.in_ok-put_leaf.ensures.ok in
-    put_free t t1 c.release_latches.new.table c.args.seat d d quiet.latches refl refl c.release_latches.ensures.table h
+pub returns-in_err-put_leaf-clause-full_where : goal.returns-in_err-put_leaf-clause-full_where
+returns-in_err-put_leaf-clause-full_where g c = λ h.
+    let none : (c.args.descent.now.stand ≡ Empty) × IsFull c.args.table.now (leaf_want c.args.descent.now c.args.seat) = search rules in
+    inl (c.requires.rule, none.0, none.1)
 
-pub returns-clause-makes : goal.returns-clause-makes
-returns-clause-makes g c =
-    let m = g.O.OpClass.meaning in
-    let t = c.args.table.now in
-    let d = c.args.descent.now in
-    let t1 = c.put_leaf.new.table in
-    let t2 = c.release_latches.new.table in
-    let (fits, puts, quiet, makes) = subst (λ (o : PutOut). IsPutOut m t t1 d o) c.in-Put.is c.in_ok-put_leaf.ensures.ok in
-    makes_none t t1 t2 (freed_pages t1 t2 d c.args.seat c.release_latches.ensures.table) makes
+pub returns-in_err-put_leaf-clause-clock_first : goal.returns-in_err-put_leaf-clause-clock_first
+returns-in_err-put_leaf-clause-clock_first g c = λ ticks at_end. absurd (put_ticks g.O.OpClass.meaning c.args.table.now c.args.descent.now c.requires.rule ticks)
+
+pub returns-clause-clock_first : goal.returns-clause-clock_first
+returns-clause-clock_first g c = λ ticks at_end. absurd (put_ticks g.O.OpClass.meaning c.args.table.now c.args.descent.now c.requires.rule ticks)

@@ -7,7 +7,7 @@ use Rattle.spg_tree.specs.declared.stand.StepRefused.TheVariants.{IndexFull}
 use Rattle.spg_descend.specs.Follows.{tuple_place}
 use Rattle.spg_move.specs.Splitting.{lower_want, fits_beside}
 use Rattle.spg_move.proofs.SplitStanding.{upper_some, upper_small}
-use Rattle.spg_move.proofs.SplitJoin.{within_page, inner_page, small_page, may_part, child_node, want_is, beside_is, parts_of}
+use Rattle.spg_move.proofs.SplitJoin.{table_of, exact_of, not_full_of, within_page, inner_page, small_page, may_part, child_node, want_is, beside_is, parts_of}
 use Rattle.spg_move.proofs.Held.{split_held}
 use Rattle.spg_move.proofs.split.split_tuple.Goals as goal
 
@@ -45,3 +45,12 @@ returns-in_err-part_tuple-clause-full g c =
 
 pub returns-clause-held : goal.returns-clause-held
 returns-clause-held g c = split_held c.args.table.now c.part_tuple.new.table c.args.descent.now c.tuple_place-at.result c.args.child c.args.seat c.in_ok-upper.upper c.in_ok-lower.lower c.requires.spot (c.tuple_place-at.ensures ∙ ap tuple_place c.stand.ensures) c.in_ok-part_tuple.ensures.sound.latched c.in_ok-part_tuple.ensures.ok
+
+pub returns-clause-table : goal.returns-clause-table
+returns-clause-table g c = table_of g.O.OpClass.meaning c.args.table.now c.requires.shape g.O.OpClass.splits g.O.OpClass.codes c.args.descent.now c.args.child c.args.upper_prefix.now c.args.lower_prefix.now c.args.upper_labels.now c.requires.spot c.requires.main c.requires.of_key c.requires.answer c.tuple_place-at.result c.page.result.now (c.tuple_place-at.ensures ∙ ap tuple_place c.stand.ensures) c.page.ensures c.in_ok-upper.upper c.in_ok-lower.lower c.in_ok-upper.ensures c.in_ok-lower.ensures c.part_tuple.new.table c.args.seat c.in_ok-part_tuple.ensures.ok
+
+pub returns-clause-exact : goal.returns-clause-exact
+returns-clause-exact g c = exact_of g.O.OpClass.meaning c.args.table.now c.requires.shape g.O.OpClass.splits g.O.OpClass.codes c.args.descent.now c.args.child c.args.upper_prefix.now c.args.lower_prefix.now c.args.upper_labels.now c.requires.spot c.requires.main c.requires.of_key c.requires.answer c.tuple_place-at.result c.page.result.now (c.tuple_place-at.ensures ∙ ap tuple_place c.stand.ensures) c.page.ensures c.in_ok-upper.upper c.in_ok-lower.lower c.in_ok-upper.ensures c.in_ok-lower.ensures c.part_tuple.new.table c.args.seat c.in_ok-part_tuple.ensures.ok
+
+pub returns-clause-not_full : goal.returns-clause-not_full
+returns-clause-not_full g c = not_full_of g.O.OpClass.meaning c.args.table.now c.requires.shape g.O.OpClass.splits g.O.OpClass.codes c.args.descent.now c.args.child c.args.upper_prefix.now c.args.lower_prefix.now c.args.upper_labels.now c.requires.spot c.requires.main c.requires.of_key c.requires.answer c.tuple_place-at.result c.page.result.now (c.tuple_place-at.ensures ∙ ap tuple_place c.stand.ensures) c.page.ensures c.in_ok-upper.upper c.in_ok-lower.lower c.in_ok-upper.ensures c.in_ok-lower.ensures c.part_tuple.new.table c.args.seat c.in_ok-part_tuple.ensures.ok

@@ -1,32 +1,36 @@
 use Rattle.std.proofs.Common.{[], ◌∷◌, ◌++◌, is_none, option_copied, length, ap, ◌∙◌, subst, arith}
 use Rattle.spg_forest.specs.Sheets.{Sheet}
 use Rattle.spg_chain.specs.Chains.{chain_members, leaves_of}
-use Rattle.spg_tree.specs.Table.{tuples_at}
+use Rattle.spg_forest.specs.Exact.{IsExact}
+use Rattle.spg_tree.specs.Table.{sheets_of, tuples_at}
 use Rattle.spg_descend.specs.Carried.{carried}
 use Rattle.spg_descend.specs.Below.{IsTicked}
-use Rattle.spg_descend.specs.Held.{TouchesFree}
+use Rattle.spg_descend.specs.Held.{TouchesFree, IsFreeHome}
 use Rattle.spg_forest.specs.Divisions.{rests_of}
 use Rattle.spg_split.specs.Dividing.{AreValues, rows_of}
 use Rattle.spg_split.specs.Parting.{IsParted}
 use Rattle.spg_split.specs.Below.{MakesBelow}
 use Rattle.spg_split.specs.Causes.{IsCauseOf, RisesOnly, chain_bytes, chain_in_one}
 use Rattle.spg_split.specs.Ways.{IsChainWay}
+use Rattle.spg_split.specs.Tables.{DividesBelow}
+use Rattle.spg_split.proofs.Tables.{chain_table}
 use Rattle.spg_split.proofs.Standing.{rest_fits, tuple_fits, divided_as, keys_as, parts_as, nulls_recon}
 use Rattle.spg_split.proofs.ChainStanding.{several, keys, may_divide, ready, some_leaves, others_fit, inner_fits}
 use Rattle.spg_split.proofs.ChainJoining.{chain_done, chain_cause}
+use Rattle.spg_split.proofs.ChainNamed.{chain_exact}
 use Rattle.spg_split.proofs.Causes.{chain_rise}
 use Rattle.spg_split.proofs.Fulls.{chain_full}
-use Rattle.spg_split.proofs.Held.{on_ok_then, chain_held}
+use Rattle.spg_split.proofs.Held.{on_ok_then, chain_held, chain_home}
 use Rattle.spg_split.proofs.Outcome.{if_ok_then}
 use Rattle.spg_split.proofs.below.divide_chain.Goals as goal
 
 pub divide-requires-clause-several : goal.divide-requires-clause-several
-divide-requires-clause-several g c = λ κs h.
+divide-requires-clause-several g c =
     let V = (subst (λ (s : Sheet). AreValues c.in_ok-values.values (leaves_of (chain_members s.tuples c.args.head.offset) ++ carried c.args.descent.now ∷ [])) c.page.ensures c.in_ok-values.ensures) in
     let n = ap length (c.as_slice.ensures ∙ V.rests) in let a = several g.O.OpClass.meaning g.O.OpClass.codes c.args.table.now c.args.descent.now c.args.head c.args.parent c.args.node c.requires.shape c.requires.stands c.requires.above c.requires.spot c.requires.of_key c.requires.long in omega arith
 
 pub divide-requires-clause-keys : goal.divide-requires-clause-keys
-divide-requires-clause-keys g c = λ κs h.
+divide-requires-clause-keys g c =
     let V = (subst (λ (s : Sheet). AreValues c.in_ok-values.values (leaves_of (chain_members s.tuples c.args.head.offset) ++ carried c.args.descent.now ∷ [])) c.page.ensures c.in_ok-values.ensures) in
     keys_as g.O.OpClass.meaning (option_copied c.recon.result) c.args.descent.now.recon c.as_slice.result.now (rests_of (leaves_of (chain_members (tuples_at c.args.table.now c.args.head.block) c.args.head.offset) ++ carried c.args.descent.now ∷ [])) c.recon.ensures.value (c.as_slice.ensures ∙ V.rests) (keys g.O.OpClass.meaning g.O.OpClass.codes c.args.table.now c.args.descent.now c.args.head c.args.parent c.args.node c.requires.shape c.requires.stands c.requires.above c.requires.spot c.requires.of_key c.requires.long)
 
@@ -116,3 +120,26 @@ returns-clause-full g c = λ h.
     let D = divided_as g.O.OpClass.meaning (option_copied c.recon.result) c.args.descent.now.recon c.as_slice.result.now (rests_of (leaves_of (chain_members (tuples_at c.args.table.now c.args.head.block) c.args.head.offset) ++ carried c.args.descent.now ∷ [])) c.in_ok-division.division c.recon.ensures.value (c.as_slice.ensures ∙ V.rests) c.in_ok-division.ensures in
     let P = parts_as c.as_slice-2.result.now (rows_of (leaves_of (chain_members (tuples_at c.args.table.now c.args.head.block) c.args.head.offset) ++ carried c.args.descent.now ∷ [])) c.in_ok-division.division c.in_ok-parts.parts (c.as_slice-2.ensures ∙ V.rows) c.in_ok-parts.ensures in
     chain_full g.O.OpClass.meaning c.args.table.now c.args.descent.now c.args.head c.args.parent c.args.node c.args.seat c.requires.stands c.requires.above c.in_ok-division.division D c.in_ok-parts.parts P (c.part_chain.ensures.full h)
+
+pub returns-clause-home : goal.returns-clause-home
+returns-clause-home g c = if_ok_then c.part_chain.result (λ done. IsParted c.args.table.now c.part_chain.new.table c.args.head c.args.parent c.args.node c.args.seat c.in_ok-parts.parts done)
+    (λ done. IsFreeHome c.args.table.now c.part_chain.new.table c.args.descent.now.parent done.at.block c.args.seat)
+    (λ done W. chain_home c.args.table.now c.part_chain.new.table c.args.descent.now c.args.head c.args.parent c.args.node c.args.seat c.in_ok-parts.parts done c.requires.above W) c.part_chain.ensures.ok
+
+pub returns-clause-table : goal.returns-clause-table
+returns-clause-table g c =
+    let V = (subst (λ (s : Sheet). AreValues c.in_ok-values.values (leaves_of (chain_members s.tuples c.args.head.offset) ++ carried c.args.descent.now ∷ [])) c.page.ensures c.in_ok-values.ensures) in
+    let D = divided_as g.O.OpClass.meaning (option_copied c.recon.result) c.args.descent.now.recon c.as_slice.result.now (rests_of (leaves_of (chain_members (tuples_at c.args.table.now c.args.head.block) c.args.head.offset) ++ carried c.args.descent.now ∷ [])) c.in_ok-division.division c.recon.ensures.value (c.as_slice.ensures ∙ V.rests) c.in_ok-division.ensures in
+    let P = parts_as c.as_slice-2.result.now (rows_of (leaves_of (chain_members (tuples_at c.args.table.now c.args.head.block) c.args.head.offset) ++ carried c.args.descent.now ∷ [])) c.in_ok-division.division c.in_ok-parts.parts (c.as_slice-2.ensures ∙ V.rows) c.in_ok-parts.ensures in
+    if_ok_then c.part_chain.result (λ done. IsParted c.args.table.now c.part_chain.new.table c.args.head c.args.parent c.args.node c.args.seat c.in_ok-parts.parts done)
+    (λ done. DividesBelow g.O.OpClass.meaning c.args.table.now c.part_chain.new.table c.args.descent.now c.args.descent.now.stand c.args.descent.now.parent c.args.seat done)
+    (λ done W. chain_table g.O.OpClass.meaning c.args.table.now c.part_chain.new.table c.args.descent.now c.args.head c.args.parent c.args.node c.args.seat c.requires.stands c.requires.above c.in_ok-division.division D c.in_ok-parts.parts P done W) c.part_chain.ensures.ok
+
+pub returns-clause-exact : goal.returns-clause-exact
+returns-clause-exact g c =
+    let V = (subst (λ (s : Sheet). AreValues c.in_ok-values.values (leaves_of (chain_members s.tuples c.args.head.offset) ++ carried c.args.descent.now ∷ [])) c.page.ensures c.in_ok-values.ensures) in
+    let D = divided_as g.O.OpClass.meaning (option_copied c.recon.result) c.args.descent.now.recon c.as_slice.result.now (rests_of (leaves_of (chain_members (tuples_at c.args.table.now c.args.head.block) c.args.head.offset) ++ carried c.args.descent.now ∷ [])) c.in_ok-division.division c.recon.ensures.value (c.as_slice.ensures ∙ V.rests) c.in_ok-division.ensures in
+    let N = nulls_recon c.args.descent.now.start c.args.descent.now.recon c.recon.ensures.known in
+    let P = parts_as c.as_slice-2.result.now (rows_of (leaves_of (chain_members (tuples_at c.args.table.now c.args.head.block) c.args.head.offset) ++ carried c.args.descent.now ∷ [])) c.in_ok-division.division c.in_ok-parts.parts (c.as_slice-2.ensures ∙ V.rows) c.in_ok-parts.ensures in
+    on_ok_then c.part_chain.result (λ done. IsParted c.args.table.now c.part_chain.new.table c.args.head c.args.parent c.args.node c.args.seat c.in_ok-parts.parts done) (IsExact (sheets_of c.args.table.now) (sheets_of c.part_chain.new.table) c.part_chain.new.table.touched)
+    (λ done W. chain_exact g.O.OpClass.meaning g.O.OpClass.codes c.args.table.now c.args.descent.now c.args.head c.args.parent c.args.node c.requires.shape c.requires.stands c.requires.above c.requires.spot c.requires.of_key c.requires.long c.requires.tick c.in_ok-division.division D N c.in_ok-parts.parts P c.args.seat c.part_chain.new.table done W) c.part_chain.ensures.ok

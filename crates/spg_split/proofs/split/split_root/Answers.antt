@@ -1,6 +1,6 @@
 use Rattle.std.proofs.Common.{[], ◌∷◌, ◌++◌, is_none, option_copied, length, sym, ap, ◌∙◌, subst, arith}
 use Rattle.spg_forest.specs.Links.{leaves_on}
-use Rattle.spg_tree.specs.Table.{tuples_at}
+use Rattle.spg_tree.specs.Table.{sheets_of, tuples_at}
 use Rattle.spg_descend.specs.Carried.{carried}
 use Rattle.spg_descend.specs.Held.{TouchesFree}
 use Rattle.spg_forest.specs.Divisions.{rests_of}
@@ -10,25 +10,30 @@ use Rattle.spg_split.proofs.Joining.{if_ok_both, split_law}
 use Rattle.spg_split.specs.Parts.{IsWay, PutsLists, going}
 use Rattle.spg_split.specs.Causes.{IsCauseOf, RisesOnly, root_bytes, root_in_one}
 use Rattle.spg_split.specs.Ways.{IsSplitWay}
+use Rattle.spg_split.specs.Tables.{RootTable}
+use Rattle.spg_split.specs.Fulls.{IsRootFull}
+use Rattle.spg_split.proofs.Tables.{root_table, root_not_full}
+use Rattle.spg_split.proofs.RootExact.{several_leaves, going_some, root_exact}
+use Rattle.spg_forest.specs.Exact.{IsExact}
 use Rattle.spg_split.proofs.Causes.{root_cause, root_rise}
 use Rattle.spg_split.proofs.Fulls.{root_full}
-use Rattle.spg_split.proofs.Held.{on_ok_then, root_held}
+use Rattle.spg_split.proofs.Held.{on_ok_then, on_ok_both, root_held}
 use Rattle.spg_split.proofs.Outcome.{if_ok_then}
-use Rattle.spg_split.proofs.Standing.{live_there, several, keys, rest_fits, tuple_fits, ready, leaf_count, count_vs, others_fit, values_are, divided_as, keys_as, parts_as, nulls_recon}
+use Rattle.spg_split.proofs.Standing.{at_root, live_there, several, keys, rest_fits, tuple_fits, ready, leaf_count, count_vs, others_fit, values_are, divided_as, keys_as, parts_as, nulls_recon}
 use Rattle.spg_split.proofs.split.split_root.Goals as goal
 
-pub values_at_root-requires-after_bounds : goal.values_at_root-requires-after_bounds
-values_at_root-requires-after_bounds g c = λ κs h.
+pub values_at_root-requires : goal.values_at_root-requires
+values_at_root-requires g c =
     let a = live_there g.O.OpClass.meaning g.O.OpClass.codes c.args.table.now c.args.descent.now c.args.root c.requires.shape c.requires.stands c.requires.spot c.requires.of_key c.requires.no_room in
     subst (λ (s : Sheet). AreAllLive s.tuples) (sym c.page.ensures) a.0
 
 pub divide-requires-clause-several : goal.divide-requires-clause-several
-divide-requires-clause-several g c = λ κs h.
+divide-requires-clause-several g c =
     let V = values_are c.args.table.now c.args.root c.args.descent.now c.page.result.now c.in_ok-values.values c.page.ensures c.in_ok-values.ensures in
     let n = ap length (c.as_slice.ensures ∙ V.rests) in let a = several g.O.OpClass.meaning g.O.OpClass.codes c.args.table.now c.args.descent.now c.args.root c.requires.shape c.requires.stands c.requires.spot c.requires.of_key c.requires.no_room in omega arith
 
 pub divide-requires-clause-keys : goal.divide-requires-clause-keys
-divide-requires-clause-keys g c = λ κs h.
+divide-requires-clause-keys g c =
     let V = values_are c.args.table.now c.args.root c.args.descent.now c.page.result.now c.in_ok-values.values c.page.ensures c.in_ok-values.ensures in
     keys_as g.O.OpClass.meaning (option_copied c.recon.result) c.args.descent.now.recon c.as_slice.result.now (rests_of (leaves_on (tuples_at c.args.table.now c.args.root) ++ carried c.args.descent.now ∷ [])) c.recon.ensures.value (c.as_slice.ensures ∙ V.rests) (keys g.O.OpClass.meaning g.O.OpClass.codes c.args.table.now c.args.descent.now c.args.root c.requires.shape c.requires.stands c.requires.spot c.requires.of_key c.requires.no_room)
 
@@ -108,3 +113,32 @@ returns-clause-full g c = λ h.
     let D = divided_as g.O.OpClass.meaning (option_copied c.recon.result) c.args.descent.now.recon c.as_slice.result.now (rests_of (leaves_on (tuples_at c.args.table.now c.args.root) ++ carried c.args.descent.now ∷ [])) c.in_ok-division.division c.recon.ensures.value (c.as_slice.ensures ∙ V.rests) c.in_ok-division.ensures in
     let P = parts_as c.as_slice-2.result.now (rows_of (leaves_on (tuples_at c.args.table.now c.args.root) ++ carried c.args.descent.now ∷ [])) c.in_ok-division.division c.in_ok-parts.parts (c.as_slice-2.ensures ∙ V.rows) c.in_ok-parts.ensures in
     root_full g.O.OpClass.meaning c.args.table.now c.args.descent.now c.args.root c.args.seat c.requires.stands c.in_ok-division.division D c.in_ok-parts.parts P (c.put_division.ensures.full h)
+
+pub returns-clause-table : goal.returns-clause-table
+returns-clause-table g c =
+    let V = values_are c.args.table.now c.args.root c.args.descent.now c.page.result.now c.in_ok-values.values c.page.ensures c.in_ok-values.ensures in
+    let D = divided_as g.O.OpClass.meaning (option_copied c.recon.result) c.args.descent.now.recon c.as_slice.result.now (rests_of (leaves_on (tuples_at c.args.table.now c.args.root) ++ carried c.args.descent.now ∷ [])) c.in_ok-division.division c.recon.ensures.value (c.as_slice.ensures ∙ V.rests) c.in_ok-division.ensures in
+    let P = parts_as c.as_slice-2.result.now (rows_of (leaves_on (tuples_at c.args.table.now c.args.root) ++ carried c.args.descent.now ∷ [])) c.in_ok-division.division c.in_ok-parts.parts (c.as_slice-2.ensures ∙ V.rows) c.in_ok-parts.ensures in
+    on_ok_both c.put_division.result (λ way. IsWay c.in_ok-parts.parts way) (λ way. PutsLists c.args.table.now c.put_division.new.table c.args.root c.args.seat c.in_ok-parts.parts (going c.in_ok-parts.parts way)) (RootTable g.O.OpClass.meaning c.args.table.now c.put_division.new.table c.args.descent.now c.args.seat)
+    (λ way a b. root_table g.O.OpClass.meaning c.args.table.now c.put_division.new.table c.args.descent.now c.args.root c.args.seat c.requires.stands c.in_ok-division.division D c.in_ok-parts.parts P way a b) c.put_division.ensures.way c.put_division.ensures.ok
+
+pub returns-clause-exact : goal.returns-clause-exact
+returns-clause-exact g c =
+    let V = values_are c.args.table.now c.args.root c.args.descent.now c.page.result.now c.in_ok-values.values c.page.ensures c.in_ok-values.ensures in
+    let D = divided_as g.O.OpClass.meaning (option_copied c.recon.result) c.args.descent.now.recon c.as_slice.result.now (rests_of (leaves_on (tuples_at c.args.table.now c.args.root) ++ carried c.args.descent.now ∷ [])) c.in_ok-division.division c.recon.ensures.value (c.as_slice.ensures ∙ V.rests) c.in_ok-division.ensures in
+    let N = nulls_recon c.args.descent.now.start c.args.descent.now.recon c.recon.ensures.known in
+    let P = parts_as c.as_slice-2.result.now (rows_of (leaves_on (tuples_at c.args.table.now c.args.root) ++ carried c.args.descent.now ∷ [])) c.in_ok-division.division c.in_ok-parts.parts (c.as_slice-2.ensures ∙ V.rows) c.in_ok-parts.ensures in
+    let R = ready g.O.OpClass.meaning g.O.OpClass.codes c.args.table.now c.args.descent.now c.args.root c.requires.shape c.requires.stands c.requires.spot c.requires.of_key c.requires.no_room c.in_ok-division.division D N c.in_ok-parts.parts P in
+    let k = leaf_count g.O.OpClass.meaning g.O.OpClass.codes c.args.table.now c.args.descent.now c.args.root c.requires.shape c.requires.stands c.requires.spot c.requires.of_key c.requires.no_room c.in_ok-division.division D N c.in_ok-parts.parts P in
+    let two = several_leaves (leaves_on (tuples_at c.args.table.now c.args.root) ++ carried c.args.descent.now ∷ []) (several g.O.OpClass.meaning g.O.OpClass.codes c.args.table.now c.args.descent.now c.args.root c.requires.shape c.requires.stands c.requires.spot c.requires.of_key c.requires.no_room) in
+    on_ok_both c.put_division.result (λ way. IsWay c.in_ok-parts.parts way) (λ way. PutsLists c.args.table.now c.put_division.new.table c.args.root c.args.seat c.in_ok-parts.parts (going c.in_ok-parts.parts way)) (IsExact (sheets_of c.args.table.now) (sheets_of c.put_division.new.table) c.put_division.new.table.touched)
+    (λ way a b. let n = going_some c.in_ok-parts.parts way (omega arith) in
+    root_exact c.args.table.now c.put_division.new.table c.args.root c.args.seat c.in_ok-parts.parts (going c.in_ok-parts.parts way) c.requires.shape.pages.count (at_root g.O.OpClass.meaning g.O.OpClass.codes c.args.table.now c.args.descent.now c.args.root c.requires.shape c.requires.stands c.requires.spot c.requires.of_key c.requires.no_room).1 (live_there g.O.OpClass.meaning g.O.OpClass.codes c.args.table.now c.args.descent.now c.args.root c.requires.shape c.requires.stands c.requires.spot c.requires.of_key c.requires.no_room).0 n.0 (let e = R.each in let h = n.1 in omega arith) R b) c.put_division.ensures.way c.put_division.ensures.ok
+
+pub returns-clause-not_full : goal.returns-clause-not_full
+returns-clause-not_full g c =
+    let V = values_are c.args.table.now c.args.root c.args.descent.now c.page.result.now c.in_ok-values.values c.page.ensures c.in_ok-values.ensures in
+    let D = divided_as g.O.OpClass.meaning (option_copied c.recon.result) c.args.descent.now.recon c.as_slice.result.now (rests_of (leaves_on (tuples_at c.args.table.now c.args.root) ++ carried c.args.descent.now ∷ [])) c.in_ok-division.division c.recon.ensures.value (c.as_slice.ensures ∙ V.rests) c.in_ok-division.ensures in
+    let P = parts_as c.as_slice-2.result.now (rows_of (leaves_on (tuples_at c.args.table.now c.args.root) ++ carried c.args.descent.now ∷ [])) c.in_ok-division.division c.in_ok-parts.parts (c.as_slice-2.ensures ∙ V.rows) c.in_ok-parts.ensures in
+    on_ok_both c.put_division.result (λ way. IsWay c.in_ok-parts.parts way) (λ way. PutsLists c.args.table.now c.put_division.new.table c.args.root c.args.seat c.in_ok-parts.parts (going c.in_ok-parts.parts way)) (IsRootFull g.O.OpClass.meaning c.args.table.now c.args.descent.now c.args.seat → ⊥)
+    (λ way a b. root_not_full g.O.OpClass.meaning c.args.table.now c.put_division.new.table c.args.descent.now c.args.seat (root_table g.O.OpClass.meaning c.args.table.now c.put_division.new.table c.args.descent.now c.args.root c.args.seat c.requires.stands c.in_ok-division.division D c.in_ok-parts.parts P way a b)) c.put_division.ensures.way c.put_division.ensures.ok

@@ -1,11 +1,11 @@
-use Rattle.std.proofs.Common.{ℕ, ◌≡◌, ◌^◌, rules, subst, arith}
+use Rattle.std.proofs.Common.{ℕ, ◌≡◌, ◌^◌, rules, refl, subst, arith, inl}
 use Rattle.spg_forest.proofs.Ranks.{each_is_ranked}
-use Rattle.spg_core.specs.declared.answer.InsertOut.{InsertOut}
-use Rattle.spg_core.specs.declared.answer.InsertOut.TheVariants.{Put}
-use Rattle.spg_core.specs.Latches.{LatchesAfter}
-use Rattle.spg_core.specs.Ends.{SeatEnds}
 use Rattle.spg_tree.specs.Table.{Table, IsSound}
-use Rattle.spg_core.proofs.Going.{still_there, goes_further, goes_inserting, puts, ends_from, few_sections, one_comes, fewer_come}
+use Rattle.spg_core.specs.declared.answer.InsertOut.{InsertOut}
+use Rattle.spg_core.specs.declared.answer.InsertOut.TheVariants.{Put, Restarted}
+use Rattle.spg_core.specs.Sections.{LatchesAfter}
+use Rattle.spg_core.specs.Ends.{SeatEnds}
+use Rattle.spg_core.proofs.Going.{still_there, goes_further, goes_inserting, puts, restarted_by, others_same, others_then, changes_then, ends_from, few_sections, one_comes, fewer_come}
 use Rattle.spg_core.proofs.state.State.insert_through.Goals as goal
 
 pub returns-in-Put-clause-ok : goal.returns-in-Put-clause-ok
@@ -14,15 +14,43 @@ returns-in-Put-clause-ok g c = (
   subst (λ (o : InsertOut). LatchesAfter c.insert_step.new.self c.args.seat o) c.in-Put.is c.in_ok-insert_step.ensures.latches,
 )
 
+pub returns-in-Put-clause-others : goal.returns-in-Put-clause-others
+returns-in-Put-clause-others g c = others_then c.args.self.now.table c.loop-turn.self.table c.insert_step.new.self.table c.args.seat c.loop-turn.invariant.others c.insert_step.ensures.others
+
+pub returns-in-Put-clause-within : goal.returns-in-Put-clause-within
+returns-in-Put-clause-within g c = changes_then c.args.self.now.table c.loop-turn.self.table c.insert_step.new.self.table c.args.seat c.loop-turn.invariant.others c.loop-turn.invariant.within c.insert_step.ensures.within
+
+pub returns-in-Restarted-clause-ok : goal.returns-in-Restarted-clause-ok
+returns-in-Restarted-clause-ok g c =
+    let no_put : c.in_ok-insert_step.field-0 ≡ Put → ⊥ = search rules in
+    let (latched, other) = restarted_by c.loop-turn.self c.insert_step.new.self c.args.seat c.in_ok-insert_step.field-0 c.in-Restarted.block c.in-Restarted.by c.in_ok-insert_step.ensures.ok c.in-Restarted.is c.insert_step.ensures.others in (
+      goes_further c.args.self.now c.loop-turn.self c.insert_step.new.self c.args.seat c.in_ok-insert_step.field-0 c.loop-turn.invariant.goes c.in_ok-insert_step.ensures.ok no_put,
+      subst (λ (o : InsertOut). LatchesAfter c.insert_step.new.self c.args.seat o) c.in-Restarted.is c.in_ok-insert_step.ensures.latches,
+      latched,
+      other,
+    )
+
+pub returns-in-Restarted-clause-others : goal.returns-in-Restarted-clause-others
+returns-in-Restarted-clause-others g c = others_then c.args.self.now.table c.loop-turn.self.table c.insert_step.new.self.table c.args.seat c.loop-turn.invariant.others c.insert_step.ensures.others
+
+pub returns-in-Restarted-clause-within : goal.returns-in-Restarted-clause-within
+returns-in-Restarted-clause-within g c = changes_then c.args.self.now.table c.loop-turn.self.table c.insert_step.new.self.table c.args.seat c.loop-turn.invariant.others c.loop-turn.invariant.within c.insert_step.ensures.within
+
+pub returns-in_err-insert_step-clause-others : goal.returns-in_err-insert_step-clause-others
+returns-in_err-insert_step-clause-others g c = others_then c.args.self.now.table c.loop-turn.self.table c.insert_step.new.self.table c.args.seat c.loop-turn.invariant.others c.insert_step.ensures.others
+
 pub loop-turn-preserved : goal.loop-turn-preserved
 loop-turn-preserved g c =
     let no_put : c.in_ok-insert_step.field-0 ≡ Put → ⊥ = search rules in
+    let no_restart : (block by : ℕ) → c.in_ok-insert_step.field-0 ≡ Restarted block by → ⊥ = λ block by is. search rules in
     record {
       goes = goes_further c.args.self.now c.loop-turn.self c.insert_step.new.self c.args.seat c.in_ok-insert_step.field-0 c.loop-turn.invariant.goes c.in_ok-insert_step.ensures.ok no_put;
+      others = others_then c.args.self.now.table c.loop-turn.self.table c.insert_step.new.self.table c.args.seat c.loop-turn.invariant.others c.insert_step.ensures.others;
+      within = changes_then c.args.self.now.table c.loop-turn.self.table c.insert_step.new.self.table c.args.seat c.loop-turn.invariant.others c.loop-turn.invariant.within c.insert_step.ensures.within;
       inserting = goes_inserting c.loop-turn.self c.insert_step.new.self c.args.seat c.in_ok-insert_step.field-0 c.in_ok-insert_step.ensures.ok no_put;
       ends =
           let (k, few, now) = c.loop-turn.invariant.ends in
-          fewer_come g.O.OpClass.meaning c.loop-turn.self c.insert_step.new.self c.args.seat k c.loop-turn._turn (2 ^ 64) c.in_ok-insert_step.field-0 few now c.in_ok-insert_step.ensures.ends no_put c.in_ok-insert_step.ensures.alone;
+          fewer_come g.O.OpClass.meaning c.loop-turn.self c.insert_step.new.self c.args.seat k c.loop-turn._turn (2 ^ 64) c.in_ok-insert_step.field-0 few now c.in_ok-insert_step.ensures.ends no_put no_restart;
     }
 
 pub loop-turn-init : goal.loop-turn-init
@@ -32,6 +60,8 @@ loop-turn-init g c =
     let sound : IsSound t = subst (λ (z : Table). IsSound z) c.pages.ensures.value c.page_count-count.ensures.sound in
     record {
       goes = still_there c.args.self.now c.args.seat;
+      others = others_same t c.args.seat;
+      within = λ b. inl refl;
       inserting = c.requires.inserting;
       ends = (k, few_sections t k sound most, now);
     }

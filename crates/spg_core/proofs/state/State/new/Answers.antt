@@ -1,28 +1,10 @@
-use Rattle.std.proofs.Common.{refl, arith}
-use Rattle.spg_core.proofs.Slots.{all_free, all_stages_free}
-use Rattle.spg_core.proofs.Steps.{new_pages}
-use Rattle.spg_core.proofs.Holding.{none_latched}
+use Rattle.std.proofs.Common.{refl}
+use Rattle.spg_core.proofs.Slots.{all_stages_free}
+use Rattle.spg_core.proofs.Steps.{new_state}
 use Rattle.spg_core.proofs.state.State.new.Goals as goal
 
 pub invariant_of-result : goal.invariant_of-result
-invariant_of-result g c =
-    let slots = c.in_ok-free_slots.ensures in
-    let events = c.new-3.ensures.events in
-    let table = c.in_ok-new.ensures in
-    let page = new_pages {O = g.row.O.Denot} g.O.OpClass.meaning c.args.limit in
-    record {
-      right = rw events (record { legal = tt; answers = tt });
-      holds = rw (events, table) page.holds;
-      heavy = rw (events, table) page.heavy;
-      seats = rw slots refl;
-      slots = rw (events, slots) (λ s. rw (all_free 64 s) refl);
-      alone = rw slots (λ s n. all_free 64 s);
-      latches = rw (slots, table) (λ b. none_latched 3 b);
-      states = rw (events, c.new-2.ensures) (λ r. refl);
-      keys = rw (events, c.new-2.ensures) (λ r. refl);
-      room = rw slots (omega arith);
-      limit = rw table refl;
-    }
+invariant_of-result g c = new_state g.O.OpClass.meaning _ c.args.limit refl c.new-3.ensures.events c.in_ok-free_slots.ensures c.in_ok-new.ensures c.new-2.ensures
 
 pub returns : goal.returns
 returns g c = record {

@@ -1,0 +1,152 @@
+-- What calls of any seats keep, one after another.
+use Rattle.std.proofs.Common.{◌≡◌, ◌++◌, inl, ℕ, Bool, true, false, cond, nat_eq, List, [], ◌∷◌, Option, Some, length, reverse, refl, sym, ap, ◌∙◌, subst}
+use Rattle.std.proofs.lemmas.List.{append_assoc, append-nil, length-reverse}
+use Rattle.spg_base.specs.Row.{RowAt}
+use Rattle.spg_forest.specs.Pages.{IsFresh}
+use Rattle.spg_forest.specs.Sheets.{Sheets}
+use Rattle.spg_forest.specs.Shape.{spots}
+use Rattle.spg_opclass.specs.Meaning.{Meaning}
+use Rattle.spg_opclass.specs.Laws.{KeptLaw, CodeLaw}
+use Rattle.spg_rows.specs.declared.event.Event.{Event}
+use Rattle.spg_rows.specs.declared.event.Event.TheVariants as event
+use Rattle.spg_rows.specs.History.{own, seat_of, inserting}
+use Rattle.spg_rows.specs.Rows.{is_claimed}
+use Rattle.spg_tree.specs.Table as pages
+use Rattle.spg_tree.specs.Table.{sheets_of}
+use Rattle.spg_tree.specs.Descents.{Descending}
+use Rattle.spg_descend.specs.Enters.{opened_for}
+use Rattle.spg_scan.specs.Scanning.{Scanning, opened}
+use Rattle.spg_scan.specs.Reading.{IsReadOut}
+use Rattle.spg_scan.specs.declared.walk.ReadOut.{ReadOut}
+use Rattle.spg_scan.specs.declared.walk.ReadOut.TheVariants.{Read, Latched}
+use Rattle.spg_seats.specs.Latching.{AreHeld, HoldsNone, rest_of}
+use Rattle.spg_seats.specs.Slots.{Stage, free, descending, reading, stage_in, stage_holds, StageFits, Fields, IsKept}
+use Rattle.spg_seats.proofs.Calls as calls
+use Rattle.spg_seats.proofs.Slots.{more_room}
+use Rattle.spg_core.specs.declared.answer.InsertOut.{InsertOut}
+use Rattle.spg_core.specs.declared.answer.InsertOut.TheVariants as outs
+use Rattle.spg_core.specs.Seen.{untouched}
+use Rattle.spg_core.specs.Telling.{StepDone}
+use Rattle.spg_core.specs.Runs.{Call, refused, opens_insert, steps, kills, opens_scan, reads, closes, drops, leaves, put_by, events_of, Goes, StepsTo, Does, events_by, RunsKeep}
+use Rattle.spg_core.proofs.Keeping.{fresh_row, stage_held, stage_fits, step_keeps, put_keeps}
+use Rattle.spg_core.proofs.Opens.{opened_row, opened_stands, opened_holds}
+use Rattle.spg_core.proofs.Scans.{once_taken}
+use Rattle.spg_core.proofs.Steps.{held_on}
+
+-- ---- what a seat did
+
+module _ {O Key Recon Cond : Type 0} where
+  own_append : (seat : ℕ) (xs ys : List (Event O Key Recon Cond)) → own seat (xs ++ ys) ≡ own seat xs ++ own seat ys
+  own_append seat [] ys = refl
+  own_append seat (x ∷ xs) ys = elim (nat_eq (seat_of x) seat) as (λ b. cond b (x ∷ own seat (xs ++ ys)) (own seat (xs ++ ys)) ≡ cond b (x ∷ own seat xs) (own seat xs) ++ own seat ys) [
+    | true ↦ ap (λ l. x ∷ l) (own_append seat xs ys)
+    | false ↦ own_append seat xs ys
+  ]
+
+  -- one event of a seat
+  own_one : (seat by : ℕ) (e : Event O Key Recon Cond) → seat_of e ≡ by → own seat (e ∷ []) ≡ cond (nat_eq by seat) (e ∷ []) []
+  own_one seat by e is = ap (λ n. cond (nat_eq n seat) (e ∷ []) []) is
+
+  none_either : (b : Bool) → ◌≡◌ {A = List (Event O Key Recon Cond)} [] (cond b [] [])
+  none_either true = refl
+  none_either false = refl
+
+  own_put : (seat by : ℕ) (row : RowAt) (out : InsertOut) → own seat (put_by {O = O} {Key = Key} {Recon = Recon} {Cond = Cond} by row out) ≡ cond (nat_eq by seat) (put_by by row out) []
+  own_put seat by row outs.Descended = none_either (nat_eq by seat)
+  own_put seat by row outs.Restructured = none_either (nat_eq by seat)
+  own_put seat by row (outs.Restarted block other) = none_either (nat_eq by seat)
+  own_put seat by row outs.Put = own_one seat by (event.Put by row) refl
+
+  own_events : (seat by : ℕ) (call : Call O Key Recon Cond) → own seat (events_of by call) ≡ cond (nat_eq by seat) (events_of by call) []
+  own_events seat by refused = none_either (nat_eq by seat)
+  own_events seat by (opens_insert row key) = own_one seat by (event.OpenInsert by row key) refl
+  own_events seat by (steps row out) = own_put seat by row out
+  own_events seat by (kills row) = own_one seat by (event.Kill by row) refl
+  own_events seat by (opens_scan query) = own_one seat by (event.OpenScan by query) refl
+  own_events seat by (reads item out) = none_either (nat_eq by seat)
+  own_events seat by (closes closed) = own_one seat by (event.CloseScan by closed.rows) refl
+  own_events seat by (drops row why) = own_one seat by (event.Drop by row why) refl
+  own_events seat by leaves = own_one seat by (event.Leave by) refl
+
+module _ {O Key Recon Cond : Type 0} (m : Meaning Key Recon Cond) where
+  no_more : (xs : List (Event O Key Recon Cond)) → xs ≡ xs ++ []
+  no_more xs = sym (append-nil xs)
+
+  same_put : (s s2 : Fields O Key Recon Cond) (seat : ℕ) (key : Option Key) (d d2 : Descending Recon) (row : RowAt) (out : InsertOut) → d.row ≡ row → StepsTo s s2 seat key d d2 out → s2.journal ≡ s.journal ++ put_by seat row out
+  same_put s s2 seat key d d2 row outs.Descended r (G, rows) = G.journal
+  same_put s s2 seat key d d2 row outs.Restructured r (G, rows) = G.journal
+  same_put s s2 seat key d d2 row (outs.Restarted block by) r (G, rows) = G.journal
+  same_put s s2 seat key d d2 row outs.Put r (G, rows) = G.journal ∙ ap (λ x. s.journal ++ event.Put seat x ∷ []) r
+
+  -- the journal is longer by the events of the call
+  longer : (s s2 : Fields O Key Recon Cond) (seat : ℕ) (call : Call O Key Recon Cond) → Does m s s2 seat call → s2.journal ≡ s.journal ++ events_of seat call
+  longer s s2 seat refused (spare, more, is) = ap (λ (f : Fields O Key Recon Cond). f.journal) is ∙ no_more s.journal
+  longer s s2 seat (opens_insert row key) (none, unclaimed, carries, G, table, rows) = G.journal
+  longer s s2 seat (steps row out) (key, d, d2, here, r, S, to) = same_put s s2 seat key d d2 row out r to
+  longer s s2 seat (kills row) (none, live, G, table, rows) = G.journal
+  longer s s2 seat (opens_scan query) (none, G, table, rows) = G.journal
+  longer s s2 seat (reads item out) (q, q2, here, R, G, table, rows) = G.journal
+  longer s s2 seat (closes closed) (q, here, empty, C, G, table, rows) = G.journal
+  longer s s2 seat (drops row why) (key, d, here, r, G, table, none, rows) = G.journal
+  longer s s2 seat leaves (q, here, G, table, rows) = G.journal
+
+  -- ---- one call keeps what is kept
+
+  -- a seat that has latched nothing, and has nothing latched then
+  none_then : (s s2 : Fields O Key Recon Cond) → IsKept m s → (seat : ℕ) (stage : Stage O Key Recon Cond) → stage_in s.stages seat ≡ stage → ((b : ℕ) → stage_holds stage b ≡ false) → s2.table ≡ untouched s.table → HoldsNone s2.table seat (rest_of s.table seat)
+  none_then s s2 kept seat stage here none table = subst (λ (t : pages.Table). HoldsNone t seat (rest_of s.table seat)) (sym table)
+      (held_on s.table (untouched s.table) seat (rest_of s.table seat) (λ b. false) (λ b. refl) (holds_as s.table seat (rest_of s.table seat) (stage_holds stage) (λ b. false) none (stage_held m s kept seat stage here)))
+    where
+      holds_as : (t : pages.Table) (at : ℕ) (rest : ℕ → Option ℕ) (g k : ℕ → Bool) → ((b : ℕ) → g b ≡ k b) → AreHeld t at rest g → AreHeld t at rest k
+      holds_as t at rest g k e h = record { latch = λ b. h.latch b ∙ ap (λ x. cond x (Some at) (rest b)) (e b); free = λ b q. h.free b (e b ∙ q); others = h.others }
+
+  steps_keep : CodeLaw m → (s s2 : Fields O Key Recon Cond) → IsKept m s → (seat : ℕ) (key : Option Key) (d d2 : Descending Recon) → stage_in s.stages seat ≡ descending key d → (out : InsertOut) → StepDone m s.table s2.table d d2 seat out → StepsTo s s2 seat key d d2 out → IsKept m s2
+  steps_keep codes s s2 kept seat key d d2 here outs.Descended S (G, rows) = step_keeps m codes s kept seat key d here s2 d2 G.stages G.here G.room G.origin (G.journal ∙ append-nil s.journal) rows outs.Descended (λ e. cc e) S
+  steps_keep codes s s2 kept seat key d d2 here outs.Restructured S (G, rows) = step_keeps m codes s kept seat key d here s2 d2 G.stages G.here G.room G.origin (G.journal ∙ append-nil s.journal) rows outs.Restructured (λ e. cc e) S
+  steps_keep codes s s2 kept seat key d d2 here (outs.Restarted block by) S (G, rows) = step_keeps m codes s kept seat key d here s2 d2 G.stages G.here G.room G.origin (G.journal ∙ append-nil s.journal) rows (outs.Restarted block by) (λ e. cc e) S
+  steps_keep codes s s2 kept seat key d d2 here outs.Put S (G, rows) = put_keeps m codes s kept seat key d here s2 d2 G.stages G.here G.room G.origin d.row refl G.journal rows S
+
+  reads_keep : KeptLaw m → CodeLaw m → (s s2 : Fields O Key Recon Cond) → IsKept m s → (seat item : ℕ) (q q2 : Scanning O Key Recon Cond) → stage_in s.stages seat ≡ reading q → (out : ReadOut) → IsReadOut m s.table s.rows q q2 item seat out → Goes s s2 seat (reading q2) [] → s2.table ≡ untouched s.table → s2.rows ≡ s.rows → IsKept m s2
+  reads_keep K L s s2 kept seat item q q2 here Read (alone, R) G table rows =
+      calls.kept_reads m s s2 seat (reading q2) kept G.stages G.here (none_then s s2 kept seat (reading q) here (λ b. refl) table) G.room (ap (λ (t : pages.Table). t.limit) table) G.origin K L q item R.item R.items R.found _ here (ap reading R.after) R.at (inl R.reads) (ap sheets_of table) (G.journal ∙ append-nil s.journal) rows
+  reads_keep K L s s2 kept seat item q q2 here (Latched block by) (place, latched, other, same) G table rows =
+      calls.kept_still m s s2 seat (reading q2) kept G.stages G.here (none_then s s2 kept seat (reading q) here (λ b. refl) table) G.room (ap (λ (t : pages.Table). t.limit) table) G.origin (ap sheets_of table) (G.journal ∙ append-nil s.journal) rows
+      (subst (λ (t : pages.Table). StageFits m t (reverse s.journal) seat (reading q2)) (sym table) (subst (λ (z : Scanning O Key Recon Cond). StageFits m s.table (reverse s.journal) seat (reading z)) (sym same) (stage_fits m s kept seat (reading q) here)))
+
+  one_keeps : KeptLaw m → CodeLaw m → (s s2 : Fields O Key Recon Cond) → IsKept m s → (seat : ℕ) (call : Call O Key Recon Cond) → Does m s s2 seat call → IsKept m s2
+  one_keeps K L s s2 kept seat refused (spare, more, is) = subst (IsKept m) (sym is) (more_room m s spare more kept)
+  one_keeps K L s s2 kept seat (opens_insert row key) (none, unclaimed, carries, G, table, rows) =
+      let free_now : HoldsNone s2.table seat (rest_of s.table seat) = none_then s s2 kept seat free none (λ b. refl) table in
+      calls.kept_opens_insert m s s2 seat (descending key (opened_for m row key)) kept G.stages G.here (opened_holds m s2.table seat (rest_of s.table seat) row key free_now) G.room (ap (λ (t : pages.Table). t.limit) table) G.origin (ap sheets_of table) row key (opened_for m row key) refl
+      (opened_row m row key) (stage_fits m s kept seat free none) unclaimed (carries (sheets_of s2.table) (subst (λ (S : Sheets). IsFresh (spots S) (opened_for m row key).row) (sym (ap sheets_of table)) (fresh_row m s kept (opened_for m row key).row (ap (λ (r : RowAt). is_claimed r (reverse s.journal)) (opened_row m row key) ∙ unclaimed))))
+      (opened_stands m s2.table row key) G.journal rows
+  one_keeps K L s s2 kept seat (steps row out) (key, d, d2, here, r, S, to) = steps_keep L s s2 kept seat key d d2 here out S to
+  one_keeps K L s s2 kept seat (kills row) (none, live, G, table, rows) =
+      calls.kept_kill m s s2 seat free kept G.stages G.here (none_then s s2 kept seat free none (λ b. refl) table) G.room (ap (λ (t : pages.Table). t.limit) table) G.origin (ap sheets_of table) row refl (stage_fits m s kept seat free none) live G.journal rows
+  one_keeps K L s s2 kept seat (opens_scan query) (none, G, table, rows) =
+      let stage : Stage O Key Recon Cond = reading (opened m query (length s.journal) s.table.clock) in
+      calls.kept_opens_scan m s s2 seat stage kept G.stages G.here (none_then s s2 kept seat free none (λ b. refl) table) G.room (ap (λ (t : pages.Table). t.limit) table) G.origin (ap sheets_of table) query
+      (ap (λ n. reading (opened m query n s.table.clock)) (sym (length-reverse s.journal))) (stage_fits m s kept seat free none) G.journal rows
+  one_keeps K L s s2 kept seat (reads item out) (q, q2, here, R, G, table, rows) = reads_keep K L s s2 kept seat item q q2 here out R G table rows
+  one_keeps K L s s2 kept seat (closes closed) (q, here, empty, C, G, table, rows) =
+      let (before, has, D) = stage_fits m s kept seat (reading q) here in
+      calls.kept_closes_scan m s s2 seat free kept G.stages G.here (none_then s s2 kept seat (reading q) here (λ b. refl) table) G.room (ap (λ (t : pages.Table). t.limit) table) G.origin (ap sheets_of table) q closed.rows refl here empty C.same (C.ascending (once_taken q D)) G.journal rows
+  one_keeps K L s s2 kept seat (drops row why) (key, d, here, r, G, (t, but, is), none, rows) =
+      calls.kept_drops m s s2 seat free kept G.stages G.here none G.room (ap (λ (t : pages.Table). t.limit) is ∙ ap (λ (t : pages.Table). t.limit) but) G.origin (ap sheets_of is ∙ ap sheets_of but) row key why refl
+      ((stage_fits m s kept seat (descending key d) here).0 ∙ ap (λ (x : RowAt). inserting x key) r) G.journal rows
+  one_keeps K L s s2 kept seat leaves (q, here, G, table, rows) =
+      calls.kept_leaves m s s2 seat free kept G.stages G.here (none_then s s2 kept seat (reading q) here (λ b. refl) table) G.room (ap (λ (t : pages.Table). t.limit) table) G.origin (ap sheets_of table) q refl here G.journal rows
+
+  -- ---- any list of calls
+
+  pub runs_keep : KeptLaw m → CodeLaw m → RunsKeep O Key Recon Cond m
+  runs_keep K L s s2 [] kept is = (subst (IsKept m) (sym is) kept, λ seat. ap (λ (f : Fields O Key Recon Cond). own seat f.journal) is ∙ sym (append-nil (own seat s.journal)))
+  runs_keep K L s s2 ((by, call) ∷ calls) kept (s1, does, more) =
+      let (kept2, owns) = runs_keep K L s1 s2 calls (one_keeps K L s s1 kept by call does) more in (
+        kept2,
+        λ seat.
+            owns seat
+            ∙ ap (λ l. own seat l ++ events_by seat calls) (longer s s1 by call does)
+            ∙ ap (λ l. l ++ events_by seat calls) (own_append seat s.journal (events_of by call) ∙ ap (λ l. own seat s.journal ++ l) (own_events seat by call))
+            ∙ append_assoc (own seat s.journal) (cond (nat_eq by seat) (events_of by call) []) (events_by seat calls),
+      )

@@ -1,0 +1,61 @@
+// A scan is a walk.
+ghost use Rattle.std.specs.Prelude.{◌≡◌, ◌<◌, length};
+ghost use Rattle.spg_tree.specs.Table.{latch_at};
+ghost use Rattle.spg_scan.specs.Parts.{other_than};
+
+use crate::scan::Scan;
+use crate::walk::{Closed, ReadOut, Walk};
+use spg_base::{Block, List, Memory, SeatNo};
+use spg_opclass::OpClass;
+use spg_rows::RowTable;
+use spg_tree::PageTable;
+use std::alloc::Global;
+
+/// The seat that holds a block, where it is another than this one.
+fn held_by_other(table: &PageTable, block: Block, seat: SeatNo) -> Option<SeatNo>
+    requires { block < length table.now.pages }
+    ensures { result ≡ other_than seat (latch_at table.now block) }
+{
+    match table.latch_of(block) {
+        Some(by) if by != seat => Some(by),
+        _ => None,
+    }
+}
+
+impl<O: OpClass> Walk<O> for Scan<O> {
+    ghost scanning = { λ s. s };
+
+    fn held(&self) -> usize {
+        self.items.len()
+    }
+
+    fn read(
+        &mut self,
+        alloc: Global,
+        class: &O,
+        table: &PageTable,
+        rows: &RowTable<O>,
+        item: usize,
+        seat: SeatNo,
+    ) -> Result<ReadOut, Memory> {
+        let place = self.items[item].place;
+        let block = place.block;
+        match held_by_other(table, block, seat) {
+            Some(by) => Ok(ReadOut::Latched { block, by }),
+            None => {
+                self.read_at(alloc, class, table, rows, item, place)?;
+                Ok(ReadOut::Read)
+            }
+        }
+    }
+
+    fn close(&mut self) -> Result<Closed, Memory> {
+        let alloc = *self.rows.allocator();
+        let mut rows = std::mem::replace(&mut self.rows, Vec::new(alloc));
+        rows.sort_unstable();
+        Ok(Closed {
+            rows: List::from_vec(rows),
+            met: self.met,
+        })
+    }
+}

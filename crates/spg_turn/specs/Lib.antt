@@ -1,0 +1,4 @@
+pub mod Lending
+pub mod Passes
+pub mod Rule
+pub mod Views
