@@ -1,6 +1,5 @@
 -- Where seat 0 alone did something: nothing else is open, and no other seat has latched a block.
-use Rattle.std.proofs.Common.{◌≡◌, ◌≢◌, inl, inr, refl, ℕ, Bool, true, false, List, [], ◌∷◌, ◌++◌, reverse, Option, Some, sym, ap, ◌∙◌, subst}
-use Rattle.std.specs.Prelude.{◌==◌}
+use Rattle.std.proofs.Common.{◌≡◌, ◌≢◌, inl, inr, refl, ℕ, true, false, List, [], ◌∷◌, ◌++◌, reverse, Some, sym, ◌∙◌, subst}
 use Rattle.std.proofs.lemmas.Bool.Decides.{eqb_tells}
 use Rattle.std.proofs.lemmas.List.{reverse-append}
 use Rattle.spg_rows.specs.declared.event.Event.{Event}

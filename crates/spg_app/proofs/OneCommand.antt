@@ -1,6 +1,6 @@
 -- What one command adds to a state, and why its outcome is due.
 use Rattle.std.specs.Prelude.{is_none, option_map}
-use Rattle.std.proofs.Common.{◌≡◌, ◌≢◌, ◌<◌, ◌+◌, ◌^◌, ℕ, Bool, true, false, List, [], ◌∷◌, ◌++◌, length, reverse, Option, Some, None, refl, sym, ap, ◌∙◌, subst}
+use Rattle.std.proofs.Common.{◌≡◌, ◌<◌, ◌+◌, ◌^◌, ℕ, Bool, true, false, List, [], ◌∷◌, ◌++◌, length, reverse, Option, Some, None, refl, sym, ap, ◌∙◌, subst}
 use Rattle.std.proofs.lemmas.List.{append_assoc, append-nil, reverse-append}
 use Rattle.spg_base.specs.Row.{RowAt}
 use Rattle.spg_opclass.specs.Meaning.{Meaning}
@@ -20,7 +20,7 @@ use Rattle.spg_scan.specs.declared.walk.Closed.{Closed}
 use Rattle.spg_core.specs.Stage.{Stage, free, descending, reading, given_up, IsInserting}
 use Rattle.spg_core.specs.Seen.{Seen, stage_at}
 use Rattle.spg_core.specs.Stepping.{IsNearLimit}
-use Rattle.spg_core.specs.Sections.{OpensInsert, KillsRow, OpensScan, ClosesScan, GivesUp, IsReleased}
+use Rattle.spg_core.specs.Sections.{OpensInsert, KillsRow, OpensScan, ClosesScan, GivesUp}
 use Rattle.spg_core.specs.Weight.{opened_keys}
 use Rattle.spg_app.specs.declared.command.AnyKey.{AnyKey}
 use Rattle.spg_app.specs.declared.command.AnyQuery.{AnyQuery}

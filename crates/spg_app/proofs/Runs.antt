@@ -1,15 +1,13 @@
 -- A run goes on by one command.
-use Rattle.std.proofs.Common.{◌≡◌, ◌⊎◌, ◌<◌, ◌≤◌, ◌+◌, ◌-◌, inl, inr, ℕ, zero, suc, List, [], ◌∷◌, ◌++◌, length, take, drop, reverse, refl, sym, ap, ◌∙◌, subst, arith, length-append, length-drop, Option}
-use Rattle.std.specs.List.{AllZip, AllByRecursion}
+use Rattle.std.proofs.Common.{◌≡◌, ◌⊎◌, ◌<◌, ◌≤◌, ◌+◌, ◌-◌, inl, inr, ℕ, zero, suc, List, [], ◌∷◌, ◌++◌, length, take, drop, reverse, refl, sym, ap, ◌∙◌, subst, arith, length-append, length-drop}
+use Rattle.std.specs.List.{AllZip}
 use Rattle.std.proofs.lemmas.List.{drop-append-le, take-append-le, take_at, drop_at, take_all}
 use Rattle.std.proofs.lemmas.Bool.{cases_lt, eq-eqb}
-use Rattle.spg_base.specs.Row.{RowAt}
-use Rattle.spg_app.specs.declared.command.AnyKey.{AnyKey}
 use Rattle.spg_opclass.specs.Meaning.{Meaning}
 use Rattle.spg_forest.specs.Sheets.{Sheets}
 use Rattle.spg_rows.specs.declared.event.Event.{Event}
 use Rattle.spg_rows.specs.History.{seat_of, own}
-use Rattle.spg_tree.specs.Table.{Table, sheets_of}
+use Rattle.spg_tree.specs.Table.{sheets_of}
 use Rattle.spg_core.specs.Sections.{IsNew}
 use Rattle.spg_core.specs.Seen.{Seen}
 use Rattle.spg_app.specs.declared.command.AnyQuery.{AnyQuery}

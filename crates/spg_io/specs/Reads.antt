@@ -1,5 +1,5 @@
 -- What each form of a source tells of one read.
-use Rattle.std.specs.Prelude.{◌≡◌, ℕ, Bool, true, false, List, length, drop, min, Result, Ok, Err}
+use Rattle.std.specs.Prelude.{◌≡◌, ℕ, true, false, List, length, drop, min, Result, Ok, Err}
 use Rattle.spg_base.specs.declared.memory.Failed.{Failed}
 use Rattle.spg_io.specs.Calls.{Calls, fails_next, went_through, failed_once, one_more}
 

@@ -1,5 +1,5 @@
 -- What each form of a sink tells of one write.
-use Rattle.std.specs.Prelude.{◌≡◌, ℕ, Bool, true, false, List, ◌++◌, length, Result, Ok, Err}
+use Rattle.std.specs.Prelude.{◌≡◌, ℕ, true, false, List, ◌++◌, length, Result, Ok, Err}
 use Rattle.spg_io.specs.declared.sink.IoRefused.{IoRefused}
 use Rattle.spg_io.specs.declared.sink.IoRefused.TheVariants.{Failed, Memory}
 use Rattle.spg_io.specs.Calls.{Calls, fails_next, went_through, failed_once, one_more}

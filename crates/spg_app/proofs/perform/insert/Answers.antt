@@ -1,4 +1,4 @@
-use Rattle.std.proofs.Common.{◌≡◌, Err, length, sym, ap, ◌∙◌}
+use Rattle.std.proofs.Common.{Err, length, sym, ap, ◌∙◌}
 use Rattle.spg_app.specs.declared.record.Outcome.TheVariants.{Added, RowUsed, Full, ClockFull}
 use Rattle.spg_app.proofs.OneCommand.{Spans, row_used, added, full, clock_full, not_free, still_inserting}
 use Rattle.spg_app.proofs.perform.insert.Goals as goal
