@@ -1,11 +1,10 @@
 -- Commands: what is spelled is read, and what is read is spelled.
-use Rattle.std.proofs.Common.{◌≡◌, ◌⊎◌, inl, inr, ◌<◌, ◌≤◌, ◌^◌, ℕ, zero, suc, Bool, true, false, List, [], ◌∷◌, ◌++◌, length, drop, Option, Some, None, refl, sym, ap, ◌∙◌, subst, arith, cond, ◌==◌}
+use Rattle.std.proofs.Common.{◌≡◌, inl, inr, ◌≤◌, ℕ, zero, suc, Bool, true, false, List, [], ◌∷◌, ◌++◌, length, drop, Option, Some, None, refl, sym, ap, ◌∙◌, subst, arith, ◌==◌}
 use Rattle.std.specs.Prelude.{codes, bytes_eq}
 use Rattle.std.specs.Fmt.{decimal}
 use Rattle.std.proofs.lemmas.Bool.Decides.{eqb_tells}
 use Rattle.std.proofs.lemmas.Slice.Eq.{bytes_eq-Decides}
 use Rattle.std.proofs.lemmas.Option.{same_Some}
-use Rattle.std.proofs.lemmas.List.{append_assoc}
 use Rattle.spg_base.specs.Row.{RowAt}
 use Rattle.spg_base.specs.Text.{row_text, point_text}
 use Rattle.spg_base.specs.declared.point.Point.{Point}
@@ -18,10 +17,10 @@ use Rattle.spg_app.specs.declared.command.AnyCond.TheVariants as any_cond
 use Rattle.spg_app.specs.declared.command.AnyQuery.{AnyQuery}
 use Rattle.spg_app.specs.declared.command.AnyQuery.TheVariants.{All, Null, Where}
 use Rattle.spg_app.specs.declared.command.Command.{Command}
-use Rattle.spg_app.specs.declared.command.Command.TheVariants.{Insert, Find}
+use Rattle.spg_app.specs.declared.command.Command.TheVariants.{Insert, Delete, Find}
 use Rattle.spg_app.specs.Spelling.{IsPoint, IsRow}
-use Rattle.spg_app.specs.Line.{SpellsKey, SpellsKeyOrNull, SpellsCond, SpellsConds, SpellsQuery, SpellsCommand}
-use Rattle.spg_app.specs.Reading.{◌>>=◌, split_at, row_of, point_of, cond_then, point_cond_then, text_cond_then, after, cond_and, first_cond_of, more_conds, conds_of, whole_text_of, key_of, insert_of, find_of, command_of}
+use Rattle.spg_app.specs.Line.{SpellsKeyOrNull, SpellsCond, SpellsConds, SpellsQuery, SpellsCommand}
+use Rattle.spg_app.specs.Reading.{◌>>=◌, split_at, row_of, point_of, cond_then, point_cond_then, text_cond_then, after, cond_and, first_cond_of, more_conds, conds_of, whole_text_of, key_of, insert_of, delete_of, find_of, command_of}
 use Rattle.spg_app.proofs.Options.{bind_some, pair_some, word_or, front_or}
 use Rattle.spg_app.proofs.Digits.{HasNo, HasNo-cons, HasNo-append, HasNo-decimal, byte_other, split_at-front, spelled-split_at, row_of-text, spelled-row_of, point_of-text, spelled-point_of}
 use Rattle.spg_app.proofs.TextLemmas.{whole_text_of-spelled, spelled-whole_text_of}
@@ -181,6 +180,18 @@ spelled-insert_of texts bytes c is =
     let says : SpellsCommand texts (Insert b.0 d.0) (codes "insert " ++ bytes) = (a.0.1, ap (λ l. codes "insert " ++ l) text, row.1, spelled-key_of texts a.0.1 d.0 d.1) in
     subst (λ (k : Command). SpellsCommand texts k (codes "insert " ++ bytes)) (same_Some _ _ d.2) says
 
+delete_of-spelled : (row : RowAt) → IsRow row → delete_of (row_text row) ≡ Some (Delete row)
+unfolding delete_of
+delete_of-spelled row is = rw (row_of-text row is) refl
+
+spelled-delete_of : (texts : Bool) (bytes : List ℕ) (c : Command) → delete_of bytes ≡ Some c → SpellsCommand texts c (codes "delete " ++ bytes)
+unfolding delete_of
+spelled-delete_of texts bytes c is =
+    let a = bind_some (λ (row : RowAt). Some (Delete row)) (row_of bytes) c is in
+    let row = spelled-row_of bytes a.0 a.1 in
+    let says : SpellsCommand texts (Delete a.0) (codes "delete " ++ bytes) = (ap (λ l. codes "delete " ++ l) row.0, row.1) in
+    subst (λ (k : Command). SpellsCommand texts k (codes "delete " ++ bytes)) (same_Some _ _ a.2) says
+
 find_of-spelled : (texts : Bool) (query : AnyQuery) (bytes : List ℕ) → SpellsQuery texts query bytes → find_of texts bytes ≡ Some (Find query)
 unfolding find_of
 find_of-spelled texts All bytes is = rw is refl
@@ -208,14 +219,18 @@ spelled-find_of texts bytes c is = elim (word_or bytes (codes "all") _ _ c is) [
 pub command_of-spelled : (texts : Bool) (c : Command) (line : List ℕ) → SpellsCommand texts c line → command_of texts line ≡ Some c
 unfolding command_of
 command_of-spelled texts (Insert row key) line is = rw is.1 (insert_of-spelled texts row key is.0 is.2 is.3)
+command_of-spelled texts (Delete row) line is = rw is.0 (delete_of-spelled row is.1)
 command_of-spelled texts (Find query) line is = rw is.1 (find_of-spelled texts query is.0 is.2)
 
 pub spelled-command_of : (texts : Bool) (line : List ℕ) (c : Command) → command_of texts line ≡ Some c → SpellsCommand texts c line
 unfolding command_of
 spelled-command_of texts line c is = elim (front_or line (codes "insert ") _ _ c is) [
   | inl a ↦ subst (λ (l : List ℕ). SpellsCommand texts c l) (sym a.0) (spelled-insert_of texts (drop 7 line) c a.1)
-  | inr is ↦ elim (front_or line (codes "find ") _ _ c is) [
-    | inl a ↦ subst (λ (l : List ℕ). SpellsCommand texts c l) (sym a.0) (spelled-find_of texts (drop 5 line) c a.1)
-    | inr is ↦ (cc)
+  | inr is ↦ elim (front_or line (codes "delete ") _ _ c is) [
+    | inl a ↦ subst (λ (l : List ℕ). SpellsCommand texts c l) (sym a.0) (spelled-delete_of texts (drop 7 line) c a.1)
+    | inr is ↦ elim (front_or line (codes "find ") _ _ c is) [
+      | inl a ↦ subst (λ (l : List ℕ). SpellsCommand texts c l) (sym a.0) (spelled-find_of texts (drop 5 line) c a.1)
+      | inr is ↦ (cc)
+    ]
   ]
 ]

@@ -1,5 +1,5 @@
 -- Conditions: what is spelled is read, and what is read is spelled.
-use Rattle.std.proofs.Common.{◌≡◌, ◌⊎◌, inl, inr, ◌<◌, ◌≤◌, ◌+◌, ◌-◌, ℕ, Bool, true, false, List, [], ◌∷◌, ◌++◌, length, take, drop, Option, Some, None, refl, sym, ap, ◌∙◌, subst, arith, cond, ◌==◌, ◌&&◌, ℤ, ◌≤ℤ◌, append-nil, take-append-drop, FitsSigned}
+use Rattle.std.proofs.Common.{◌≡◌, ◌⊎◌, inl, inr, ℕ, Bool, true, false, List, [], ◌∷◌, ◌++◌, length, take, drop, Some, None, refl, sym, ap, ◌∙◌, subst, arith, cond, ◌&&◌, ℤ, ◌≤ℤ◌, append-nil, take-append-drop, FitsSigned}
 use Rattle.std.specs.Prelude.{codes, int_le}
 use Rattle.std.specs.Int.{w32}
 use Rattle.std.specs.Fmt.{signed_decimal}
@@ -13,7 +13,7 @@ use Rattle.spg_base.specs.declared.point.PointCond.TheVariants.{Eq, Left, Right,
 use Rattle.spg_radix.specs.declared.condition.TextCond.{TextCond}
 use Rattle.spg_radix.specs.declared.condition.TextCond.TheVariants as text_cond
 use Rattle.spg_radix.specs.Conditions.{named}
-use Rattle.spg_app.specs.Spelling.{corners_text, cond_text, IsPoint, IsCond}
+use Rattle.spg_app.specs.Spelling.{corners_text, cond_text, IsCond}
 use Rattle.spg_app.specs.Quoted.{IsQuoted}
 use Rattle.spg_app.specs.Line.{word_of}
 use Rattle.spg_app.specs.Reading.{◌>>=◌, len_before, split_at, coordinate_of, point_of, ordered, inside_of, cond_of, quoted_of, text_cond_of, point_cond_then, text_cond_then}

@@ -1,5 +1,5 @@
 -- The conditions of a class that a script names, one after another.
-use Rattle.std.proofs.Common.{◌≡◌, ◌<◌, ◌+◌, ℕ, Bool, true, false, List, [], ◌∷◌, ◌++◌, length, drop, get_or, Option, Some, None, refl, sym, ap, ◌∙◌, subst}
+use Rattle.std.proofs.Common.{◌≡◌, ◌<◌, ◌+◌, ℕ, true, false, List, [], ◌∷◌, ◌++◌, length, drop, get_or, Option, Some, None, refl, sym, ap, ◌∙◌, subst}
 use Rattle.std.specs.Prelude.{option_map, codes, All as Each}
 use Rattle.std.specs.List.{AllZip, AllByRecursion}
 use Rattle.std.proofs.lemmas.List.{append_assoc, at_drop_more}
@@ -13,7 +13,7 @@ use Rattle.spg_app.specs.declared.command.AnyCond.{AnyCond}
 use Rattle.spg_app.specs.declared.command.AnyCond.TheVariants as any_cond
 use Rattle.spg_app.specs.declared.command.AnyQuery.TheVariants.{All, Null, Where}
 use Rattle.spg_app.specs.declared.command.Command.{Command}
-use Rattle.spg_app.specs.declared.command.Command.TheVariants.{Insert, Find}
+use Rattle.spg_app.specs.declared.command.Command.TheVariants.{Insert, Delete, Find}
 use Rattle.spg_app.specs.declared.command.Script.{Script}
 use Rattle.spg_app.specs.Line.{has_texts, SpellsConds, SpellsCommand, Spells}
 use Rattle.spg_app.specs.Script.{lines_of, AreLines, IsScript}
@@ -58,6 +58,7 @@ known_point : (command : Command) (line : List ℕ) → SpellsCommand false comm
 known_point (Insert row None) line is = (None, refl)
 known_point (Insert row (Some (any_key.Point p))) line is = (Some p, refl)
 known_point (Insert row (Some (any_key.Text t))) line is = absurd is.3
+known_point (Delete row) line is = tt
 known_point (Find All) line is = tt
 known_point (Find Null) line is = tt
 known_point (Find (Where conds)) line is = point_conds (codes "where ") conds is.0 is.2.0
@@ -71,6 +72,7 @@ known_text : (command : Command) (line : List ℕ) → SpellsCommand true comman
 known_text (Insert row None) line is = (None, refl)
 known_text (Insert row (Some (any_key.Text t))) line is = (Some t, refl)
 known_text (Insert row (Some (any_key.Point p))) line is = absurd is.3
+known_text (Delete row) line is = tt
 known_text (Find All) line is = tt
 known_text (Find Null) line is = tt
 known_text (Find (Where conds)) line is = text_conds (codes "where ") conds is.0 is.2.0

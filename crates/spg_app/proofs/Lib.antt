@@ -8,6 +8,8 @@ pub mod CondsLemmas
 pub mod Known
 pub mod ScriptLines
 pub mod Streams
+pub mod Alone
+pub mod Rows
 pub mod Runs
 pub mod Going
 pub mod Resting

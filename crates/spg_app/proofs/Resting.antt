@@ -1,18 +1,20 @@
 -- A read of a scan, and what a scan of pages at rest tells at its end.
-use Rattle.std.proofs.Common.{◌≡◌, ◌+◌, ℕ, List, Option, refl, sym, ap, ◌∙◌, subst, arith}
+use Rattle.std.proofs.Common.{◌≡◌, ◌+◌, ℕ, List, refl, sym, ap, ◌∙◌, subst, arith}
 use Rattle.spg_opclass.specs.Meaning.{Meaning}
 use Rattle.spg_opclass.specs.declared.query.Query.{Query}
-use Rattle.spg_forest.specs.View.{Place}
 use Rattle.spg_forest.specs.Classes.{down_of}
 use Rattle.spg_forest.specs.Sheets.{Sheets}
 use Rattle.spg_forest.specs.Shape.{Shape, spots}
 use Rattle.spg_forest.specs.Walk.{Met, Walk, followed}
 use Rattle.spg_rows.specs.Table as rows
 use Rattle.spg_tree.specs.Table.{Table, sheets_of}
-use Rattle.spg_scan.specs.Scanning.{Scanning, IsReadOut, counted}
+use Rattle.spg_scan.specs.Items.{Item}
+use Rattle.spg_scan.specs.Scanning.{Scanning, counted}
+use Rattle.spg_scan.specs.Reading.{IsReadOut, met_of}
+use Rattle.spg_scan.specs.Rest.{to_meet}
 use Rattle.spg_scan.specs.declared.walk.ReadOut.{ReadOut}
 use Rattle.spg_scan.specs.declared.walk.ReadOut.TheVariants.{Read, Latched}
-use Rattle.spg_scan.proofs.RestLaws.{opens_at_rest, keeps_at_rest}
+use Rattle.spg_scan.proofs.RestLaws.{opens_at_rest, reads_at_rest}
 use Rattle.spg_core.specs.Stage.{Stage, free, descending, reading, IsRead}
 use Rattle.spg_core.specs.Seen.{Seen, stage_at}
 use Rattle.spg_core.specs.Sections.{ReadsFor, ReadsItem, HasMet, OpensScan}
@@ -24,21 +26,21 @@ counted_twice n = omega arith
 
 module _ {O Key Recon Cond : Type 0} (m : Meaning Key Recon Cond) where
   pub reads_nothing : (s : Seen O Key Recon Cond) (seat : ℕ) → ReadsOn m s s seat
-  reads_nothing s seat = record { journal = refl; origin = refl; table = refl; scanning = λ is. is; scan = λ query is. is }
+  reads_nothing s seat = record { journal = refl; origin = refl; pages = refl; scanning = λ is. is; scan = λ query is. is }
 
   read_rests : (t : Table) (table : rows.Table O Key Recon Cond) (s s2 : Scanning O Key Recon Cond) (item seat : ℕ) (out : ReadOut) (query : Query O Key Recon Cond) → Shape m (sheets_of t) → IsReadOut m t table s s2 item seat out
       → IsRestingScan m (sheets_of t) query (reading s) → IsRestingScan m (sheets_of t) query (reading s2)
   read_rests t table s s2 item seat Read query H (is_free, R) (asked, few, rest) =
-      (ap (λ z. z.query) R.after ∙ asked, subst (λ (n : ℕ). counted n ≡ n) (sym (ap (λ z. z.met) R.after)) (counted_twice (s.met + R.met)), keeps_at_rest m (sheets_of t) table s s2 item H R rest)
+      (ap (λ z. z.query) R.after ∙ asked, subst (λ (n : ℕ). counted n ≡ n) (sym (ap (λ z. z.met) R.after)) (counted_twice (s.met + met_of (sheets_of t) R.item)), reads_at_rest m (sheets_of t) table s s2 item H R rest)
   read_rests t table s s2 item seat (Latched block by) query H (held, latched, other, same) is = subst (λ (z : Scanning O Key Recon Cond). IsRestingScan m (sheets_of t) query (reading z)) (sym same) is
 
   reads_of : (s1 s2 : Seen O Key Recon Cond) (seat item : ℕ) (out : ReadOut) (stage : Stage O Key Recon Cond) → stage_at s1 seat ≡ stage → Shape m (sheets_of s1.table) → ReadsFor m s1 s2 seat item out stage → ReadsOn m s1 s2 seat
   reads_of s1 s2 seat item out free at H is = absurd is
   reads_of s1 s2 seat item out (descending key d) at H is = absurd is
-  reads_of s1 s2 seat item out (reading s) at H (z, table, read, new, stage) = record {
+  reads_of s1 s2 seat item out (reading s) at H (z, table, states, read, new, stage) = record {
     journal = ap (λ x. x.journal) new;
     origin = ap (λ x. x.origin) new;
-    table = ap (λ x. x.table) new;
+    pages = ap (λ x. sheets_of x.table) new;
     scanning = λ was. subst (λ (x : Stage O Key Recon Cond). IsScanning x) (sym stage) tt;
     scan = λ query was. subst (λ (x : Stage O Key Recon Cond). IsRestingScan m (sheets_of s1.table) query x) (sym stage)
         (read_rests s1.table table s z item seat out query H read (subst (λ (x : Stage O Key Recon Cond). IsRestingScan m (sheets_of s1.table) query x) at was));
@@ -46,14 +48,14 @@ module _ {O Key Recon Cond : Type 0} (m : Meaning Key Recon Cond) where
 
   pub reads_further : (s0 s1 s2 : Seen O Key Recon Cond) (seat item : ℕ) (out : ReadOut) → Shape m (sheets_of s0.table) → ReadsOn m s0 s1 seat → ReadsItem m s1 s2 seat item out → ReadsOn m s0 s2 seat
   reads_further s0 s1 s2 seat item out H R is =
-      let Q : ReadsOn m s1 s2 seat = reads_of s1 s2 seat item out (stage_at s1 seat) refl (subst (λ (t : Table). Shape m (sheets_of t)) (sym R.table) H) is in
+      let Q : ReadsOn m s1 s2 seat = reads_of s1 s2 seat item out (stage_at s1 seat) refl (subst (λ (S : Sheets). Shape m S) (sym R.pages) H) is in
       record {
         journal = Q.journal ∙ R.journal;
         origin = Q.origin ∙ R.origin;
-        table = Q.table ∙ R.table;
+        pages = Q.pages ∙ R.pages;
         scanning = λ was. Q.scanning (R.scanning was);
-        scan = λ query was. subst (λ (t : Table). IsRestingScan m (sheets_of t) query (stage_at s2 seat)) R.table
-            (Q.scan query (subst (λ (t : Table). IsRestingScan m (sheets_of t) query (stage_at s1 seat)) (sym R.table) (R.scan query was)));
+        scan = λ query was. subst (λ (S : Sheets). IsRestingScan m S query (stage_at s2 seat)) R.pages
+            (Q.scan query (subst (λ (S : Sheets). IsRestingScan m S query (stage_at s1 seat)) (sym R.pages) (R.scan query was)));
       }
 
   pub opens_resting : (s0 s1 : Seen O Key Recon Cond) (seat : ℕ) (query : Query O Key Recon Cond) → Shape m (sheets_of s1.table) → OpensScan m s0 s1 seat query → IsRestingScan m (sheets_of s1.table) query (stage_at s1 seat)
@@ -67,6 +69,6 @@ module _ {O Key Recon Cond : Type 0} (m : Meaning Key Recon Cond) where
   told S query met free rests read has = absurd rests
   told S query met (descending key d) rests read has = absurd rests
   told S query met (reading s) (asked, few, rest) read has =
-      let (k, w, e) = rest.walk 0 (subst (λ (zs : List (Place × Option Recon)). Met (down_of m) (followed m s.query) (spots S) zs 0) (sym read) Met.done) in
+      let (k, w, e) = rest.walk 0 (subst (λ (items : List (Item Recon)). Met (down_of m) (followed m s.query) (spots S) (to_meet m s.query items) 0) (sym read) Met.done) in
       let none : s.met ≡ s.met + 0 = omega arith in
       (k, subst (λ (q : Query O Key Recon Cond). Walk m S q k) asked w, has ∙ sym few ∙ ap counted none ∙ sym e)

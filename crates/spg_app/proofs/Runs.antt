@@ -1,23 +1,23 @@
 -- A run goes on by one command.
-use Rattle.std.proofs.Common.{◌≡◌, ◌⊎◌, ◌<◌, ◌≤◌, ◌+◌, ◌-◌, inl, inr, ℕ, zero, suc, List, [], ◌∷◌, ◌++◌, length, take, drop, reverse, refl, sym, ap, ◌∙◌, subst, arith, length-append, length-drop, Option}
-use Rattle.std.specs.List.{AllZip, AllByRecursion}
+use Rattle.std.proofs.Common.{◌≡◌, ◌⊎◌, ◌<◌, ◌≤◌, ◌+◌, ◌-◌, inl, inr, ℕ, zero, suc, List, [], ◌∷◌, ◌++◌, length, take, drop, reverse, refl, sym, ap, ◌∙◌, subst, arith, length-append, length-drop}
+use Rattle.std.specs.List.{AllZip}
 use Rattle.std.proofs.lemmas.List.{drop-append-le, take-append-le, take_at, drop_at, take_all}
 use Rattle.std.proofs.lemmas.Bool.{cases_lt, eq-eqb}
-use Rattle.spg_base.specs.Row.{RowAt}
-use Rattle.spg_app.specs.declared.command.AnyKey.{AnyKey}
 use Rattle.spg_opclass.specs.Meaning.{Meaning}
 use Rattle.spg_forest.specs.Sheets.{Sheets}
 use Rattle.spg_rows.specs.declared.event.Event.{Event}
 use Rattle.spg_rows.specs.History.{seat_of, own}
-use Rattle.spg_tree.specs.Table.{Table, sheets_of}
+use Rattle.spg_tree.specs.Table.{sheets_of}
+use Rattle.spg_core.specs.Sections.{IsNew}
 use Rattle.spg_core.specs.Seen.{Seen}
 use Rattle.spg_app.specs.declared.command.AnyQuery.{AnyQuery}
 use Rattle.spg_app.specs.declared.command.Command.{Command}
-use Rattle.spg_app.specs.declared.command.Command.TheVariants.{Insert, Find}
+use Rattle.spg_app.specs.declared.command.Command.TheVariants.{Insert, Delete, Find}
 use Rattle.spg_app.specs.declared.record.Record.{Record}
 use Rattle.spg_app.specs.Speech.{Speech}
 use Rattle.spg_app.specs.Walks.{TellsWalk, AreFinds, TellsWalks}
-use Rattle.spg_app.specs.Run.{Does, IsDue, between, past_at, IsBySeat, Did, InOrder, IsInSome, RunOf, RunTo, Performed}
+use Rattle.spg_app.proofs.Alone.{alone_append}
+use Rattle.spg_app.specs.Run.{Does, IsDue, between, past_at, IsAlone, IsBySeat, Did, InOrder, IsInSome, RunOf, RunTo, Performed, Leads, made_with}
 
 -- ---- records in order
 
@@ -46,14 +46,16 @@ each_push R (a ∷ xs) (b ∷ ys) x y all one = (all.0, each_push R xs ys x y al
 
 -- ---- what the finds at the end tell
 
-not_finds : (commands : List Command) (row : RowAt) (key : Option AnyKey) → AreFinds (commands ++ Insert row key ∷ []) → ⊥
-not_finds [] row key are = are
-not_finds (Insert row2 key2 ∷ commands) row key are = are
-not_finds (Find query ∷ commands) row key are = not_finds commands row key are
+not_finds : (commands : List Command) (c : Command) → (AreFinds (c ∷ []) → ⊥) → AreFinds (commands ++ c ∷ []) → ⊥
+not_finds [] c other are = other are
+not_finds (Insert row key ∷ commands) c other are = are
+not_finds (Delete row ∷ commands) c other are = are
+not_finds (Find query ∷ commands) c other are = not_finds commands c other are
 
 finds_front : (commands : List Command) (c : Command) → AreFinds (commands ++ c ∷ []) → AreFinds commands
 finds_front [] c are = tt
-finds_front (Insert row2 key2 ∷ commands) c are = are
+finds_front (Insert row key ∷ commands) c are = are
+finds_front (Delete row ∷ commands) c are = are
 finds_front (Find query ∷ commands) c are = finds_front commands c are
 
 module _ {Key Recon Cond : Type 0} (O : Type 0) (m : Meaning Key Recon Cond) (speech : Speech Key Cond) where
@@ -65,13 +67,13 @@ module _ {Key Recon Cond : Type 0} (O : Type 0) (m : Meaning Key Recon Cond) (sp
   after_find S (c ∷ commands) [] query r tells one = absurd tells
   after_find S (c ∷ commands) (x ∷ records) query r tells one = (λ are. tells.0 (finds_front commands (Find query) are), after_find S commands records query r tells.1 one)
 
-  -- no find before an insert is at the end
-  after_insert : (S S2 : Sheets) (commands : List Command) (records : List Record) (row : RowAt) (key : Option AnyKey) (r : Record) → TellsWalks O m speech S commands records
-      → TellsWalks O m speech S2 (commands ++ Insert row key ∷ []) (records ++ r ∷ [])
-  after_insert S S2 [] [] row key r tells = (λ _. tt, tt)
-  after_insert S S2 [] (x ∷ records) row key r tells = absurd tells
-  after_insert S S2 (c ∷ commands) [] row key r tells = absurd tells
-  after_insert S S2 (c ∷ commands) (x ∷ records) row key r tells = (λ are. absurd (not_finds commands row key are), after_insert S S2 commands records row key r tells.1)
+  -- no find before a command of another kind is at the end
+  after_change : (S S2 : Sheets) (commands : List Command) (records : List Record) (c : Command) (r : Record) → (AreFinds (c ∷ []) → ⊥) → TellsWalks O m speech S commands records → TellsWalk O m speech S2 c r.outcome
+      → TellsWalks O m speech S2 (commands ++ c ∷ []) (records ++ r ∷ [])
+  after_change S S2 [] [] c r other tells one = (λ _. one, tt)
+  after_change S S2 [] (y ∷ records) c r other tells one = absurd tells
+  after_change S S2 (x ∷ commands) [] c r other tells one = absurd tells
+  after_change S S2 (x ∷ commands) (y ∷ records) c r other tells one = (λ are. absurd (not_finds commands c other are), after_change S S2 commands records c r other tells.1 one)
 
 module _ {O Key Recon Cond : Type 0} (m : Meaning Key Recon Cond) (speech : Speech Key Cond) where
   -- ---- one list of events before another
@@ -106,11 +108,11 @@ module _ {O Key Recon Cond : Type 0} (m : Meaning Key Recon Cond) (speech : Spee
 
   -- ---- the new events
 
-  own-all : (events : List (Event O Key Recon Cond)) → AllByRecursion (λ e. seat_of e ≡ 0) events → own 0 events ≡ events
+  own-all : (events : List (Event O Key Recon Cond)) → IsAlone events → own 0 events ≡ events
   own-all [] each = refl
   own-all (e ∷ events) each = rw (eq-eqb (seat_of e) 0 each.0, own-all events each.1) refl
 
-  new_by_seat : (old events : List (Event O Key Recon Cond)) (at : ℕ) → AllByRecursion (λ e. seat_of e ≡ 0) events → length old ≤ at → at < length old + length events → IsBySeat 0 (old ++ events) at
+  new_by_seat : (old events : List (Event O Key Recon Cond)) (at : ℕ) → IsAlone events → length old ≤ at → at < length old + length events → IsBySeat 0 (old ++ events) at
   new_by_seat [] [] at each low high = absurd (omega arith)
   new_by_seat [] (e ∷ events) zero each low high = each.0
   new_by_seat [] (e ∷ events) (suc at) each low high = new_by_seat [] events at each.1 (omega arith) (omega arith)
@@ -122,7 +124,7 @@ module _ {O Key Recon Cond : Type 0} (m : Meaning Key Recon Cond) (speech : Spee
   RunOf-nil : (journal : List (Event O Key Recon Cond)) → journal ≡ [] → RunOf m speech [] journal []
   RunOf-nil journal none = rw none (record { each = tt; in_order = omega arith; covered = λ at within. absurd (omega arith) })
 
-  module _ (commands : List Command) (old events : List (Event O Key Recon Cond)) (records : List Record) (c : Command) (r : Record) (run : RunOf m speech commands old records) (by_seat : AllByRecursion (λ e. seat_of e ≡ 0) events) (from : r.span.from ≡ length old) (to : r.span.to ≡ length old + length events) (does : Does speech 0 c r.outcome events) (due : IsDue m c r.outcome (reverse old) (reverse (old ++ events))) where
+  module _ (commands : List Command) (old events : List (Event O Key Recon Cond)) (records : List Record) (c : Command) (r : Record) (run : RunOf m speech commands old records) (by_seat : IsAlone events) (from : r.span.from ≡ length old) (to : r.span.to ≡ length old + length events) (does : Does speech 0 c r.outcome events) (due : IsDue m c r.outcome (reverse old) (reverse (old ++ events))) where
     new_events : between r.span.from r.span.to (old ++ events) ≡ events
     new_events = ap (take (r.span.to - r.span.from)) (drop_at old events r.span.from (sym from)) ∙ take_all (r.span.to - r.span.from) events (omega arith)
 
@@ -159,12 +161,29 @@ module _ {O Key Recon Cond : Type 0} (m : Meaning Key Recon Cond) (speech : Spee
 
   walks_push : (commands : List Command) (old new : Seen O Key Recon Cond) (records : List Record) (c : Command) (r : Record) → TellsWalks O m speech (sheets_of old.table) commands records → Performed m speech old new c r
       → TellsWalks O m speech (sheets_of new.table) (commands ++ c ∷ []) (records ++ r ∷ [])
-  walks_push commands old new records (Insert row key) r tells p = after_insert O m speech (sheets_of old.table) (sheets_of new.table) commands records row key r tells
+  walks_push commands old new records (Insert row key) r tells p = after_change O m speech (sheets_of old.table) (sheets_of new.table) commands records (Insert row key) r (λ are. are) tells p.walk
+  walks_push commands old new records (Delete row) r tells p = after_change O m speech (sheets_of old.table) (sheets_of new.table) commands records (Delete row) r (λ are. are) tells p.walk
   walks_push commands old new records (Find query) r tells p =
-      after_find O m speech (sheets_of new.table) commands records query r (subst (λ (t : Table). TellsWalks O m speech (sheets_of t) commands records) (sym (p.pages tt)) tells) p.walk
+      after_find O m speech (sheets_of new.table) commands records query r (subst (λ (S : Sheets). TellsWalks O m speech S commands records) (sym (p.pages tt)) tells) p.walk
 
-  pub RunTo-nil : (seen : Seen O Key Recon Cond) → seen.journal ≡ [] → RunTo m speech [] seen []
-  RunTo-nil seen none = record { run = RunOf-nil seen.journal none; walks = tt }
+  -- seat 0 alone did something after it
+  pub performed_alone : (old new : Seen O Key Recon Cond) (c : Command) (r : Record) → Performed m speech old new c r → IsAlone old.journal → IsAlone new.journal
+  performed_alone old new c r p alone = subst IsAlone (sym p.journal) (alone_append old.journal p.events alone p.by_seat)
+
+  leads_push : (start : Seen O Key Recon Cond) (commands : List Command) (records : List Record) (old new : Seen O Key Recon Cond) (c : Command) (r : Record) → Leads m speech start commands records old → Performed m speech old new c r → Leads m speech start (commands ++ c ∷ []) (records ++ r ∷ []) new
+  leads_push start [] [] old new c r leads p = (new, subst (λ (s : Seen O Key Recon Cond). Performed m speech s new c r) leads p, refl)
+  leads_push start [] (y ∷ records) old new c r leads p = absurd leads
+  leads_push start (x ∷ commands) [] old new c r leads p = absurd leads
+  leads_push start (x ∷ commands) (y ∷ records) old new c r (next, one, more) p = (next, one, leads_push next commands records old new c r more p)
+
+  pub RunTo-nil : (seen : Seen O Key Recon Cond) → IsNew made_with.limit seen → RunTo m speech [] seen []
+  RunTo-nil seen is_new = record { start = seen; is_new = is_new; steps = refl; run = RunOf-nil seen.journal is_new.journal; walks = tt }
 
   pub RunTo-push : (commands : List Command) (old new : Seen O Key Recon Cond) (records : List Record) (c : Command) (r : Record) → RunTo m speech commands old records → Performed m speech old new c r → RunTo m speech (commands ++ c ∷ []) new (records ++ r ∷ [])
-  RunTo-push commands old new records c r run p = record { run = RunOf-push commands old new records c r run.run p; walks = walks_push commands old new records c r run.walks p }
+  RunTo-push commands old new records c r run p = record {
+    start = run.start;
+    is_new = run.is_new;
+    steps = leads_push run.start commands records old new c r run.steps p;
+    run = RunOf-push commands old new records c r run.run p;
+    walks = walks_push commands old new records c r run.walks p;
+  }

@@ -1,7 +1,6 @@
 -- How the commands of a script end.
-use Rattle.std.specs.Prelude.{◌≡◌, ◌⊎◌, List, ℕ, Option, false}
+use Rattle.std.specs.Prelude.{◌≡◌, ◌⊎◌, List, ℕ, Option}
 use Rattle.std.specs.Io.KnownBytes.{Appends}
-use Rattle.spg_base.specs.declared.recorded.Origin.{Origin}
 use Rattle.spg_opclass.specs.Meaning.{Meaning}
 use Rattle.spg_rows.specs.Right.{Right}
 use Rattle.spg_core.specs.Seen.{Seen}
@@ -11,13 +10,9 @@ use Rattle.spg_app.specs.declared.record.Record.{Record}
 use Rattle.spg_app.specs.declared.session.Ending.{Ending}
 use Rattle.spg_app.specs.declared.session.Ending.TheVariants.{Done, WriteFault, Memory}
 use Rattle.spg_app.specs.Speech.{Speech}
-use Rattle.spg_app.specs.Run.{RunTo}
+use Rattle.spg_app.specs.Run.{RunTo, made_with}
 use Rattle.spg_app.specs.Text.{text}
 use Rattle.spg_app.specs.Io.{WroteSome}
-
--- a state of a script is made with at most 65,536 pages, of which it has 3, at clock 0, and is not loaded
-abbrev pub made_with : Origin
-made_with = record { limit = 65536; pages = 3; clock = 0; loaded = false }
 
 -- the commands were done on a new state and led to this one, its journal is right, and the text of the run is such
 pub record RanCommands {O Key Recon Cond : Type 0} (m : Meaning Key Recon Cond) (speech : Speech Key Cond) (commands : List Command) (IsText : List ℕ → Type 0) (seen : Seen O Key Recon Cond) : Type 0 where

@@ -13,7 +13,7 @@ use Rattle.spg_app.specs.declared.command.AnyCond.TheVariants as any_cond
 use Rattle.spg_app.specs.declared.command.AnyQuery.{AnyQuery}
 use Rattle.spg_app.specs.declared.command.AnyQuery.TheVariants.{All, Null, Where}
 use Rattle.spg_app.specs.declared.command.Command.{Command}
-use Rattle.spg_app.specs.declared.command.Command.TheVariants.{Insert, Find}
+use Rattle.spg_app.specs.declared.command.Command.TheVariants.{Insert, Delete, Find}
 use Rattle.spg_app.specs.Quoted.{IsQuoted}
 use Rattle.spg_app.specs.Spelling.{cond_text, IsRow, IsPoint, IsCond}
 
@@ -65,6 +65,7 @@ SpellsQuery texts (Where conds) bytes = SpellsConds texts (codes "where ") conds
 -- a command
 abbrev pub SpellsCommand : Bool → Command → List ℕ → Type 0
 SpellsCommand texts (Insert row key) line = (bytes : List ℕ) × (line ≡ codes "insert " ++ row_text row ++ 32 ∷ bytes) × IsRow row × SpellsKeyOrNull texts key bytes
+SpellsCommand texts (Delete row) line = (line ≡ codes "delete " ++ row_text row) × IsRow row
 SpellsCommand texts (Find query) line = (bytes : List ℕ) × (line ≡ codes "find " ++ bytes) × SpellsQuery texts query bytes
 
 -- a line is this command's, in a script of a class

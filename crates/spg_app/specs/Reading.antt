@@ -15,7 +15,7 @@ use Rattle.spg_app.specs.declared.command.AnyCond.{AnyCond}
 use Rattle.spg_app.specs.declared.command.AnyCond.TheVariants as any_cond
 use Rattle.spg_app.specs.declared.command.AnyQuery.TheVariants.{All, Null, Where}
 use Rattle.spg_app.specs.declared.command.Command.{Command}
-use Rattle.spg_app.specs.declared.command.Command.TheVariants.{Insert, Find}
+use Rattle.spg_app.specs.declared.command.Command.TheVariants.{Insert, Delete, Find}
 use Rattle.spg_app.specs.Quoted.{first_byte}
 
 infixl 10 ◌>>=◌
@@ -211,6 +211,9 @@ insert_of texts bytes = do
   key ← key_of texts parts.1
   Some (Insert row key)
 
+unfoldable pub delete_of : List ℕ → Option Command
+delete_of bytes = row_of bytes >>= λ row. Some (Delete row)
+
 unfoldable pub find_of : Bool → List ℕ → Option Command
 find_of texts bytes =
     if bytes_eq bytes (codes "all") then Some (Find All)
@@ -219,4 +222,6 @@ find_of texts bytes =
 
 unfoldable pub command_of : Bool → List ℕ → Option Command
 command_of texts bytes =
-    if starts_with nat_eq bytes (codes "insert ") then insert_of texts (drop 7 bytes) else (if starts_with nat_eq bytes (codes "find ") then find_of texts (drop 5 bytes) else None)
+    if starts_with nat_eq bytes (codes "insert ") then insert_of texts (drop 7 bytes)
+    else (if starts_with nat_eq bytes (codes "delete ") then delete_of (drop 7 bytes)
+    else (if starts_with nat_eq bytes (codes "find ") then find_of texts (drop 5 bytes) else None))

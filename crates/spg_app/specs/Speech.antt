@@ -14,7 +14,7 @@ use Rattle.spg_app.specs.declared.command.AnyCond.TheVariants as any_cond
 use Rattle.spg_app.specs.declared.command.AnyQuery.{AnyQuery}
 use Rattle.spg_app.specs.declared.command.AnyQuery.TheVariants.{All, Null, Where}
 use Rattle.spg_app.specs.declared.command.Command.{Command}
-use Rattle.spg_app.specs.declared.command.Command.TheVariants.{Insert, Find}
+use Rattle.spg_app.specs.declared.command.Command.TheVariants.{Insert, Delete, Find}
 use Rattle.spg_app.specs.Quoted.{quoted}
 use Rattle.spg_app.specs.Spelling.{cond_text, conds_text}
 use Rattle.spg_app.specs.Line.{word_of}
@@ -46,6 +46,7 @@ query_in speech (Where conds) = option_map (λ found. query.Where found) (conds_
 -- the class has the keys and conditions of a command
 abbrev pub IsKnown : {Key Cond : Type 0} → Speech Key Cond → Command → Type 0
 IsKnown {Key} speech (Insert row key) = (k : Option Key) × (key_or_null_in speech key ≡ Some k)
+IsKnown speech (Delete row) = ⊤
 IsKnown speech (Find All) = ⊤
 IsKnown speech (Find Null) = ⊤
 IsKnown {Cond = Cond} speech (Find (Where conds)) = (found : List Cond) × (conds_in speech conds ≡ Some found)

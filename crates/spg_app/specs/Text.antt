@@ -8,7 +8,7 @@ use Rattle.spg_rows.specs.declared.event.Event.{Event}
 use Rattle.spg_rows.specs.declared.event.Event.TheVariants.{OpenInsert, Put, Drop, Kill, OpenScan, CloseScan, OpenVacuum, Sweep, CloseVacuum, Leave}
 use Rattle.spg_rows.specs.History.{seat_of}
 use Rattle.spg_app.specs.declared.record.Outcome.{Outcome}
-use Rattle.spg_app.specs.declared.record.Outcome.TheVariants.{Added, RowUsed, Full, ClockFull, Found}
+use Rattle.spg_app.specs.declared.record.Outcome.TheVariants.{Added, RowUsed, Full, ClockFull, Killed, NotLive, Found}
 use Rattle.spg_app.specs.declared.record.Record.{Record}
 use Rattle.spg_app.specs.Speech.{Speech, key_or_null_text, query_text}
 
@@ -21,6 +21,8 @@ outcome_text Added = codes "added"
 outcome_text RowUsed = codes "row used"
 outcome_text Full = codes "full"
 outcome_text ClockFull = codes "clock full"
+outcome_text Killed = codes "killed"
+outcome_text NotLive = codes "not live"
 outcome_text (Found rows walk) = codes "found " ++ decimal (length rows) ++ codes " walk " ++ decimal walk ++ rows_text rows
 
 -- the number of the command, where it begins and ends in the journal, and what became of it

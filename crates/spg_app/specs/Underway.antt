@@ -33,7 +33,7 @@ IsRestingScan m S query (reading s) = (s.query ≡ query) × (counted s.met ≡ 
 pub record ReadsOn {O Key Recon Cond : Type 0} (m : Meaning Key Recon Cond) (old new : Seen O Key Recon Cond) (seat : ℕ) : Type 0 where
   pub journal : new.journal ≡ old.journal
   pub origin : new.origin ≡ old.origin
-  pub table : new.table ≡ old.table
+  pub pages : sheets_of new.table ≡ sheets_of old.table
   pub scanning : IsScanning (stage_at old seat) → IsScanning (stage_at new seat)
   pub scan : (query : Query O Key Recon Cond) → IsRestingScan m (sheets_of old.table) query (stage_at old seat) → IsRestingScan m (sheets_of old.table) query (stage_at new seat)
 

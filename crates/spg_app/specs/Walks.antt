@@ -6,9 +6,9 @@ use Rattle.spg_forest.specs.Sheets.{Sheets}
 use Rattle.spg_forest.specs.Walk.{Walk}
 use Rattle.spg_scan.specs.Scanning.{counted}
 use Rattle.spg_app.specs.declared.command.Command.{Command}
-use Rattle.spg_app.specs.declared.command.Command.TheVariants.{Insert, Find}
+use Rattle.spg_app.specs.declared.command.Command.TheVariants.{Insert, Delete, Find}
 use Rattle.spg_app.specs.declared.record.Outcome.{Outcome}
-use Rattle.spg_app.specs.declared.record.Outcome.TheVariants.{Added, RowUsed, Full, ClockFull, Found}
+use Rattle.spg_app.specs.declared.record.Outcome.TheVariants.{Added, RowUsed, Full, ClockFull, Killed, NotLive, Found}
 use Rattle.spg_app.specs.declared.record.Record.{Record}
 use Rattle.spg_app.specs.Speech.{Speech, query_in}
 
@@ -23,13 +23,17 @@ TellsWalk O m speech S (Find query) Added = ⊤
 TellsWalk O m speech S (Find query) RowUsed = ⊤
 TellsWalk O m speech S (Find query) Full = ⊤
 TellsWalk O m speech S (Find query) ClockFull = ⊤
+TellsWalk O m speech S (Find query) Killed = ⊤
+TellsWalk O m speech S (Find query) NotLive = ⊤
 TellsWalk O m speech S (Insert row key) outcome = ⊤
+TellsWalk O m speech S (Delete row) outcome = ⊤
 
 -- all of them are finds
 abbrev pub AreFinds : List Command → Type 0
 AreFinds [] = ⊤
 AreFinds (Find query ∷ commands) = AreFinds commands
 AreFinds (Insert row key ∷ commands) = ⊥
+AreFinds (Delete row ∷ commands) = ⊥
 
 -- each find after which only finds come tells the walk of its query over the pages
 abbrev pub TellsWalks : {Key Recon Cond : Type 0} → (O : Type 0) → Meaning Key Recon Cond → Speech Key Cond → Sheets → List Command → List Record → Type 0

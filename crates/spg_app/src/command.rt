@@ -46,6 +46,8 @@ pub enum AnyQuery {
 pub enum Command {
     /// Puts a row with its key, or with a null, into the index.
     Insert { row: Row, key: Option<AnyKey> },
+    /// Takes a row from the live ones.
+    Delete { row: Row },
     /// Finds rows.
     Find { query: AnyQuery },
 }

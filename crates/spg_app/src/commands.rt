@@ -1,6 +1,6 @@
 ghost use Rattle.std.specs.Prelude.{◌≡◌, IfOk, IfSome, IfNone};
 ghost use Rattle.spg_app.specs.Line.{Spells, has_texts};
-ghost use Rattle.spg_app.specs.Reading.{key_of, insert_of, find_of, command_of};
+ghost use Rattle.spg_app.specs.Reading.{key_of, insert_of, delete_of, find_of, command_of};
 ghost use Rattle.spg_app.specs.declared.command.Command.{Command};
 
 use crate::bytes::split;
@@ -58,6 +58,13 @@ fn insert(alloc: Global, texts: bool, bytes: &[u8]) -> Result<Option<Command>, M
     }
 }
 
+#[tactic(auto, unfolding(crate::specs::Reading::delete_of))]
+fn delete(bytes: &[u8]) -> Option<Command>
+    ensures { result ≡ delete_of bytes.now }
+{
+    Some(Command::Delete { row: row(bytes)? })
+}
+
 #[tactic(auto, unfolding(crate::specs::Reading::find_of))]
 fn find(alloc: Global, texts: bool, bytes: &[u8]) -> Result<Option<Command>, Memory>
     ensures { IfOk result (λ found. found ≡ find_of texts bytes.now) }
@@ -89,6 +96,8 @@ fn command(alloc: Global, texts: bool, line: &[u8]) -> Result<Option<Command>, M
 {
     if line.starts_with(b"insert ") {
         insert(alloc, texts, &line[7..])
+    } else if line.starts_with(b"delete ") {
+        Ok(delete(&line[7..]))
     } else if line.starts_with(b"find ") {
         find(alloc, texts, &line[5..])
     } else {

@@ -1,27 +1,30 @@
-ghost use Rattle.std.specs.Prelude.{◌≡◌, IfOk, OnOk, OnErr, IsErrOf, length};
+ghost use Rattle.std.specs.Prelude.{◌≡◌, ◌+◌, ◌^◌, Some, IfOk, OnOk, OnErr, IsErrOf, length};
+ghost use Rattle.spg_rows.specs.Right.{Right};
 ghost use Rattle.spg_forest.specs.Shape.{Shape};
-ghost use Rattle.spg_tree.specs.Table.{sheets_of};
+ghost use Rattle.spg_tree.specs.Table.{latch_at, sheets_of};
 ghost use Rattle.spg_tree.specs.declared.stand.StepRefused.TheVariants.{IndexFull, ClockFull};
 ghost use Rattle.spg_core.specs.Stage.{free, IsInserting, held_count};
 ghost use Rattle.spg_core.specs.Seen.{stage_at};
 ghost use Rattle.spg_app.specs.Speech.{key_or_null_in, conds_in, query_in, IsKnown};
-ghost use Rattle.spg_app.specs.Run.{Performed};
+ghost use Rattle.spg_app.specs.Run.{Performed, IsAlone};
+ghost use Rattle.spg_core.specs.Stepping.{IsNearLimit};
 ghost use Rattle.spg_core.specs.Through.{StillInserts, PutsRow};
 ghost use Rattle.spg_app.specs.Underway.{HasOutgrown, IsScanning, ReadsToEnd};
-ghost use Rattle.spg_app.specs.declared.command.Command.TheVariants.{Insert, Find};
+ghost use Rattle.spg_app.specs.declared.command.Command.TheVariants.{Insert, Delete, Find};
 
 use crate::command::{AnyCond, AnyKey, AnyQuery, Command};
 use crate::record::{Outcome, Record};
 use crate::speech::Spoken;
-use spg_base::{List, Memory, Row, SeatNo, Span};
-use spg_core::{InsertRan, OpenKind, OpenRefused, State, StepRefused};
+use spg_base::{Block, List, Memory, Row, SeatNo, Span};
+use spg_core::{InsertRan, OpenKind, OpenRefused, ReadOut, State, StepRefused};
 use spg_opclass::Query;
 use spg_rows::Why;
 use std::alloc::Global;
 
-/// How many events there are.
+/// How many events there are. The journal is right.
 fn position<O: Spoken>(state: &State<O>) -> u64
-    ensures { result ≡ length state.now.journal }
+    ensures count { result ≡ length state.now.journal }
+    ensures right { Right O.meaning state.now.journal }
 {
     state.journal().len()
 }
@@ -31,6 +34,7 @@ fn recorded<O: Spoken>(state: &State<O>, from: u64, outcome: Outcome) -> Record
     ensures outcome { result.outcome ≡ outcome }
     ensures from { result.span.from ≡ from }
     ensures to { result.span.to ≡ length state.now.journal }
+    ensures right { Right O.meaning state.now.journal }
 {
     Record {
         span: Span {
@@ -41,18 +45,33 @@ fn recorded<O: Spoken>(state: &State<O>, from: u64, outcome: Outcome) -> Record
     }
 }
 
-/// Runs an insert through, until its row is put.
+/// Where seat 0 alone did something, no other seat has latched a block. Nothing is done here.
+fn only_first_latches<O: Spoken>(state: &State<O>, block: Block, by: SeatNo)
+    requires alone { IsAlone state.now.journal }
+    requires latched { latch_at state.now.table block ≡ Some by }
+    ensures { by ≡ 0 }
+{
+    // Each latch is that of an insert that its seat has open.
+    let _ = state.pages();
+    let _ = state.open_of(by);
+}
+
+/// Runs an insert through, until its row is put. No other seat has latched a block.
 fn put<O: Spoken>(state: &mut State<O>, seat: SeatNo) -> Result<(), StepRefused>
     requires first { seat ≡ 0 }
+    requires alone { IsAlone state.old.journal }
     requires inserting { IsInserting (stage_at state.old seat) }
     ensures ok { OnOk result (PutsRow state.old state.new seat) }
-    ensures full { IsErrOf result IndexFull → HasOutgrown O.meaning state.old seat }
-    ensures clock { IsErrOf result ClockFull → HasOutgrown O.meaning state.old seat }
+    ensures full { IsErrOf result IndexFull → HasOutgrown O.meaning state.old seat × IsNearLimit state.new.table }
+    ensures clock { IsErrOf result ClockFull → HasOutgrown O.meaning state.old seat × (state.new.table.clock + 1 ≡ 2 ^ 48) }
     ensures err { OnErr result (StillInserts state.old state.new seat) }
 {
     match state.insert_through(seat)? {
         InsertRan::Put => Ok(()),
-        InsertRan::Restarted { .. } => unreachable!(),
+        InsertRan::Restarted { block, by } => {
+            only_first_latches(state, block, by);
+            unreachable!()
+        }
     }
 }
 
@@ -69,8 +88,11 @@ fn key_in<O: Spoken>(class: &O, key: &Option<AnyKey>) -> Result<Option<Option<O:
     }
 }
 
+/// Inserts a row with its key, where the row is not claimed. Where there is no room, or the clock is
+/// at its end, the insert is given up.
 fn insert<O: Spoken>(state: &mut State<O>, row: Row, key: &Option<AnyKey>) -> Result<Record, Memory>
     requires free { stage_at state.old 0 ≡ free }
+    requires alone { IsAlone state.old.journal }
     requires known { IsKnown O.speech (Insert row key.now) }
     ensures done { IfOk result (Performed O.meaning O.speech state.old state.new (Insert row key.now)) }
     ensures free { IfOk result (λ _. stage_at state.new 0 ≡ free) }
@@ -96,6 +118,22 @@ fn insert<O: Spoken>(state: &mut State<O>, row: Row, key: &Option<AnyKey>) -> Re
             state.abandon(seat, Why::Clock);
             Ok(recorded(state, from, Outcome::ClockFull))
         }
+    }
+}
+
+/// Deletes a row, where it is live.
+fn delete<O: Spoken>(state: &mut State<O>, row: Row) -> Result<Record, Memory>
+    requires free { stage_at state.old 0 ≡ free }
+    ensures done { IfOk result (Performed O.meaning O.speech state.old state.new (Delete row)) }
+    ensures free { IfOk result (λ _. stage_at state.new 0 ≡ free) }
+{
+    let seat = SeatNo::first();
+    let from = position(state);
+    let killed = state.kill(seat, row)?;
+    if killed {
+        Ok(recorded(state, from, Outcome::Killed))
+    } else {
+        Ok(recorded(state, from, Outcome::NotLive))
     }
 }
 
@@ -145,9 +183,11 @@ fn held<O: Spoken>(state: &State<O>, seat: SeatNo) -> usize
     }
 }
 
-/// Reads what a scan holds, the last item first, until it holds nothing.
+/// Reads what a scan holds, the last item first, until it holds nothing. No other seat has latched a
+/// block.
 fn read_on<O: Spoken>(state: &mut State<O>, seat: SeatNo) -> Result<(), Memory>
     requires first { seat ≡ 0 }
+    requires alone { IsAlone state.old.journal }
     requires scanning { IsScanning (stage_at state.old seat) }
     requires shape { Shape O.meaning (sheets_of state.old.table) }
     ensures { OnOk result (ReadsToEnd O.meaning state.old state.new seat) }
@@ -159,13 +199,21 @@ fn read_on<O: Spoken>(state: &mut State<O>, seat: SeatNo) -> Result<(), Memory>
         if held == 0 {
             return Ok(());
         }
-        state.scan_read(seat, held - 1)?;
+        match state.scan_read(seat, held - 1)? {
+            ReadOut::Read => {}
+            ReadOut::Latched { block, by } => {
+                only_first_latches(state, block, by);
+                unreachable!()
+            }
+        }
     }
     Err(Memory)
 }
 
+/// Finds rows by a scan that is opened, read to its end and closed.
 fn find<O: Spoken>(alloc: Global, state: &mut State<O>, query: &AnyQuery) -> Result<Record, Memory>
     requires free { stage_at state.old 0 ≡ free }
+    requires alone { IsAlone state.old.journal }
     requires known { IsKnown O.speech (Find query.now) }
     ensures done { IfOk result (Performed O.meaning O.speech state.old state.new (Find query.now)) }
     ensures free { IfOk result (λ _. stage_at state.new 0 ≡ free) }
@@ -193,12 +241,14 @@ pub fn perform<O: Spoken>(
     command: &Command,
 ) -> Result<Record, Memory>
     requires free { stage_at state.old 0 ≡ free }
+    requires alone { IsAlone state.old.journal }
     requires known { IsKnown O.speech command.now }
     ensures done { IfOk result (Performed O.meaning O.speech state.old state.new command.now) }
     ensures free { IfOk result (λ _. stage_at state.new 0 ≡ free) }
 {
     match command {
         Command::Insert { row, key } => insert(state, *row, key),
+        Command::Delete { row } => delete(state, *row),
         Command::Find { query } => find(alloc, state, query),
     }
 }

@@ -11,6 +11,10 @@ pub enum Outcome {
     Full,
     /// The clock was at its end, and the insert was given up.
     ClockFull,
+    /// The row was live, and was killed.
+    Killed,
+    /// The row was not live, so nothing was done.
+    NotLive,
     /// The rows that a scan found, ascending, and how many inner, leaf and dead tuples it met.
     Found { rows: Rows, walk: u64 },
 }

@@ -33,6 +33,8 @@ fn push_outcome(line: &mut Line, outcome: &Outcome) -> Result<(), Memory>
         Outcome::RowUsed => line.extend(b"row used"),
         Outcome::Full => line.extend(b"full"),
         Outcome::ClockFull => line.extend(b"clock full"),
+        Outcome::Killed => line.extend(b"killed"),
+        Outcome::NotLive => line.extend(b"not live"),
         Outcome::Found { rows, walk } => {
             let count = rows.len();
             write!(line, "found {count} walk {walk}")?;

@@ -1,10 +1,9 @@
-ghost use Rattle.std.specs.Prelude.{◌≡◌, [], IfOk, All};
-ghost use Rattle.spg_core.specs.Stage.{free};
-ghost use Rattle.spg_core.specs.Seen.{stage_at};
+ghost use Rattle.std.specs.Prelude.{◌≡◌, IfOk, All};
+ghost use Rattle.spg_core.specs.Sections.{IsNew};
 ghost use Rattle.spg_rows.specs.Right.{Right};
 ghost use Rattle.spg_app.specs.Speech.{IsKnown};
-ghost use Rattle.spg_app.specs.Run.{RunTo};
-ghost use Rattle.spg_app.specs.Ending.{Ends, made_with};
+ghost use Rattle.spg_app.specs.Run.{RunTo, made_with};
+ghost use Rattle.spg_app.specs.Ending.{Ends};
 
 use crate::command::Command;
 use crate::perform::perform;
@@ -20,15 +19,14 @@ use std::alloc::Global;
 /// The greatest number of pages of an index.
 const MOST_PAGES: u32 = 65_536;
 
-/// Does commands one after another, from an empty index.
+/// Does commands one after another, on a new index.
 fn perform_all<O: Spoken>(
     alloc: Global,
     state: &mut State<O>,
     commands: &[Command],
 ) -> Result<Records, Memory>
     requires known { All (IsKnown O.speech) commands.now }
-    requires empty { state.old.journal ≡ [] }
-    requires free { stage_at state.old 0 ≡ free }
+    requires is_new { IsNew MOST_PAGES state.old }
     ensures run { IfOk result (RunTo O.meaning O.speech commands.now state.new) }
     ensures origin { IfOk result (λ _. state.new.origin ≡ state.old.origin) }
 {

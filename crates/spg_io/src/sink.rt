@@ -1,7 +1,11 @@
-ghost use Rattle.std.specs.Prelude.{◌≡◌, ◌<◌, ◌≤◌, ℕ, List as Items, length, [], Some, IfOk};
+ghost use Rattle.std.specs.Prelude.{◌≡◌, ◌<◌, ◌≤◌, ℕ, List as Items, length, [], Some, IfOk, IsErrOf, ⊤};
+ghost use Rattle.std.specs.declared.result.Result.{Result};
 ghost use Rattle.std.specs.declared.option.Option.{Option};
 ghost use Rattle.std.specs.Io.KnownBytes.{WriteAppends};
 ghost use Rattle.spg_io.specs.Causes.{HasCauseIfFailed};
+ghost use Rattle.spg_io.specs.Calls.{no_calls};
+ghost use Rattle.spg_io.specs.Writes.{PlainWrite, FaultyWrite, OutputWrite};
+ghost use Rattle.spg_io.specs.declared.sink.IoRefused.{IoRefused};
 ghost use Rattle.spg_io.specs.declared.sink.IoRefused.TheVariants as refused;
 
 use spg_base::{List, Memory};
@@ -42,13 +46,19 @@ pub trait Sink {
     /// How often a call failed. It never falls.
     ghost faults: { Self → ℕ };
 
+    /// What else a form of sink tells of a write: of the sink before, the piece, the answer and
+    /// the sink after.
+    ghost write_gives: { Self → Items ℕ → Result ℕ IoRefused → Self → Type 0 } = { λ _ _ _ _. ⊤ };
+
     /// Takes the front of the piece, and says how many bytes: at least one where there is one.
-    /// `Failed` comes only where the count of faults rises.
+    /// `Failed` comes only where the count of faults rises. After `Memory` the sink is as it was.
     fn write(&mut self, piece: &[u8]) -> Result<usize, IoRefused>
         ensures bound { IfOk result (λ n. n ≤ length piece.now) }
         ensures some { IfOk result (λ n. 0 < length piece.now → 0 < n) }
         ensures bytes { WriteAppends (contents self.old) (contents self.new) result piece.now }
-        ensures cause { HasCauseIfFailed (faults self.old) (faults self.new) result };
+        ensures cause { HasCauseIfFailed (faults self.old) (faults self.new) result }
+        ensures memory { IsErrOf result IoRefused.Memory → self.new ≡ self.old }
+        ensures gives { write_gives self.old piece.now result self.new };
 }
 
 /// Bytes in memory. No call fails.
@@ -88,6 +98,8 @@ impl Sink for PlainSink {
 
     ghost faults = { λ _. 0 };
 
+    ghost write_gives = { PlainWrite };
+
     fn write(&mut self, piece: &[u8]) -> Result<usize, IoRefused> {
         match self.bytes.extend_from_slice(piece) {
             Ok(()) => Ok(piece.len()),
@@ -96,7 +108,8 @@ impl Sink for PlainSink {
     }
 }
 
-/// Bytes in memory. The calls with these numbers fail, counted from 1.
+/// Bytes in memory. The calls with these numbers fail, counted from 1, and no other fails. A call
+/// that finds no memory is not counted.
 #[derive(Drop)]
 pub struct FaultySink {
     bytes: Vec<u8>,
@@ -106,18 +119,21 @@ pub struct FaultySink {
 }
 
 impl Model for FaultySink {
-    ghost use Rattle.spg_io.specs.Faulty.{FaultyBytes};
+    ghost use Rattle.spg_io.specs.Writes.{FaultyStore};
 
-    ghost Value = { FaultyBytes };
+    ghost Value = { FaultyStore };
 
-    ghost view = { λ s. record { bytes = s.bytes.items; faults = s.faults } };
+    ghost view = { λ s. record {
+      bytes = s.bytes.items;
+      calls = record { fails = s.fails; made = s.calls; faults = s.faults };
+    } };
 }
 
 impl FaultySink {
     /// No bytes taken and no call made.
     pub fn new(alloc: Global, fails: List<u64>) -> FaultySink
         ensures taken { result.bytes ≡ [] }
-        ensures faults { result.faults ≡ 0 }
+        ensures calls { result.calls ≡ no_calls fails }
     {
         FaultySink {
             bytes: Vec::new(alloc),
@@ -138,23 +154,29 @@ impl FaultySink {
 impl Sink for FaultySink {
     ghost contents = { λ s. Some s.bytes };
 
-    ghost faults = { λ s. s.faults };
+    ghost faults = { λ s. s.calls.faults };
+
+    ghost write_gives = { FaultyWrite };
 
     fn write(&mut self, piece: &[u8]) -> Result<usize, IoRefused> {
-        self.calls = self.calls.saturating_add(1);
-        if self.fails.as_slice().contains(&self.calls) {
+        let call = self.calls.saturating_add(1);
+        if self.fails.as_slice().contains(&call) {
+            self.calls = call;
             self.faults = self.faults.saturating_add(1);
             return Err(IoRefused::Failed);
         }
         match self.bytes.extend_from_slice(piece) {
-            Ok(()) => Ok(piece.len()),
+            Ok(()) => {
+                self.calls = call;
+                Ok(piece.len())
+            }
             Err(_) => Err(IoRefused::Memory),
         }
     }
 }
 
 /// A writer of std, as standard output. Each refusal is a fault, and so is a write that takes
-/// nothing of a piece that is not empty.
+/// nothing of a piece that is not empty. No call answers `Memory`.
 #[derive(Drop)]
 pub struct OutputSink<W: Write + Drop> {
     writer: W,
@@ -163,7 +185,10 @@ pub struct OutputSink<W: Write + Drop> {
 
 impl<W: Write + Drop> OutputSink<W> {
     /// What the writer takes, with no fault yet.
-    pub fn new(writer: W) -> OutputSink<W> {
+    pub fn new(writer: W) -> OutputSink<W>
+        ensures writer { result.writer ≡ writer }
+        ensures faults { result.faults ≡ 0 }
+    {
         OutputSink { writer, faults: 0 }
     }
 }
@@ -172,6 +197,8 @@ impl<W: Write + Drop> Sink for OutputSink<W> {
     ghost contents = { λ s. W.contents s.writer };
 
     ghost faults = { λ s. s.faults };
+
+    ghost write_gives = { λ old _ result new. OutputWrite old.faults result new.faults };
 
     fn write(&mut self, piece: &[u8]) -> Result<usize, IoRefused> {
         match self.writer.write(piece) {

@@ -1,8 +1,12 @@
-ghost use Rattle.std.specs.Prelude.{◌≡◌, ◌<◌, ◌≤◌, ◌+◌, ℕ, List as Items, length, [], Some, drop, take};
+ghost use Rattle.std.specs.Prelude.{◌≡◌, ◌<◌, ◌≤◌, ◌+◌, ℕ, List as Items, length, [], Some, drop, take, min, ⊤};
+ghost use Rattle.std.specs.declared.result.Result.{Result};
 ghost use Rattle.std.specs.declared.option.Option.{Option};
 ghost use Rattle.std.specs.Io.{ReadsAtMost};
 ghost use Rattle.std.specs.Io.KnownBytes.{ReadConsumes};
+ghost use Rattle.spg_base.specs.declared.memory.Failed.{Failed};
 ghost use Rattle.spg_io.specs.Causes.{HasCause};
+ghost use Rattle.spg_io.specs.Calls.{no_calls};
+ghost use Rattle.spg_io.specs.Reads.{PlainRead, FaultyRead, InputRead};
 
 use spg_base::{Bytes, Failed, List};
 use std::io::Read;
@@ -16,21 +20,25 @@ pub trait Source {
     /// How often a call failed. It never falls.
     ghost faults: { Self → ℕ };
 
+    /// What else a form of source tells of a read: of the source before, the buffer after, the
+    /// answer and the source after.
+    ghost read_gives: { Self → Items ℕ → Result ℕ Failed → Self → Type 0 } = { λ _ _ _ _. ⊤ };
+
     /// Reads the next bytes into the front of the buffer, and says how many. None for a buffer
     /// with room is the end. `Failed` comes only where the count of faults rises.
     fn read(&mut self, buf: &mut [u8]) -> Result<usize, Failed>
         ensures bound { ReadsAtMost result buf.new }
         ensures bytes { ReadConsumes (left self.old) (left self.new) result buf.new }
-        ensures cause { HasCause (faults self.old) (faults self.new) result };
+        ensures cause { HasCause (faults self.old) (faults self.new) result }
+        ensures gives { read_gives self.old buf.new result self.new };
 }
 
 /// Copies as many bytes of `from` as fit, at most `most`, and says how many.
 fn copy_some(from: &[u8], most: usize, buf: &mut [u8]) -> usize
     requires { 0 < most }
-    ensures bound { result ≤ length buf.new }
+    ensures count { result ≡ min (min (length from.now) (length buf.new)) most }
     ensures bytes { take result buf.new ≡ take result from.now }
     ensures end { result ≡ 0 → 0 < length buf.new → from.now ≡ [] }
-    ensures within { result ≤ length from.now }
 {
     let count = from.len().min(buf.len()).min(most);
     buf[..count].copy_from_slice(&from[..count]);
@@ -46,11 +54,12 @@ pub struct PlainSource {
 }
 
 impl Model for PlainSource {
-    ghost use Rattle.std.specs.Prelude.{ℕ, List, drop, length, ◌<◌, ◌≤◌};
+    ghost use Rattle.std.specs.Prelude.{drop, length, ◌<◌, ◌≤◌};
+    ghost use Rattle.spg_io.specs.Reads.{Stock};
 
-    ghost Value = { List ℕ };
+    ghost Value = { Stock };
 
-    ghost view = { λ s. drop s.at s.bytes };
+    ghost view = { λ s. record { left = drop s.at s.bytes; most = s.most } };
 
     ghost invariant = { λ s. (0 < s.most) × (s.at ≤ length s.bytes) };
 }
@@ -59,16 +68,19 @@ impl PlainSource {
     /// These bytes, at most `most` of them in one read, which is 1 or more.
     pub fn new(bytes: Bytes, most: usize) -> PlainSource
         requires { 0 < most }
-        ensures { result ≡ bytes }
+        ensures left { result.left ≡ bytes }
+        ensures most { result.most ≡ most }
     {
         PlainSource { bytes, at: 0, most }
     }
 }
 
 impl Source for PlainSource {
-    ghost left = { λ s. Some s };
+    ghost left = { λ s. Some s.left };
 
     ghost faults = { λ _. 0 };
+
+    ghost read_gives = { PlainRead };
 
     fn read(&mut self, buf: &mut [u8]) -> Result<usize, Failed> {
         let count = copy_some(&self.bytes.as_slice()[self.at..], self.most, buf);
@@ -77,7 +89,7 @@ impl Source for PlainSource {
     }
 }
 
-/// Bytes in memory. The calls with these numbers fail, counted from 1.
+/// Bytes in memory. The calls with these numbers fail, counted from 1, and no other fails.
 #[derive(Drop)]
 pub struct FaultySource {
     bytes: Bytes,
@@ -90,11 +102,14 @@ pub struct FaultySource {
 
 impl Model for FaultySource {
     ghost use Rattle.std.specs.Prelude.{drop, length, ◌<◌, ◌≤◌};
-    ghost use Rattle.spg_io.specs.Faulty.{FaultyBytes};
+    ghost use Rattle.spg_io.specs.Reads.{FaultyStock};
 
-    ghost Value = { FaultyBytes };
+    ghost Value = { FaultyStock };
 
-    ghost view = { λ s. record { bytes = drop s.at s.bytes; faults = s.faults } };
+    ghost view = { λ s. record {
+      stock = record { left = drop s.at s.bytes; most = s.most };
+      calls = record { fails = s.fails; made = s.calls; faults = s.faults };
+    } };
 
     ghost invariant = { λ s. (0 < s.most) × (s.at ≤ length s.bytes) };
 }
@@ -103,8 +118,9 @@ impl FaultySource {
     /// These bytes, at most `most` of them in one read, which is 1 or more.
     pub fn new(bytes: Bytes, most: usize, fails: List<u64>) -> FaultySource
         requires { 0 < most }
-        ensures left { result.bytes ≡ bytes }
-        ensures faults { result.faults ≡ 0 }
+        ensures left { result.stock.left ≡ bytes }
+        ensures most { result.stock.most ≡ most }
+        ensures calls { result.calls ≡ no_calls fails }
     {
         FaultySource {
             bytes,
@@ -118,9 +134,11 @@ impl FaultySource {
 }
 
 impl Source for FaultySource {
-    ghost left = { λ s. Some s.bytes };
+    ghost left = { λ s. Some s.stock.left };
 
-    ghost faults = { λ s. s.faults };
+    ghost faults = { λ s. s.calls.faults };
+
+    ghost read_gives = { FaultyRead };
 
     fn read(&mut self, buf: &mut [u8]) -> Result<usize, Failed> {
         self.calls = self.calls.saturating_add(1);
@@ -143,7 +161,10 @@ pub struct InputSource<R: Read + Drop> {
 
 impl<R: Read + Drop> InputSource<R> {
     /// What the reader gives, with no fault yet.
-    pub fn new(reader: R) -> InputSource<R> {
+    pub fn new(reader: R) -> InputSource<R>
+        ensures reader { result.reader ≡ reader }
+        ensures faults { result.faults ≡ 0 }
+    {
         InputSource { reader, faults: 0 }
     }
 }
@@ -152,6 +173,8 @@ impl<R: Read + Drop> Source for InputSource<R> {
     ghost left = { λ s. R.remaining s.reader };
 
     ghost faults = { λ s. s.faults };
+
+    ghost read_gives = { λ old _ result new. InputRead old.faults result new.faults };
 
     fn read(&mut self, buf: &mut [u8]) -> Result<usize, Failed> {
         match self.reader.read(buf) {

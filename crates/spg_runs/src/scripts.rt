@@ -8,7 +8,7 @@ use std::alloc::{AllocError, Global};
 use std::test::Fail;
 
 /// Scripts, and the texts of their runs.
-const RUNS: [(&[u8], &[u8]); 9] = [
+const RUNS: [(&[u8], &[u8]); 12] = [
     (b"class quad", b"journal 0\n"),
     (b"class kd\n", b"journal 0\n"),
     (
@@ -38,6 +38,18 @@ const RUNS: [(&[u8], &[u8]); 9] = [
     (
         b"class radix\ninsert 1.1 null\nfind where le \"\" and gt \"z\"\nfind null",
         b"1 0 2 added\n2 2 4 found 0 walk 0\n3 4 6 found 1 walk 1 1.1\njournal 6\n0 0 open insert 1.1 null\n1 0 put 1.1\n2 0 open scan where le \"\" and gt \"z\"\n3 0 close scan 0\n4 0 open scan null\n5 0 close scan 1\n",
+    ),
+    (
+        b"class kd\ninsert 1.1 0,0\ninsert 1.1 5,5\ndelete 1.1\ndelete 1.1\ndelete 7.7\n",
+        b"1 0 2 added\n2 2 2 row used\n3 2 3 killed\n4 3 3 not live\n5 3 3 not live\njournal 3\n0 0 open insert 1.1 0,0\n1 0 put 1.1\n2 0 kill 1.1\n",
+    ),
+    (
+        b"class quad\ndelete 0.1\ninsert 4294967295.65535 null\ninsert 1.1 1,1\ndelete 4294967295.65535\nfind null\ninsert 4294967295.65535 1,1\nfind all",
+        b"1 0 0 not live\n2 0 2 added\n3 2 4 added\n4 4 5 killed\n5 5 7 found 0 walk 1\n6 7 7 row used\n7 7 9 found 1 walk 2 1.1\njournal 9\n0 0 open insert 4294967295.65535 null\n1 0 put 4294967295.65535\n2 0 open insert 1.1 1,1\n3 0 put 1.1\n4 0 kill 4294967295.65535\n5 0 open scan null\n6 0 close scan 0\n7 0 open scan all\n8 0 close scan 1\n",
+    ),
+    (
+        b"class radix\ninsert 1.1 \"ab\"\ninsert 1.2 \"ab\"\nfind where starts \"a\"\ndelete 1.2\nfind where starts \"a\"\ndelete 1.1\nfind where eq \"ab\"\n",
+        b"1 0 2 added\n2 2 4 added\n3 4 6 found 2 walk 2 1.1 1.2\n4 6 7 killed\n5 7 9 found 1 walk 2 1.1\n6 9 10 killed\n7 10 12 found 0 walk 2\njournal 12\n0 0 open insert 1.1 \"ab\"\n1 0 put 1.1\n2 0 open insert 1.2 \"ab\"\n3 0 put 1.2\n4 0 open scan where starts \"a\"\n5 0 close scan 2\n6 0 kill 1.2\n7 0 open scan where starts \"a\"\n8 0 close scan 1\n9 0 kill 1.1\n10 0 open scan where eq \"ab\"\n11 0 close scan 0\n",
     ),
 ];
 
@@ -90,7 +102,7 @@ fn adds_below_a_divided_root(rt: HostRuntime) -> Result<(), Fail> {
 }
 
 /// Bytes that break one rule of the grammar each, and their first bad line.
-const BAD: [(&[u8], u32); 63] = [
+const BAD: [(&[u8], u32); 70] = [
     (b"", 1),
     (b"\nclass quad", 1),
     (b"class", 1),
@@ -157,6 +169,13 @@ const BAD: [(&[u8], u32); 63] = [
     (b"class radi\n", 1),
     (b"class quad\nfind where left 3 and  right 4\n", 2),
     (b"class quad\nfind everything\n", 2),
+    (b"class quad\ndelete\n", 2),
+    (b"class quad\ndelete \n", 2),
+    (b"class quad\ndelete 1.1 \n", 2),
+    (b"class kd\ndelete 1.0\n", 2),
+    (b"class kd\ndelete 1.1 3,4\n", 2),
+    (b"class radix\ndelete  1.1\n", 2),
+    (b"class radix\ndelete 1.1\ndelete 1.01\n", 3),
 ];
 
 #[test]

@@ -40,6 +40,45 @@ fn runs_alike_for_each_class(rt: HostRuntime) -> Result<(), Fail> {
     Ok(())
 }
 
+/// 292 points on a line, which divide the root, the deletes of every second one of them, and queries.
+fn halved_commands<R: AllocGlobal>(rt: &R) -> Result<String, AllocError> {
+    let mut commands = String::new(rt.alloc());
+    for number in 1..293u16 {
+        let line = format!(in rt.alloc(); "insert 1.{number} {number},0\n")?;
+        commands.push_str(line.as_str())?;
+    }
+    for number in 1..147u16 {
+        let even = 2 * number;
+        let line = format!(in rt.alloc(); "delete 1.{even}\n")?;
+        commands.push_str(line.as_str())?;
+    }
+    commands.push_str("delete 1.292\ninsert 1.292 0,0\nfind where left 6\n")?;
+    Ok(commands)
+}
+
+/// Deleted rows stay claimed, and no query finds them.
+#[test]
+fn finds_no_deleted_row(rt: HostRuntime) -> Result<(), Fail> {
+    let commands = halved_commands(&rt)?;
+    for class in CLASSES {
+        let (status, taken) = ran_in(&rt, class, commands.as_str())?;
+        assert_eq!(rt; status, Status::Done);
+        let mut lines = taken.as_slice().split(|b| *b == b'\n').skip(292);
+        assert_eq!(rt; lines.next(), Some(b"293 584 585 killed".as_slice()));
+        let mut ends = lines.skip(144);
+        assert_eq!(rt; ends.next(), Some(b"438 729 730 killed".as_slice()));
+        assert_eq!(rt; ends.next(), Some(b"439 730 730 not live".as_slice()));
+        assert_eq!(rt; ends.next(), Some(b"440 730 730 row used".as_slice()));
+        let found = ends.next().unwrap_or(b"");
+        assert_eq!(rt; found.starts_with(b"441 730 732 found 3 walk "), true);
+        assert_eq!(rt; found.ends_with(b" 1.1 1.3 1.5"), true);
+        assert_eq!(rt; ends.next(), Some(b"journal 732".as_slice()));
+        assert_eq!(rt; ends.next(), Some(b"0 0 open insert 1.1 1,0".as_slice()));
+        assert_eq!(rt; ends.skip(583).next(), Some(b"584 0 kill 1.2".as_slice()));
+    }
+    Ok(())
+}
+
 /// Every fiftieth row has a null.
 fn is_null(number: u16) -> bool {
     number % 50 == 0

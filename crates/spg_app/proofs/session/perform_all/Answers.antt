@@ -1,7 +1,7 @@
 use Rattle.std.proofs.Common.{◌++◌, [], ◌∷◌, sym, ap, ◌∙◌, take}
 use Rattle.std.proofs.lemmas.List.{take_more}
 use Rattle.spg_app.specs.declared.command.Command.{Command}
-use Rattle.spg_app.proofs.Runs.{RunTo-push}
+use Rattle.spg_app.proofs.Runs.{RunTo-push, performed_alone}
 use Rattle.spg_app.proofs.session.perform_all.Goals as goal
 
 pub loop-command-preserved : goal.loop-command-preserved
@@ -10,5 +10,6 @@ loop-command-preserved g c =
     record {
       run = rw (more, c.in_ok-push.ensures.ok) (RunTo-push g.O.OpClass.meaning g.O.Spoken.speech _ _ _ _ _ _ c.loop-command.invariant.run c.in_ok-one.ensures.done);
       at_rest = c.in_ok-one.ensures.free;
+      alone = performed_alone g.O.OpClass.meaning g.O.Spoken.speech _ _ _ _ c.in_ok-one.ensures.done c.loop-command.invariant.alone;
       origin = c.in_ok-one.ensures.done.origin ∙ c.loop-command.invariant.origin;
     }

@@ -6,10 +6,10 @@ use Rattle.spg_core.specs.Seen.{Seen}
 use Rattle.spg_app.specs.declared.command.Command.{Command}
 use Rattle.spg_app.specs.declared.record.Record.{Record}
 use Rattle.spg_app.specs.Speech.{Speech}
-use Rattle.spg_app.specs.Run.{RunTo}
+use Rattle.spg_app.specs.Run.{RunTo, made_with}
 use Rattle.spg_app.specs.Text.{text}
 use Rattle.spg_app.specs.Io.{WroteSome}
-use Rattle.spg_app.specs.Ending.{RanCommands, made_with}
+use Rattle.spg_app.specs.Ending.{RanCommands}
 use Rattle.spg_app.proofs.session.run_commands.Goals as goal
 
 front : {O Key Recon Cond : Type 0} (m : Meaning Key Recon Cond) (speech : Speech Key Cond) (commands : List Command) (taken taken_after : Option (List ℕ)) (seen : Seen O Key Recon Cond) (told : List (Event O Key Recon Cond)) (records listed : List Record)

@@ -1,4 +1,4 @@
-use Rattle.std.proofs.Common.{◌≡◌, ◌≤◌, ◌-◌, ℕ, List, [], ◌∷◌, length, Option, Some, None, refl, sym, ap, ◌∙◌, arith, length-append}
+use Rattle.std.proofs.Common.{◌≡◌, ◌≤◌, ◌-◌, ℕ, [], ◌∷◌, length, None, refl, sym, ap, ◌∙◌, arith, length-append}
 use Rattle.spg_app.specs.Reading.{told, now_of, text_of, put_bytes}
 use Rattle.spg_app.proofs.TextLemmas.{read_end, read_none, read_more, past_longest}
 use Rattle.spg_app.proofs.texts.text.Goals as goal
