@@ -26,7 +26,7 @@ counted_twice n = omega arith
 
 module _ {O Key Recon Cond : Type 0} (m : Meaning Key Recon Cond) where
   pub reads_nothing : (s : Seen O Key Recon Cond) (seat : ℕ) → ReadsOn m s s seat
-  reads_nothing s seat = record { journal = refl; origin = refl; pages = refl; scanning = λ is. is; scan = λ query is. is }
+  reads_nothing s seat = record { journal = refl; origin = refl; pages = (refl, refl); scanning = λ is. is; scan = λ query is. is }
 
   read_rests : (t : Table) (table : rows.Table O Key Recon Cond) (s s2 : Scanning O Key Recon Cond) (item seat : ℕ) (out : ReadOut) (query : Query O Key Recon Cond) → Shape m (sheets_of t) → IsReadOut m t table s s2 item seat out
       → IsRestingScan m (sheets_of t) query (reading s) → IsRestingScan m (sheets_of t) query (reading s2)
@@ -40,7 +40,7 @@ module _ {O Key Recon Cond : Type 0} (m : Meaning Key Recon Cond) where
   reads_of s1 s2 seat item out (reading s) at H (z, table, states, read, new, stage) = record {
     journal = ap (λ x. x.journal) new;
     origin = ap (λ x. x.origin) new;
-    pages = ap (λ x. sheets_of x.table) new;
+    pages = (ap (λ x. sheets_of x.table) new, ap (λ x. x.table.limit) new);
     scanning = λ was. subst (λ (x : Stage O Key Recon Cond). IsScanning x) (sym stage) tt;
     scan = λ query was. subst (λ (x : Stage O Key Recon Cond). IsRestingScan m (sheets_of s1.table) query x) (sym stage)
         (read_rests s1.table table s z item seat out query H read (subst (λ (x : Stage O Key Recon Cond). IsRestingScan m (sheets_of s1.table) query x) at was));
@@ -48,14 +48,14 @@ module _ {O Key Recon Cond : Type 0} (m : Meaning Key Recon Cond) where
 
   pub reads_further : (s0 s1 s2 : Seen O Key Recon Cond) (seat item : ℕ) (out : ReadOut) → Shape m (sheets_of s0.table) → ReadsOn m s0 s1 seat → ReadsItem m s1 s2 seat item out → ReadsOn m s0 s2 seat
   reads_further s0 s1 s2 seat item out H R is =
-      let Q : ReadsOn m s1 s2 seat = reads_of s1 s2 seat item out (stage_at s1 seat) refl (subst (λ (S : Sheets). Shape m S) (sym R.pages) H) is in
+      let Q : ReadsOn m s1 s2 seat = reads_of s1 s2 seat item out (stage_at s1 seat) refl (subst (λ (S : Sheets). Shape m S) (sym R.pages.0) H) is in
       record {
         journal = Q.journal ∙ R.journal;
         origin = Q.origin ∙ R.origin;
-        pages = Q.pages ∙ R.pages;
+        pages = (Q.pages.0 ∙ R.pages.0, Q.pages.1 ∙ R.pages.1);
         scanning = λ was. Q.scanning (R.scanning was);
-        scan = λ query was. subst (λ (S : Sheets). IsRestingScan m S query (stage_at s2 seat)) R.pages
-            (Q.scan query (subst (λ (S : Sheets). IsRestingScan m S query (stage_at s1 seat)) (sym R.pages) (R.scan query was)));
+        scan = λ query was. subst (λ (S : Sheets). IsRestingScan m S query (stage_at s2 seat)) R.pages.0
+            (Q.scan query (subst (λ (S : Sheets). IsRestingScan m S query (stage_at s1 seat)) (sym R.pages.0) (R.scan query was)));
       }
 
   pub opens_resting : (s0 s1 : Seen O Key Recon Cond) (seat : ℕ) (query : Query O Key Recon Cond) → Shape m (sheets_of s1.table) → OpensScan m s0 s1 seat query → IsRestingScan m (sheets_of s1.table) query (stage_at s1 seat)

@@ -1,23 +1,26 @@
 -- A run goes on by one command.
 use Rattle.std.proofs.Common.{◌≡◌, ◌⊎◌, ◌<◌, ◌≤◌, ◌+◌, ◌-◌, inl, inr, ℕ, zero, suc, List, [], ◌∷◌, ◌++◌, length, take, drop, reverse, refl, sym, ap, ◌∙◌, subst, arith, length-append, length-drop}
-use Rattle.std.specs.List.{AllZip}
+use Rattle.std.specs.List.{AllZip, AllByRecursion}
 use Rattle.std.proofs.lemmas.List.{drop-append-le, take-append-le, take_at, drop_at, take_all}
 use Rattle.std.proofs.lemmas.Bool.{cases_lt, eq-eqb}
 use Rattle.spg_opclass.specs.Meaning.{Meaning}
 use Rattle.spg_forest.specs.Sheets.{Sheets}
 use Rattle.spg_rows.specs.declared.event.Event.{Event}
 use Rattle.spg_rows.specs.History.{seat_of, own}
-use Rattle.spg_tree.specs.Table.{sheets_of}
+use Rattle.spg_tree.specs.Table.{Table, sheets_of}
+use Rattle.spg_core.specs.Stepping.{Grows}
 use Rattle.spg_core.specs.Sections.{IsNew}
 use Rattle.spg_core.specs.Seen.{Seen}
 use Rattle.spg_app.specs.declared.command.AnyQuery.{AnyQuery}
 use Rattle.spg_app.specs.declared.command.Command.{Command}
 use Rattle.spg_app.specs.declared.command.Command.TheVariants.{Insert, Delete, Find}
+use Rattle.spg_app.specs.declared.record.Outcome.{Outcome}
+use Rattle.spg_app.specs.declared.record.Outcome.TheVariants.{Added, RowUsed, Full, ClockFull, Killed, NotLive, Found}
 use Rattle.spg_app.specs.declared.record.Record.{Record}
 use Rattle.spg_app.specs.Speech.{Speech}
 use Rattle.spg_app.specs.Walks.{TellsWalk, AreFinds, TellsWalks}
 use Rattle.spg_app.proofs.Alone.{alone_append}
-use Rattle.spg_app.specs.Run.{Does, IsDue, between, past_at, IsAlone, IsBySeat, Did, InOrder, IsInSome, RunOf, RunTo, Performed, Leads, made_with}
+use Rattle.spg_app.specs.Run.{Does, IsDue, between, past_at, IsAlone, IsBySeat, Did, InOrder, IsInSome, RunOf, RunTo, Performed, IsCaused, Leads, made_with}
 
 -- ---- records in order
 
@@ -43,6 +46,22 @@ each_push R [] [] x y all one = (one, tt)
 each_push R [] (b ∷ ys) x y all one = absurd all
 each_push R (a ∷ xs) [] x y all one = absurd all
 each_push R (a ∷ xs) (b ∷ ys) x y all one = (all.0, each_push R xs ys x y all.1 one)
+
+-- ---- why inserts were given up
+
+-- what the pages said they go on to say
+caused_later : (t t2 : Table) → Grows t t2 → (outcome : Outcome) → IsCaused t outcome → IsCaused t2 outcome
+caused_later t t2 grows Full cause = omega (arith, grows.0, grows.1)
+caused_later t t2 grows ClockFull cause = omega (arith, grows.2)
+caused_later t t2 grows Added cause = tt
+caused_later t t2 grows RowUsed cause = tt
+caused_later t t2 grows Killed cause = tt
+caused_later t t2 grows NotLive cause = tt
+caused_later t t2 grows (Found rows walk) cause = tt
+
+causes_push : (t t2 : Table) → Grows t t2 → (records : List Record) (r : Record) → AllByRecursion (λ x. IsCaused t x.outcome) records → IsCaused t2 r.outcome → AllByRecursion (λ x. IsCaused t2 x.outcome) (records ++ r ∷ [])
+causes_push t t2 grows [] r causes one = (one, tt)
+causes_push t t2 grows (x ∷ records) r causes one = (caused_later t t2 grows x.outcome causes.0, causes_push t t2 grows records r causes.1 one)
 
 -- ---- what the finds at the end tell
 
@@ -177,7 +196,7 @@ module _ {O Key Recon Cond : Type 0} (m : Meaning Key Recon Cond) (speech : Spee
   leads_push start (x ∷ commands) (y ∷ records) old new c r (next, one, more) p = (next, one, leads_push next commands records old new c r more p)
 
   pub RunTo-nil : (seen : Seen O Key Recon Cond) → IsNew made_with.limit seen → RunTo m speech [] seen []
-  RunTo-nil seen is_new = record { start = seen; is_new = is_new; steps = refl; run = RunOf-nil seen.journal is_new.journal; walks = tt }
+  RunTo-nil seen is_new = record { start = seen; is_new = is_new; steps = refl; run = RunOf-nil seen.journal is_new.journal; causes = tt; walks = tt }
 
   pub RunTo-push : (commands : List Command) (old new : Seen O Key Recon Cond) (records : List Record) (c : Command) (r : Record) → RunTo m speech commands old records → Performed m speech old new c r → RunTo m speech (commands ++ c ∷ []) new (records ++ r ∷ [])
   RunTo-push commands old new records c r run p = record {
@@ -185,5 +204,6 @@ module _ {O Key Recon Cond : Type 0} (m : Meaning Key Recon Cond) (speech : Spee
     is_new = run.is_new;
     steps = leads_push run.start commands records old new c r run.steps p;
     run = RunOf-push commands old new records c r run.run p;
+    causes = causes_push old.table new.table p.grows records r run.causes p.cause;
     walks = walks_push commands old new records c r run.walks p;
   }

@@ -13,7 +13,7 @@ use Rattle.spg_rows.specs.Rows.{is_claimed, is_live}
 use Rattle.spg_rows.specs.Told.{IsUsed}
 use Rattle.spg_tree.specs.Table.{Table, sheets_of}
 use Rattle.spg_core.specs.Seen.{Seen}
-use Rattle.spg_core.specs.Stepping.{IsNearLimit}
+use Rattle.spg_core.specs.Stepping.{IsNearLimit, Grows}
 use Rattle.spg_core.specs.Sections.{IsNew}
 use Rattle.spg_core.specs.Weight.{opened_keys}
 use Rattle.spg_app.specs.declared.command.Command.{Command}
@@ -67,10 +67,10 @@ IsDue m (Delete row) ClockFull before past = ⊤
 IsDue m (Delete row) (Found rows walk) before past = ⊤
 IsDue m (Find query) outcome before past = ⊤
 
--- what the pages say where the command ends: where the index is full, that fewer than 4 blocks are left below its limit, and where its clock is, that this is 2^48 - 1
+-- what the pages say from there on: where the index is full, that fewer than 4 blocks are left below its limit, and where its clock is, that this has come to 2^48 - 1
 abbrev pub IsCaused : Table → Outcome → Type 0
 IsCaused t Full = IsNearLimit t
-IsCaused t ClockFull = t.clock + 1 ≡ 2 ^ 48
+IsCaused t ClockFull = 2 ^ 48 ≤ t.clock + 1
 IsCaused t Added = ⊤
 IsCaused t RowUsed = ⊤
 IsCaused t Killed = ⊤
@@ -128,6 +128,7 @@ pub record Performed {O Key Recon Cond : Type 0} (m : Meaning Key Recon Cond) (s
   pub does : Does speech 0 command r.outcome events
   pub due : IsDue m command r.outcome (reverse old.journal) (reverse new.journal)
   pub cause : IsCaused new.table r.outcome
+  pub grows : Grows old.table new.table
   pub origin : new.origin ≡ old.origin
   pub pages : AreFinds (command ∷ []) → sheets_of new.table ≡ sheets_of old.table
   pub walk : TellsWalk O m speech (sheets_of new.table) command r.outcome
@@ -148,6 +149,7 @@ pub record RunTo {O Key Recon Cond : Type 0} (m : Meaning Key Recon Cond) (speec
   pub start : Seen O Key Recon Cond
   pub is_new : IsNew made_with.limit start
   pub steps : Leads m speech start commands records seen
-  -- what that says of the journal, and of finds at the end
+  -- what that says of the journal, of the pages, and of finds at the end
   pub run : RunOf m speech commands seen.journal records
+  pub causes : AllByRecursion (λ r. IsCaused seen.table r.outcome) records
   pub walks : TellsWalks O m speech (sheets_of seen.table) commands records

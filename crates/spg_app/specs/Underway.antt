@@ -9,6 +9,7 @@ use Rattle.spg_tree.specs.Table.{sheets_of}
 use Rattle.spg_scan.specs.Scanning.{counted}
 use Rattle.spg_scan.specs.Rest.{IsAtRest}
 use Rattle.spg_core.specs.Stage.{Stage, free, descending, reading, IsRead}
+use Rattle.spg_core.specs.Stepping.{SamePages}
 use Rattle.spg_core.specs.Through.{IsInsertOf}
 use Rattle.spg_core.specs.Seen.{Seen, stage_at, past_of}
 use Rattle.spg_core.specs.Weight.{opened_keys}
@@ -33,7 +34,7 @@ IsRestingScan m S query (reading s) = (s.query ≡ query) × (counted s.met ≡ 
 pub record ReadsOn {O Key Recon Cond : Type 0} (m : Meaning Key Recon Cond) (old new : Seen O Key Recon Cond) (seat : ℕ) : Type 0 where
   pub journal : new.journal ≡ old.journal
   pub origin : new.origin ≡ old.origin
-  pub pages : sheets_of new.table ≡ sheets_of old.table
+  pub pages : SamePages old.table new.table
   pub scanning : IsScanning (stage_at old seat) → IsScanning (stage_at new seat)
   pub scan : (query : Query O Key Recon Cond) → IsRestingScan m (sheets_of old.table) query (stage_at old seat) → IsRestingScan m (sheets_of old.table) query (stage_at new seat)
 

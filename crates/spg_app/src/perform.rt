@@ -7,7 +7,7 @@ ghost use Rattle.spg_core.specs.Stage.{free, IsInserting, held_count};
 ghost use Rattle.spg_core.specs.Seen.{stage_at};
 ghost use Rattle.spg_app.specs.Speech.{key_or_null_in, conds_in, query_in, IsKnown};
 ghost use Rattle.spg_app.specs.Run.{Performed, IsAlone};
-ghost use Rattle.spg_core.specs.Stepping.{IsNearLimit};
+ghost use Rattle.spg_core.specs.Stepping.{IsNearLimit, Grows};
 ghost use Rattle.spg_core.specs.Through.{StillInserts, PutsRow};
 ghost use Rattle.spg_app.specs.Underway.{HasOutgrown, IsScanning, ReadsToEnd};
 ghost use Rattle.spg_app.specs.declared.command.Command.TheVariants.{Insert, Delete, Find};
@@ -65,6 +65,7 @@ fn put<O: Spoken>(state: &mut State<O>, seat: SeatNo) -> Result<(), StepRefused>
     ensures full { IsErrOf result IndexFull → HasOutgrown O.meaning state.old seat × IsNearLimit state.new.table }
     ensures clock { IsErrOf result ClockFull → HasOutgrown O.meaning state.old seat × (state.new.table.clock + 1 ≡ 2 ^ 48) }
     ensures err { OnErr result (StillInserts state.old state.new seat) }
+    ensures grows { Grows state.old.table state.new.table }
 {
     match state.insert_through(seat)? {
         InsertRan::Put => Ok(()),

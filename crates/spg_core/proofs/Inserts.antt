@@ -22,7 +22,7 @@ use Rattle.spg_core.specs.declared.answer.InsertOut.TheVariants as outs
 use Rattle.spg_core.specs.declared.slot.Slot.{Slot}
 use Rattle.spg_core.specs.declared.slot.Slot.TheVariants.{Free, Insert, Scan}
 use Rattle.spg_core.specs.declared.state.State.TheInside.{Inside}
-use Rattle.spg_core.specs.Stepping.{SamePages, MakesAtMostOne, IsStepOut}
+use Rattle.spg_core.specs.Stepping.{SamePages, Grows, MakesAtMostOne, IsStepOut}
 use Rattle.spg_core.specs.Telling.{StepTells, StepDone}
 use Rattle.spg_core.specs.Ends.{EndsWithin, StageEnds, SeatEnds, SeatThenEnds}
 use Rattle.spg_core.specs.Operations.{CanStep, IsOutgrownBy, StepsFrom, IsInsert, IsRowOf}
@@ -33,7 +33,7 @@ use Rattle.spg_core.specs.Stage.{IsInserting}
 use Rattle.spg_core.specs.Seen.{Seen, moved, logged}
 use Rattle.spg_core.specs.Kept.{fields_of, seen_of, IsState}
 use Rattle.spg_core.proofs.Weights.{nulls_key}
-use Rattle.spg_core.proofs.Keeping.{outgrown_heavy, its_held, section_changes, step_keeps, put_keeps}
+use Rattle.spg_core.proofs.Keeping.{outgrown_heavy, its_held, section_changes, section_grows, step_keeps, put_keeps}
 use Rattle.spg_core.proofs.Slots.{set_twice, stages_set, stage_set, stage_get, stage_is, past_is, table_is, moved_is, logged_is, seen_as}
 use Rattle.spg_core.proofs.Steps.{with_fields, past, seats, low, room_on, room_ended, unswept_then, insert_claimed}
 
@@ -276,6 +276,12 @@ module _ {O Key Recon Cond : Type 0} (m : Meaning Key Recon Cond) (codes : CodeL
     within_step out Free t2 slots e h = absurd h
     within_step out (Scan x) t2 slots e h = absurd h
     within_step out (Insert key d) t2 slots e (d2, items, S) = at_table (λ t. ChangesHeld t t2 seat) (section_changes m (fields_of s) I.kept seat key d (at_stage key d d2 t2 e) t2 d2 out S)
+
+    -- no page is lost
+    pub grows_step : (out : InsertOut) (slot : Slot O Key Recon Cond) (t2 : pages.Table) (slots : List (Slot O Key Recon Cond)) → get_or s.slots.items seat Free ≡ slot → StepsFrom m s.table t2 s.slots.items slots seat out slot → Grows seen.table t2
+    grows_step out Free t2 slots e h = absurd h
+    grows_step out (Scan x) t2 slots e h = absurd h
+    grows_step out (Insert key d) t2 slots e (d2, items, S) = at_table (λ t. Grows t t2) (section_grows m (fields_of s) I.kept seat key d (at_stage key d d2 t2 e) t2 d2 out S)
 
     -- one of the sections that may come is taken
     ends_seen : (key : Option Key) (d : Descending Recon) (n : ℕ) → get_or s.slots.items seat Free ≡ Insert key d → SeatEnds m seen seat n → EndsWithin m s.table d n

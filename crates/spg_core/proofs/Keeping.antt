@@ -26,8 +26,9 @@ use Rattle.spg_seats.proofs.Calls as calls
 use Rattle.spg_seats.proofs.Holding.{latches_law}
 use Rattle.spg_core.specs.declared.answer.InsertOut.{InsertOut}
 use Rattle.spg_core.specs.declared.answer.InsertOut.TheVariants as outs
-use Rattle.spg_core.specs.Stepping.{GoesOn, RootsGrow, IsOutgrown}
+use Rattle.spg_core.specs.Stepping.{Grows, GoesOn, RootsGrow, IsOutgrown}
 use Rattle.spg_core.specs.Telling.{StepDone}
+use Rattle.spg_core.proofs.Growing.{step_grows}
 use Rattle.spg_core.proofs.Weights.{root_heavy}
 
 module _ {O Key Recon Cond : Type 0} (m : Meaning Key Recon Cond) (codes : CodeLaw m) (s : Fields O Key Recon Cond) (kept : IsKept m s) (seat : ℕ) where
@@ -62,6 +63,9 @@ module _ {O Key Recon Cond : Type 0} (m : Meaning Key Recon Cond) (s : Fields O 
 
     pub section_changes : (t2 : pages.Table) (d2 : Descending Recon) (out : InsertOut) → StepDone m s.table t2 d d2 seat out → ChangesHeld s.table t2 seat
     section_changes t2 d2 out S = S.within (λ b h. its_held.latch b ∙ ap (λ k. cond k (Some seat) (rest_of s.table seat b)) h)
+
+    pub section_grows : (t2 : pages.Table) (d2 : Descending Recon) (out : InsertOut) → StepDone m s.table t2 d d2 seat out → Grows s.table t2
+    section_grows t2 d2 out S = step_grows m s.table t2 d d2 seat out key (stage_fits (descending key d) here).1 S.ok
 
 module _ {O Key Recon Cond : Type 0} (m : Meaning Key Recon Cond) (codes : CodeLaw m) (s : Fields O Key Recon Cond) (kept : IsKept m s) (seat : ℕ) (key : Option Key) (d : Descending Recon) (here : stage_in s.stages seat ≡ descending key d) (s2 : Fields O Key Recon Cond) (d2 : Descending Recon) where
   abbrev past : History O Key Recon Cond

@@ -13,6 +13,7 @@ pub mod Ticks
 pub mod Slots
 pub mod Sweeps
 pub mod Steps
+pub mod Growing
 pub mod Keeping
 pub mod Inserts
 pub mod Going

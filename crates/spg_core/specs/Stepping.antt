@@ -1,5 +1,5 @@
 -- Where an open insert stands in a table, and what a section of it does.
-use Rattle.std.specs.Prelude.{◌≡◌, ◌⊎◌, ◌<◌, ◌+◌, ℕ, Bool, true, false, List, [], length, Option, Some, None, if◌then◌else◌}
+use Rattle.std.specs.Prelude.{◌≡◌, ◌⊎◌, ◌<◌, ◌≤◌, ◌+◌, ℕ, Bool, true, false, List, [], length, Option, Some, None, if◌then◌else◌}
 use Rattle.spg_opclass.specs.Meaning.{Meaning}
 use Rattle.spg_forest.specs.View.{Place}
 use Rattle.spg_forest.specs.Spot.{Frame}
@@ -31,6 +31,10 @@ use Rattle.spg_core.specs.declared.answer.InsertOut.TheVariants.{Descended, Rest
 -- the pages stay as they are
 abbrev pub SamePages : Table → Table → Type 0
 SamePages t t2 = (sheets_of t2 ≡ sheets_of t) × (t2.limit ≡ t.limit)
+
+-- the limit stays, no page fewer is there, and the clock is not behind
+abbrev pub Grows : Table → Table → Type 0
+Grows t t2 = (t2.limit ≡ t.limit) × (length t.pages ≤ length t2.pages) × (t.clock ≤ t2.clock)
 
 -- the insert goes on: it is of the same row, stands somewhere, and carries the key that it carried
 abbrev pub GoesOn : {Key Recon Cond : Type 0} → Meaning Key Recon Cond → Table → Table → Descending Recon → Descending Recon → Type 0

@@ -14,7 +14,7 @@ ghost use Rattle.spg_seats.specs.Slots.{StageFits, LatchesAre, kept_key};
 ghost use Rattle.spg_seats.specs.Descending.{ChangesHeld};
 ghost use Rattle.spg_core.specs.Stage.{free, IsInserting, IsRead, IsStageOf, MayGiveUp, held_count, kind_of};
 ghost use Rattle.spg_core.specs.Seen.{stage_at, past_of, IsPresentWith};
-ghost use Rattle.spg_core.specs.Stepping.{IsNearLimit, MakesAtMostOne};
+ghost use Rattle.spg_core.specs.Stepping.{IsNearLimit, Grows, MakesAtMostOne};
 ghost use Rattle.spg_core.specs.Ends.{SeatEnds, SeatThenEnds};
 ghost use Rattle.spg_core.specs.Kept.{RootsAreHeavy, IsUnswept};
 ghost use Rattle.spg_core.specs.Counts.{IsStat};
@@ -201,8 +201,8 @@ impl<O: OpClass> State<O> {
     /// root or child to be visited stands on a block that another seat has latched: the insert is
     /// at its start then. It changes only blocks that the seat had latched or that nobody had; at
     /// its start, and once its row is put, the seat has latched none. The latches of the other
-    /// seats stay. It makes one inner tuple at most, and takes one of the sections that may come
-    /// yet.
+    /// seats stay. No page is lost, and the clock does not go back. It makes one inner tuple at
+    /// most, and takes one of the sections that may come yet.
     pub fn insert_step(&mut self, seat: SeatNo) -> Result<InsertOut, StepRefused>
         requires inserting { IsInserting (stage_at self.old seat) }
         ensures ok { IfOk result (λ out. IsInsertOut self.old self.new seat out) }
@@ -210,6 +210,7 @@ impl<O: OpClass> State<O> {
         ensures latches { IfOk result (λ out. LatchesAfter self.new seat out) }
         ensures others { OthersHold self.old.table self.new.table seat }
         ensures within { ChangesHeld self.old.table self.new.table seat }
+        ensures grows { Grows self.old.table self.new.table }
         ensures makes { IfOk result (λ _. MakesAtMostOne self.old.table self.new.table) }
         ensures ends { IfOk result (λ out. (n : ℕ) → SeatEnds O.meaning self.old seat (suc n) → SeatThenEnds O.meaning self.new seat n out) }
         ensures full { IsErrOf result StepRefused.IndexFull → IsHeavy O.meaning self.old seat × IsNearLimit self.old.table }

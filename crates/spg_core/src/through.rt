@@ -2,7 +2,7 @@ ghost use Rattle.std.specs.Prelude.{◌≡◌, ◌+◌, ◌^◌, IfOk, OnErr, Is
 ghost use Rattle.spg_tree.specs.declared.stand.StepRefused.TheVariants.{IndexFull, ClockFull};
 ghost use Rattle.spg_core.specs.Stage.{IsInserting};
 ghost use Rattle.spg_core.specs.Seen.{stage_at};
-ghost use Rattle.spg_core.specs.Stepping.{IsNearLimit};
+ghost use Rattle.spg_core.specs.Stepping.{IsNearLimit, Grows};
 ghost use Rattle.spg_seats.specs.Descending.{ChangesHeld};
 ghost use Rattle.spg_core.specs.Sections.{IsHeavy, OthersHold, SeatFindsNoPage, SeatTicks};
 ghost use Rattle.spg_core.specs.Through.{StillInserts, RunsThrough};
@@ -21,12 +21,13 @@ impl<O: OpClass> State<O> {
     /// limit, `ClockFull` only where the clock is 2^48 - 1, and both only where the keys of its tree
     /// that were ever inserted take more than 8,160 bytes. After `Put` and `Restarted` the seat has
     /// nothing latched. Only blocks change that the seat had latched or that nobody had, and the latches
-    /// of the other seats stay. It waits for nobody.
+    /// of the other seats stay. No page is lost, and the clock does not go back. It waits for nobody.
     pub fn insert_through(&mut self, seat: SeatNo) -> Result<InsertRan, StepRefused>
         requires inserting { IsInserting (stage_at self.old seat) }
         ensures ok { IfOk result (λ ran. RunsThrough self.old self.new seat ran) }
         ensures others { OthersHold self.old.table self.new.table seat }
         ensures within { ChangesHeld self.old.table self.new.table seat }
+        ensures grows { Grows self.old.table self.new.table }
         ensures full { IsErrOf result IndexFull → IsHeavy O.meaning self.new seat × IsNearLimit self.new.table }
         ensures clock { IsErrOf result ClockFull → IsHeavy O.meaning self.new seat × (self.new.table.clock + 1 ≡ 2 ^ 48) }
         ensures full_where { IsErrOf result IndexFull → SeatFindsNoPage O.meaning self.new seat }

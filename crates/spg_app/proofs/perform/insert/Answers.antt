@@ -25,14 +25,14 @@ returns-in-Ok-put-clause-done g c =
     let spans : Spans c.recorded-in-Ok-put.result Added (length c.args.state.now.journal) (length c.put.new.state.journal) =
     record { outcome_is = c.recorded-in-Ok-put.ensures.outcome; from_is = c.recorded-in-Ok-put.ensures.from ∙ c.position-from.ensures.count; to_is = c.recorded-in-Ok-put.ensures.to } in
     added g.O.OpClass.meaning g.O.Spoken.speech c.args.state.now c.open_insert.new.self c.first-seat.result c.first-seat.ensures c.args.row c.args.key.now c.in-Some.found (sym c.in_ok-found.ensures ∙ c.in-Some.is) c.in-Ok.ensures.ok c.recorded-in-Ok-put.result
-    c.put.new.state c.in-Ok-put.ensures.ok c.recorded-in-Ok-put.ensures.right spans
+    c.put.new.state c.in-Ok-put.ensures.ok c.put.ensures.grows c.recorded-in-Ok-put.ensures.right spans
 
 pub returns-in-Err-IndexFull-clause-done : goal.returns-in-Err-IndexFull-clause-done
 returns-in-Err-IndexFull-clause-done g c =
     let spans : Spans c.recorded-in-Err-IndexFull.result Full (length c.args.state.now.journal) (length c.abandon.new.self.journal) =
     record { outcome_is = c.recorded-in-Err-IndexFull.ensures.outcome; from_is = c.recorded-in-Err-IndexFull.ensures.from ∙ c.position-from.ensures.count; to_is = c.recorded-in-Err-IndexFull.ensures.to } in
     full g.O.OpClass.meaning g.O.Spoken.speech c.args.state.now c.open_insert.new.self c.first-seat.result c.first-seat.ensures c.args.row c.args.key.now c.in-Some.found (sym c.in_ok-found.ensures ∙ c.in-Some.is) c.in-Ok.ensures.ok c.recorded-in-Err-IndexFull.result
-    c.put.new.state c.abandon.new.self c.in-Err-IndexFull.ensures.err c.abandon.ensures c.recorded-in-Err-IndexFull.ensures.right (c.put.ensures.full (c.in-Err-IndexFull.is ∙ ap Err c.in-Err-IndexFull.field-0-is)) spans
+    c.put.new.state c.abandon.new.self c.in-Err-IndexFull.ensures.err c.abandon.ensures c.put.ensures.grows c.recorded-in-Err-IndexFull.ensures.right (c.put.ensures.full (c.in-Err-IndexFull.is ∙ ap Err c.in-Err-IndexFull.field-0-is)) spans
 
 pub abandon-requires-in-Err-ClockFull-clause-open : goal.abandon-requires-in-Err-ClockFull-clause-open
 abandon-requires-in-Err-ClockFull-clause-open g c =
@@ -49,4 +49,4 @@ returns-in-Err-ClockFull-clause-done g c =
     let spans : Spans c.recorded-in-Err-ClockFull.result ClockFull (length c.args.state.now.journal) (length c.abandon-in-Err-ClockFull.new.self.journal) =
     record { outcome_is = c.recorded-in-Err-ClockFull.ensures.outcome; from_is = c.recorded-in-Err-ClockFull.ensures.from ∙ c.position-from.ensures.count; to_is = c.recorded-in-Err-ClockFull.ensures.to } in
     clock_full g.O.OpClass.meaning g.O.Spoken.speech c.args.state.now c.open_insert.new.self c.first-seat.result c.first-seat.ensures c.args.row c.args.key.now c.in-Some.found (sym c.in_ok-found.ensures ∙ c.in-Some.is) c.in-Ok.ensures.ok c.recorded-in-Err-ClockFull.result
-    c.put.new.state c.abandon-in-Err-ClockFull.new.self c.in-Err-ClockFull.ensures.err c.abandon-in-Err-ClockFull.ensures c.recorded-in-Err-ClockFull.ensures.right (c.put.ensures.clock (c.in-Err-ClockFull.is ∙ ap Err c.in-Err-ClockFull.field-0-is)) spans
+    c.put.new.state c.abandon-in-Err-ClockFull.new.self c.in-Err-ClockFull.ensures.err c.abandon-in-Err-ClockFull.ensures c.put.ensures.grows c.recorded-in-Err-ClockFull.ensures.right (c.put.ensures.clock (c.in-Err-ClockFull.is ∙ ap Err c.in-Err-ClockFull.field-0-is)) spans

@@ -1,6 +1,6 @@
 use Rattle.std.proofs.Common.{rules, ℕ, suc, ◌≡◌, ◌<◌, ◌+◌, ◌^◌, sym, refl, ap, ◌∙◌, subst, get_or, arith, length, inl}
 use Rattle.std.proofs.lemmas.Bool.{false≢true}
-use Rattle.spg_tree.specs.Table.{Table}
+use Rattle.spg_tree.specs.Table.{Table, sheets_of}
 use Rattle.spg_seats.specs.Descending.{ChangesHeld}
 use Rattle.spg_core.specs.declared.answer.InsertOut.{InsertOut}
 use Rattle.spg_core.specs.declared.answer.InsertOut.TheVariants as outs
@@ -10,11 +10,12 @@ use Rattle.spg_core.specs.Stage.{Stage, IsInserting}
 use Rattle.spg_core.specs.Seen.{Seen}
 use Rattle.spg_core.specs.Operations.{StepsFrom, IsOutgrownBy}
 use Rattle.spg_core.specs.Sections.{IsOutOf, IsHeavyFor, FindsNoPageFor, TicksFor, TellsFor, LatchesAfter, HasNone, OthersHold}
-use Rattle.spg_core.specs.Stepping.{IsNearLimit, MakesAtMostOne}
+use Rattle.spg_core.specs.Stepping.{IsNearLimit, Grows, MakesAtMostOne}
 use Rattle.spg_core.specs.Ends.{SeatEnds, SeatThenEnds}
+use Rattle.spg_core.proofs.Growing.{grows_as}
 use Rattle.spg_core.proofs.Slots.{stage_is, table_is, inserting_open}
 use Rattle.spg_core.proofs.Steps.{kept_same, seats, fits, low, room_left}
-use Rattle.spg_core.proofs.Inserts.{finds_seen, ticks_seen, ticks_kept, can_step, heavy_for, kept_step, put_row, kept_put, row_claimed, steps_insert, steps_length, seen_step, seen_put, tells_step, tells_put, latches_step, latches_put, others_step, within_step, ends_step, makes_step}
+use Rattle.spg_core.proofs.Inserts.{finds_seen, ticks_seen, ticks_kept, can_step, heavy_for, kept_step, put_row, kept_put, row_claimed, steps_insert, steps_length, seen_step, seen_put, tells_step, tells_put, latches_step, latches_put, others_step, within_step, grows_step, ends_step, makes_step}
 use Rattle.spg_core.proofs.state.State.insert_step.Goals as goal
 use Rattle.spg_core.proofs.state.State.insert_step.Goals.{then-has_ended, else-has_ended}
 
@@ -217,6 +218,22 @@ returns-clause-others g c =
     elim c.if-has_ended.branch [
       | then-has_ended w ↦ subst (λ (v : Seen _ _ _ _). OthersHold seen.table v.table seat) (sym w.self-is) others
       | else-has_ended w ↦ subst (λ (v : Seen _ _ _ _). OthersHold seen.table v.table seat) (sym w.self-is) others
+    ]
+
+pub returns-in_err-out-clause-grows : goal.returns-in_err-out-clause-grows
+returns-in_err-out-clause-grows g c =
+    let same : c.step_slot.new.table ≡ c.args.self.now.table = c.in_err-out.ensures.err ∙ sym (table_is c.self.inside c.args.self.now c.self.view_is 0) in
+    grows_as c.args.self.now.table c.step_slot.new.table (ap sheets_of same, ap (λ t. t.limit) same)
+
+pub returns-clause-grows : goal.returns-clause-grows
+returns-clause-grows g c =
+    let s = c.self.inside in
+    let seen = c.args.self.now in
+    let seat = c.args.seat in
+    let grows = grows_step g.O.OpClass.meaning g.O.OpClass.codes s c.self.invariant seat seen c.self.view_is c.in_ok-out.out (get_or s.slots.items seat Free) c.step_slot.new.table c.step_slot.new.slots.items refl c.in_ok-out.ensures.ok in
+    elim c.if-has_ended.branch [
+      | then-has_ended w ↦ subst (λ (v : Seen _ _ _ _). Grows seen.table v.table) (sym w.self-is) grows
+      | else-has_ended w ↦ subst (λ (v : Seen _ _ _ _). Grows seen.table v.table) (sym w.self-is) grows
     ]
 
 pub returns-clause-within : goal.returns-clause-within

@@ -5,6 +5,7 @@ use Rattle.spg_core.specs.declared.answer.InsertOut.{InsertOut}
 use Rattle.spg_core.specs.declared.answer.InsertOut.TheVariants.{Put, Restarted}
 use Rattle.spg_core.specs.Sections.{LatchesAfter}
 use Rattle.spg_core.specs.Ends.{SeatEnds}
+use Rattle.spg_core.proofs.Growing.{grows_as, grows_then}
 use Rattle.spg_core.proofs.Going.{still_there, goes_further, goes_inserting, puts, restarted_by, others_same, others_then, changes_then, ends_from, few_sections, one_comes, fewer_come}
 use Rattle.spg_core.proofs.state.State.insert_through.Goals as goal
 
@@ -47,6 +48,7 @@ loop-turn-preserved g c =
       goes = goes_further c.args.self.now c.loop-turn.self c.insert_step.new.self c.args.seat c.in_ok-insert_step.field-0 c.loop-turn.invariant.goes c.in_ok-insert_step.ensures.ok no_put;
       others = others_then c.args.self.now.table c.loop-turn.self.table c.insert_step.new.self.table c.args.seat c.loop-turn.invariant.others c.insert_step.ensures.others;
       within = changes_then c.args.self.now.table c.loop-turn.self.table c.insert_step.new.self.table c.args.seat c.loop-turn.invariant.others c.loop-turn.invariant.within c.insert_step.ensures.within;
+      grows = grows_then c.args.self.now.table c.loop-turn.self.table c.insert_step.new.self.table c.loop-turn.invariant.grows c.insert_step.ensures.grows;
       inserting = goes_inserting c.loop-turn.self c.insert_step.new.self c.args.seat c.in_ok-insert_step.field-0 c.in_ok-insert_step.ensures.ok no_put;
       ends =
           let (k, few, now) = c.loop-turn.invariant.ends in
@@ -62,6 +64,7 @@ loop-turn-init g c =
       goes = still_there c.args.self.now c.args.seat;
       others = others_same t c.args.seat;
       within = λ b. inl refl;
+      grows = grows_as t t (refl, refl);
       inserting = c.requires.inserting;
       ends = (k, few_sections t k sound most, now);
     }
