@@ -1,0 +1,35 @@
+ghost use Rattle.std.specs.Prelude.{◌≡◌, ◌+◌, length, map};
+ghost use Rattle.spg_forest.specs.Pages.{tuple_on, with_tuple};
+ghost use Rattle.spg_forest.specs.Tuples.{Placeholder};
+ghost use Rattle.spg_forest.specs.Sheets.{with_tuples};
+ghost use Rattle.spg_page.specs.Kinds.{IsOffset};
+ghost use Rattle.spg_page.specs.Changes.{trimmed};
+ghost use Rattle.spg_cover.specs.Swept.{aged};
+ghost use Rattle.spg_chain.specs.Ages.{is_old};
+
+use crate::rewrite::put_placeholder_at;
+use spg_base::{Offset, Stamp};
+use spg_page::{Page, TupleKind};
+
+/// Whether a redirect of a stamp below the horizon stands at an offset.
+fn is_old_at(page: &Page, offset: Offset, horizon: Stamp) -> bool
+    requires { IsOffset page.now.tuples offset }
+    ensures { result ≡ is_old horizon (tuple_on page.now.tuples offset) }
+{
+    page.kind_at(offset) == TupleKind::Redirect && page.stamp_at(offset).moment() < horizon.moment()
+}
+
+/// Makes each redirect of a stamp below the horizon a placeholder, and then takes the placeholders at
+/// the end of the page away. It tells how many those were. It takes no memory.
+pub fn age_page(page: &mut Page, horizon: Stamp) -> u16
+    ensures tuples { page.new ≡ with_tuples page.old (trimmed (map (aged horizon) page.old.tuples)) }
+    ensures count { result + length page.new.tuples ≡ length page.old.tuples }
+{
+    for index in 0..page.count() {
+        let offset = Offset(index + 1);
+        if is_old_at(page, offset, horizon) {
+            put_placeholder_at(page, offset);
+        }
+    }
+    page.trim_end()
+}
