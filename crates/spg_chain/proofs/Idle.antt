@@ -1,6 +1,6 @@
 -- A page without targets is swept as it is.
-use Rattle.std.proofs.Common.{◌≡◌, ℕ, zero, suc, ◌<◌, List, [], ◌∷◌, ⊎_elim, Bool, true, false, get_or, length, refl, sym, ap, ap₂, ◌∙◌, inl, inr, arith}
-use Rattle.std.proofs.lemmas.Bool.{cases_Bool, cases_eq, cond-true, cond-false}
+use Rattle.std.proofs.Common.{◌≡◌, ℕ, zero, suc, ◌<◌, List, [], ◌∷◌, ⊎_elim, Bool, true, false, get_or, length, nat_eq, refl, sym, ap, ap₂, ◌∙◌, inl, inr, arith}
+use Rattle.std.proofs.lemmas.Bool.{cases_Bool, cases_eq, cond-true, cond-false, eqb-true}
 use mathlib.Core.Path.{fun_ext}
 use Rattle.spg_base.specs.Row.{RowAt}
 use Rattle.spg_forest.specs.View.{Leaf}
@@ -89,3 +89,7 @@ module _ (test : RowAt → Bool) where
   pub nothing_swept : (p : Sheet) → IsLeafPage p.tuples → targets_on test p.tuples ≡ [] → IsSweptOf test p p
   nothing_swept p P e = (refl, (refl, sym (upto_same (tuple_on p.tuples) (none_on p.tuples e) (suc (length p.tuples)) P.spots P.laid
       (λ o m l a. let h = stands_within p.tuples o (λ q. let c = sym a ∙ q in cc) in omega arith) (length p.tuples))))
+
+pub no_rows : (rs : List RowAt) → nat_eq (length rs) 0 ≡ true → rs ≡ []
+no_rows [] e = refl
+no_rows (r ∷ rs) e = let q = eqb-true (length (r ∷ rs)) 0 e in absurd (omega arith)

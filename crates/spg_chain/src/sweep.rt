@@ -57,7 +57,7 @@ pub fn sweep_page(
     let found = places_on(alloc, page, since)?;
     if root {
         remove_targets(page, targets);
-    } else {
+    } else if !rows.is_empty() {
         sweep_leaf_page(alloc, page, targets)?;
     }
     Ok(Swept { rows, found })
