@@ -1,7 +1,8 @@
 -- A chain that was written anew is the chain swept.
-use Rattle.std.proofs.Common.{◌≡◌, ℕ, zero, suc, ◌+◌, ◌≤◌, ◌<◌, List, [], ◌∷◌, ⊎_elim, Bool, true, false, length, nat_eq, refl, sym, ap, ap₂, ◌∙◌, subst, inl, inr, arith}
+use Rattle.std.proofs.Common.{◌≡◌, ℕ, zero, suc, ◌+◌, ◌≤◌, ◌<◌, List, [], ◌∷◌, ⊎_elim, Bool, true, false, ◌||◌, set, get_or, length, nat_eq, refl, sym, ap, ap₂, ◌∙◌, subst, inl, inr, arith}
 use Rattle.std.specs.Prelude.{cond}
 use Rattle.std.proofs.lemmas.Bool.{cases_Bool, cond-true, cond-false, cases_eq, or_left, or_right, or_from, ne_eqb, eq-eqb}
+use Rattle.std.proofs.lemmas.List.{get_or-set_same, get_or-set_other}
 use Rattle.spg_base.specs.Row.{RowAt}
 use Rattle.spg_forest.specs.View.{Leaf}
 use Rattle.spg_forest.specs.Spot.{Bucket}
@@ -94,21 +95,26 @@ module _ (test : RowAt → Bool) (ts : List Tuple) (os : List ℕ) (C : IsChainL
 pub led_more : (T : ℕ → Tuple) (k o : ℕ) → is_led_to T k o ≡ false → nat_eq (next_of (T k)) o ≡ false → is_led_to T (suc k) o ≡ false
 led_more T k o e f = or_from _ _ f e
 
-pub led_found : (T : ℕ → Tuple) (k n o : ℕ) → k < n → nat_eq (next_of (T k)) o ≡ true → is_led_to T n o ≡ true
-led_found T k zero o h e = absurd (omega arith)
-led_found T k (suc n) o h e = ⊎_elim (λ q. or_left _ _ (ap (λ i. nat_eq (next_of (T i)) o) (sym q) ∙ e)) (λ q. or_right (nat_eq (next_of (T n)) o) (is_led_to T n o) (led_found T k n o (omega arith) e)) (cases_eq k n)
-
 pub led_begun : (T : ℕ → Tuple) (o : ℕ) → T 0 ≡ Placeholder → 0 < o → is_led_to T (0 + 1) o ≡ false
 led_begun T o e h = subst (λ n. is_led_to T n o ≡ false) one (led_more T 0 o refl (ap (λ t. nat_eq (next_of t) o) e ∙ ne_eqb 0 o (λ q. absurd (omega arith))))
   where
     one : 1 ≡ 0 + 1
     one = omega arith
 
-pub led_step : (T : ℕ → Tuple) (k o : ℕ) → is_led_to T (k + 1) o ≡ false → (next_of (T (k + 1)) ≡ o → ⊥) → is_led_to T (k + 1 + 1) o ≡ false
-led_step T k o e n = subst (λ i. is_led_to T i o ≡ false) next (led_more T (k + 1) o e (ne_eqb (next_of (T (k + 1))) o n))
+led_next : (T : ℕ → Tuple) (k o : ℕ) (b : Bool) → is_led_to T (suc (k + 1)) o ≡ b → is_led_to T (k + 1 + 1) o ≡ b
+led_next T k o b e = subst (λ i. is_led_to T i o ≡ b) next e
   where
     next : suc (k + 1) ≡ k + 1 + 1
     next = omega arith
 
-pub led_true : (T : ℕ → Tuple) (k n o : ℕ) → k < n → next_of (T (k + 1)) ≡ o → is_led_to T (n + 1) o ≡ true
-led_true T k n o h e = led_found T (k + 1) (n + 1) o (omega arith) (eq-eqb (next_of (T (k + 1))) o e)
+-- the marks of the first tuples and of one more, which leads to o or elsewhere
+pub led_step : (T : ℕ → Tuple) (k o : ℕ) → (next_of (T (k + 1)) ≡ o → ⊥) → is_led_to T (k + 1 + 1) o ≡ is_led_to T (k + 1) o
+led_step T k o n = led_next T k o (is_led_to T (k + 1) o) (ap (λ b. b || is_led_to T (k + 1) o) (ne_eqb (next_of (T (k + 1))) o n))
+
+pub led_true : (T : ℕ → Tuple) (k o : ℕ) → next_of (T (k + 1)) ≡ o → is_led_to T (k + 1 + 1) o ≡ true
+led_true T k o e = led_next T k o true (or_left _ _ (eq-eqb (next_of (T (k + 1))) o e))
+
+pub led_marked : (T : ℕ → Tuple) (led : List Bool) (k n o : ℕ) → n ≡ next_of (T (k + 1)) → n < length led → get_or led o false ≡ is_led_to T (k + 1) o → get_or (set led n true) o false ≡ is_led_to T (k + 1 + 1) o
+led_marked T led k n o e h g = ⊎_elim
+    (λ q. ap (λ i. get_or (set led n true) i false) q ∙ get_or-set_same led n true false h ∙ sym (led_true T k o (sym e ∙ sym q)))
+    (λ q. get_or-set_other led n o true false q ∙ g ∙ sym (led_step T k o (λ r. q (sym r ∙ sym e)))) (cases_eq o n)

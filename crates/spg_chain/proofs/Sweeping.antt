@@ -13,7 +13,7 @@ use Rattle.spg_forest.proofs.Once.{laid_out_computed}
 use Rattle.spg_chain.specs.Chains.{is_live, offsets_of, chain_members, ReadsShown, BeginsAt}
 use Rattle.spg_cover.specs.Swept.{swept_as, swept_upto, offsets_along}
 use Rattle.spg_cover.proofs.Offsets.{along_chain}
-use Rattle.spg_cover.proofs.Chains.{upto, Upto, upto_spots}
+use Rattle.spg_cover.proofs.Chains.{upto, Upto, upto_spots, upto_later}
 use Rattle.spg_cover.proofs.Tuples.{upto_has}
 use Rattle.spg_chain.specs.Sweeps.{IsChainList, stays, renewed, is_chain_head}
 use Rattle.spg_chain.specs.Chained.{IsLeafPage, IsSweptOf}
@@ -39,6 +39,20 @@ spot_head T n o (Inner w ns) e a b = cc
 spot_head T n o Dead e a b = cc
 spot_head T n o (Redirect y u) e a b = cc
 spot_head T n o Placeholder e a b = cc
+
+-- two pages that show the same at a live leaf tuple
+spot_live : (T : ℕ → Tuple) (n o m : ℕ) (l : Leaf) → T o ≡ Live l m → spot_on T n o ≡ cond (is_led_to T n o) Nothing (Bucket (l ∷ chain_at T n m))
+spot_live T n o m l e =
+    let F : Tuple → Spot = λ t. elim t [ Inner w ns ↦ Branch w ns | Live l m ↦ cond (is_led_to T n o) Nothing (Bucket (l ∷ chain_at T n m)) | Dead ↦ Bucket [] | Redirect y u ↦ Forward y u | Placeholder ↦ Nothing ] in ap F e
+
+same_side : (a b : Bool) (l k : Leaf) (ls ks : List Leaf) → cond a Nothing (Bucket (l ∷ ls)) ≡ cond b Nothing (Bucket (k ∷ ks)) → a ≡ b
+same_side true true l k ls ks e = refl
+same_side false false l k ls ks e = refl
+same_side true false l k ls ks e = cc
+same_side false true l k ls ks e = cc
+
+one_led : (T U : ℕ → Tuple) (n m o : ℕ) (z y : Leaf) (i j : ℕ) → T o ≡ Live z i → U o ≡ Live y j → spot_on T n o ≡ spot_on U m o → is_led_to T n o ≡ is_led_to U m o
+one_led T U n m o z y i j a b e = same_side (is_led_to T n o) (is_led_to U m o) z y (chain_at T n i) (chain_at U m j) (sym (spot_live T n o i z a) ∙ e ∙ spot_live U m o j y b)
 
 no_head : (test : RowAt → Bool) (T : ℕ → Tuple) (n o : ℕ) (t : Tuple) → T o ≡ t → (is_live t && not (is_led_to T n o)) ≡ false → swept_as test T o (spot_on T n o) ≡ T
 no_head test T n o t e a = ap (λ s. swept_as test T o s) (ap F e) ∙ by t a
@@ -74,6 +88,24 @@ module _ (test : RowAt → Bool) (p0 : Sheet) (P : IsLeafPage p0.tuples) (page :
   big1 : (o : ℕ) → 16 ≤ size_of (tuple_on page.tuples o)
   big1 o = subst (λ (T : ℕ → Tuple). 16 ≤ size_of (T o)) (sym R.at)
       (upto_has test (λ x t. 16 ≤ size_of t) (λ x. omega arith) (λ x. omega arith) (λ x p i j l h. h) (tuple_on p0.tuples) P.spots P.laid n below P.big k o)
+
+  -- whether a next offset leads to it, a live leaf tuple tells as before the sweep
+  pub same_led : (o : ℕ) → suc k ≡ o → is_live (tuple_on page.tuples o) ≡ true → is_led_to (tuple_on page.tuples) (length page.tuples + 1) o ≡ is_led_to (tuple_on p0.tuples) (length p0.tuples + 1) o
+  same_led o e v =
+      let (z, i, q) = live_is (tuple_on page.tuples o) v in
+      let (y, j, r) = U.lives o i z (ap (λ (T : ℕ → Tuple). T o) (sym R.at) ∙ q) in
+      let m : suc (length p0.tuples) ≡ length p0.tuples + 1 = omega arith in
+      let s : spot_on (tuple_on page.tuples) (length page.tuples + 1) o ≡ spot_on (tuple_on p0.tuples) (length p0.tuples + 1) o =
+      subst (λ x. spot_on (tuple_on page.tuples) (length page.tuples + 1) x ≡ spot_on (tuple_on p0.tuples) (length p0.tuples + 1) x) e
+      (sym spot1 ∙ upto_later test P.spots k (suc k) (omega arith) ∙ ap (λ (Z : ℕ → Spot). Z (suc k)) (laid_out_computed (tuple_on p0.tuples) P.spots (suc (length p0.tuples)) P.laid below) ∙ ap (λ x. spot_on (tuple_on p0.tuples) x (suc k)) m) in
+      one_led (tuple_on page.tuples) (tuple_on p0.tuples) (length page.tuples + 1) (length p0.tuples + 1) o z y i j q r s
+    where
+      live_is : (t : Tuple) → is_live t ≡ true → (l : Leaf) × (n : ℕ) × (t ≡ Live l n)
+      live_is (Live l n) v = (l, n, refl)
+      live_is (Inner w ns) v = cc
+      live_is Dead v = cc
+      live_is (Redirect y u) v = cc
+      live_is Placeholder v = cc
 
   at_head : (o : ℕ) → suc k ≡ o → is_chain_head page.tuples o ≡ true → (l : Leaf) × (ls : List Leaf) × (upto_spots test P.spots k o ≡ Bucket (l ∷ ls)) × (spot_on (tuple_on page.tuples) (length page.tuples + 1) o ≡ Bucket (l ∷ ls))
   at_head o e g =

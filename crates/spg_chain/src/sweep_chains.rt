@@ -4,7 +4,7 @@ ghost use Rattle.spg_base.specs.Row.{row_cmp};
 ghost use Rattle.spg_chain.specs.Chained.{IsLeafPage, IsSweptOf};
 
 use crate::chain::read_chain;
-use crate::heads::begins_chain;
+use crate::heads::{begins_chain, led_offsets};
 use crate::rewrite::rewrite;
 use spg_base::{Memory, Offset, RowSet};
 use spg_page::Page;
@@ -16,10 +16,12 @@ pub(crate) fn sweep_chains(alloc: Global, page: &mut Page, targets: &RowSet) -> 
     requires { IsLeafPage page.old.tuples }
     ensures { IfOk result (λ done. IsSweptOf (contains row_cmp targets.now.rows) page.old page.new) }
 {
+    // A sweep makes no head of a tuple that was none, and none at a later offset loses it.
+    let led = led_offsets(page);
     let mut old = Page::new(alloc, page.kind(), page.is_nulls())?;
     for index in 0..page.count() {
         let head = Offset(index + 1);
-        if begins_chain(page, head) {
+        if begins_chain(page, &led, head) {
             old.copy_from(page);
             let chain = read_chain(alloc, &old, head)?;
             rewrite(alloc, &old, page, chain.offsets.as_slice(), targets)?;

@@ -5,15 +5,21 @@ use Rattle.spg_forest.specs.Sheets.{Sheet, with_tuples}
 use Rattle.spg_forest.specs.Pages.{tuple_on}
 use Rattle.spg_chain.specs.Chains.{offsets_of, chain_members, ReadsShown}
 use Rattle.spg_chain.specs.Sweeps.{IsChainList, renewed, stays}
-use Rattle.spg_chain.proofs.Sweeping.{Sweeping, sweeping_begun, head_chain, sweeping_head, sweeping_other}
+use Rattle.spg_chain.proofs.Sweeping.{Sweeping, sweeping_begun, same_led, head_chain, sweeping_head, sweeping_other}
 use Rattle.spg_chain.proofs.sweep_chains.sweep_chains.Goals.{then-begins_chain+in_ok-chain+in_ok-rewrite, else-begins_chain}
 use Rattle.spg_chain.proofs.sweep_chains.sweep_chains.Goals as goal
 
 pub loop-index-init : goal.loop-index-init
 loop-index-init c = sweeping_begun (contains row_cmp c.args.targets.now.rows) c.args.page.now
 
-pub begins_chain-requires : goal.begins_chain-requires
-begins_chain-requires c = let s = c.loop-index.invariant.same in let v = c.count-index-end.ensures.value in let h = c.loop-index-test.true in (omega arith, omega arith)
+pub begins_chain-requires-clause-at : goal.begins_chain-requires-clause-at
+begins_chain-requires-clause-at c = let s = c.loop-index.invariant.same in let v = c.count-index-end.ensures.value in let h = c.loop-index-test.true in (omega arith, omega arith)
+
+pub begins_chain-requires-clause-led : goal.begins_chain-requires-clause-led
+begins_chain-requires-clause-led c = λ e.
+    let v = c.count-index-end.ensures in let h = c.loop-index-test.true in
+    c.led_offsets-led.ensures (c.loop-index.index + 1) (omega arith) (omega arith)
+    ∙ sym (same_led (contains row_cmp c.args.targets.now.rows) c.args.page.now c.requires c.loop-index.page c.loop-index.index c.loop-index.invariant (c.loop-index.index + 1) (omega arith) e)
 
 pub rewrite-requires-clause-chain : goal.rewrite-requires-clause-chain
 rewrite-requires-clause-chain c =
