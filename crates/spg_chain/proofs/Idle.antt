@@ -87,8 +87,14 @@ module _ (test : RowAt → Bool) where
 
   -- the page as it is
   pub nothing_swept : (p : Sheet) → IsLeafPage p.tuples → targets_on test p.tuples ≡ [] → IsSweptOf test p p
-  nothing_swept p P e = (refl, (refl, sym (upto_same (tuple_on p.tuples) (none_on p.tuples e) (suc (length p.tuples)) P.spots P.laid
-      (λ o m l a. let h = stands_within p.tuples o (λ q. let c = sym a ∙ q in cc) in omega arith) (length p.tuples))))
+  nothing_swept p P e = (
+    refl,
+    (
+      refl,
+      sym (upto_same (tuple_on p.tuples) (none_on p.tuples e) (suc (length p.tuples)) P.spots P.laid
+          (λ o m l a. let h = stands_within p.tuples o (λ q. let c = sym a ∙ q in cc) in omega arith) (length p.tuples)),
+    ),
+  )
 
 pub no_rows : (rs : List RowAt) → nat_eq (length rs) 0 ≡ true → rs ≡ []
 no_rows [] e = refl

@@ -103,4 +103,3 @@ pub(crate) fn rewrite(
     };
     put_leaf_at(alloc, old, page, first, head, next)
 }
-

@@ -14,11 +14,13 @@ loop-index-preserved c =
     let (n, i) = c.loop-index.invariant in
     elim c.if-next-lt409.branch [
       | then-next-lt409 w ↦
-          let t = w.if-next-lt409.true in
-          (ap length w.led-is ∙ length-set c.loop-index.led c.next_number-next.result true ∙ n,
-          λ o h b. ap (λ (xs : List Bool). get_or xs o false) w.led-is ∙ led_marked (tuple_on c.args.page.now.tuples) c.loop-index.led c.loop-index.index c.next_number-next.result o c.next_number-next.ensures (omega arith) (i o h b))
+          let t = w.if-next-lt409.true in (
+            ap length w.led-is ∙ length-set c.loop-index.led c.next_number-next.result true ∙ n,
+            λ o h b. ap (λ (xs : List Bool). get_or xs o false) w.led-is ∙ led_marked (tuple_on c.args.page.now.tuples) c.loop-index.led c.loop-index.index c.next_number-next.result o c.next_number-next.ensures (omega arith) (i o h b),
+          )
       | else-next-lt409 w ↦
-          let f = w.if-next-lt409.false in
-          (ap length w.led-is ∙ n,
-          λ o h b. ap (λ (xs : List Bool). get_or xs o false) w.led-is ∙ i o h b ∙ sym (led_step (tuple_on c.args.page.now.tuples) c.loop-index.index o (λ e. let m = c.next_number-next.ensures in absurd (omega arith))))
+          let f = w.if-next-lt409.false in (
+            ap length w.led-is ∙ n,
+            λ o h b. ap (λ (xs : List Bool). get_or xs o false) w.led-is ∙ i o h b ∙ sym (led_step (tuple_on c.args.page.now.tuples) c.loop-index.index o (λ e. let m = c.next_number-next.ensures in absurd (omega arith))),
+          )
     ]
