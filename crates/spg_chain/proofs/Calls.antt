@@ -40,7 +40,7 @@ onto_same (Live l n) (x ∷ xs) = refl
 onto_same Dead (x ∷ xs) = refl
 onto_same (Redirect y u) (x ∷ xs) = refl
 
-trimmed_same : (ts : List Tuple) → trimmed ts ≡ trimmed_there ts
+pub trimmed_same : (ts : List Tuple) → trimmed ts ≡ trimmed_there ts
 trimmed_same [] = refl
 trimmed_same (t ∷ ts) = ap (in_front t) (trimmed_same ts) ∙ onto_same t (trimmed_there ts)
 

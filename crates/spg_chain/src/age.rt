@@ -1,4 +1,4 @@
-ghost use Rattle.std.specs.Prelude.{◌≡◌, ◌+◌, length, map};
+ghost use Rattle.std.specs.Prelude.{◌≡◌, ◌+◌, true, false, length, map};
 ghost use Rattle.spg_forest.specs.Pages.{tuple_on, with_tuple};
 ghost use Rattle.spg_forest.specs.Tuples.{Placeholder};
 ghost use Rattle.spg_forest.specs.Sheets.{with_tuples};
@@ -32,4 +32,19 @@ pub fn age_page(page: &mut Page, horizon: Stamp) -> u16
         }
     }
     page.trim_end()
+}
+
+/// Whether `age_page` changes a page: a redirect of a stamp below the horizon stands there, or a
+/// placeholder stands at its end. It takes no memory.
+pub fn needs_ageing(page: &Page, horizon: Stamp) -> bool
+    ensures yes { result ≡ true → trimmed (map (aged horizon) page.now.tuples) ≡ page.now.tuples → ⊥ }
+    ensures no { result ≡ false → trimmed (map (aged horizon) page.now.tuples) ≡ page.now.tuples }
+{
+    for index in 0..page.count() {
+        if is_old_at(page, Offset(index + 1), horizon) {
+            return true;
+        }
+    }
+    let count = page.count();
+    count != 0 && page.kind_at(Offset(count)) == TupleKind::Placeholder
 }

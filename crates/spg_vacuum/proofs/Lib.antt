@@ -1,0 +1,4 @@
+pub mod Places
+pub mod Handling
+pub mod Steps
+pub mod Keeping

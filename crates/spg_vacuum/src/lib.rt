@@ -1,0 +1,4 @@
+//! The sections of an open vacuum, and the places that it has still to see.
+#![tactic(auto)]
+
+mod pending;
