@@ -7,7 +7,7 @@ use Rattle.spg_page.specs.Changes.{in_front, trimmed}
 use Rattle.spg_cover.specs.Swept.{aged}
 use Rattle.spg_page.proofs.SheetFacts.{trimmed_on}
 use Rattle.spg_cover.proofs.Aged.{aged_on}
-use Rattle.spg_chain.specs.Ages.{is_old}
+use Rattle.spg_chain.specs.Ages.{is_old, is_placeholder}
 use Rattle.spg_chain.proofs.Ageing.{not_aged, are_aged}
 
 -- an old redirect is gone then
@@ -16,6 +16,9 @@ old_changes h ts k e q =
     let t : Tuple = get_or ts k Placeholder in
     let a : get_or ts k Placeholder ≡ Placeholder = ap (λ (us : List Tuple). get_or us k Placeholder) (sym q) ∙ trimmed_on (map (aged h) ts) (suc k) ∙ aged_on h ts (suc k) ∙ (are_aged h t e).0 in
     let b : is_old h Placeholder ≡ true = ap (is_old h) (sym a) ∙ e in cc
+
+pub is_old_next : (h : ℕ) (ts : List Tuple) (k j : ℕ) → j ≡ suc k → is_old h (tuple_on ts j) ≡ true → is_old h (tuple_on ts (suc k)) ≡ true
+is_old_next h ts k j e o = ap (λ x. is_old h (tuple_on ts x)) (sym e) ∙ o
 
 -- no placeholder stands at the end
 trimmed_end : (us : List Tuple) (k : ℕ) → length (trimmed us) ≡ suc k → get_or (trimmed us) k Placeholder ≡ Placeholder → ⊥
@@ -35,9 +38,16 @@ trimmed_end (t ∷ us) k n e = by t (trimmed us) k (λ i. trimmed_end us i) n e
     by (Redirect y u) [] (suc i) h n e = absurd (omega arith)
     by Placeholder [] k h n e = absurd (omega arith)
 
-pub end_changes : (h : ℕ) (ts : List Tuple) (n : ℕ) → 0 < n → n ≡ length ts → tuple_on ts n ≡ Placeholder → trimmed (map (aged h) ts) ≡ ts → ⊥
+gap_is : (t : Tuple) → is_placeholder t ≡ true → t ≡ Placeholder
+gap_is Placeholder e = refl
+gap_is (Inner w ns) e = cc
+gap_is (Live l n) e = cc
+gap_is Dead e = cc
+gap_is (Redirect y u) e = cc
+
+pub end_changes : (h : ℕ) (ts : List Tuple) (n : ℕ) → 0 < n → n ≡ length ts → is_placeholder (tuple_on ts n) ≡ true → trimmed (map (aged h) ts) ≡ ts → ⊥
 end_changes h ts zero p n e q = absurd (omega arith)
-end_changes h ts (suc k) p n e q = trimmed_end (map (aged h) ts) k (ap length q ∙ sym n) (ap (λ (us : List Tuple). get_or us k Placeholder) q ∙ e)
+end_changes h ts (suc k) p n e q = trimmed_end (map (aged h) ts) k (ap length q ∙ sym n) (ap (λ (us : List Tuple). get_or us k Placeholder) q ∙ gap_is (get_or ts k Placeholder) e)
 
 -- else nothing changes
 pub NoneOld : ℕ → List Tuple → ℕ → Type 0
@@ -64,8 +74,8 @@ same_trimmed (Dead ∷ []) n = refl
 same_trimmed (Redirect y u ∷ []) n = refl
 same_trimmed (Placeholder ∷ []) n = absurd (n 0 refl refl)
 
-pub nothing_changes : (h : ℕ) (ts : List Tuple) (k : ℕ) → k ≡ length ts → NoneOld h ts k → (0 < length ts → tuple_on ts (length ts) ≡ Placeholder → ⊥) → trimmed (map (aged h) ts) ≡ ts
+pub nothing_changes : (h : ℕ) (ts : List Tuple) (k n : ℕ) → length ts ≤ k → n ≡ length ts → NoneOld h ts k → is_placeholder (tuple_on ts n) ≡ false → trimmed (map (aged h) ts) ≡ ts
 unfolding NoneOld
-nothing_changes h ts k q n e =
-    let a : map (aged h) ts ≡ ts = same_aged h ts (λ i l. n i (omega arith)) in
-    ap trimmed a ∙ same_trimmed ts (λ i l f. e (omega arith) (ap (tuple_on ts) l ∙ f))
+nothing_changes h ts k n l q o e =
+    let a : map (aged h) ts ≡ ts = same_aged h ts (λ i j. o i (omega arith)) in
+    ap trimmed a ∙ same_trimmed ts (λ i j f. let d : is_placeholder (tuple_on ts n) ≡ true = ap (λ x. is_placeholder (tuple_on ts x)) (q ∙ j) ∙ ap is_placeholder f in let g = sym e ∙ d in cc)

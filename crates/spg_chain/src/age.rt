@@ -5,7 +5,7 @@ ghost use Rattle.spg_forest.specs.Sheets.{with_tuples};
 ghost use Rattle.spg_page.specs.Kinds.{IsOffset};
 ghost use Rattle.spg_page.specs.Changes.{trimmed};
 ghost use Rattle.spg_cover.specs.Swept.{aged};
-ghost use Rattle.spg_chain.specs.Ages.{is_old};
+ghost use Rattle.spg_chain.specs.Ages.{is_old, is_placeholder};
 
 use crate::rewrite::put_placeholder_at;
 use spg_base::{Offset, Stamp};
@@ -34,6 +34,14 @@ pub fn age_page(page: &mut Page, horizon: Stamp) -> u16
     page.trim_end()
 }
 
+/// Whether a placeholder stands at an offset.
+fn is_placeholder_at(page: &Page, offset: Offset) -> bool
+    requires { IsOffset page.now.tuples offset }
+    ensures { result ≡ is_placeholder (tuple_on page.now.tuples offset) }
+{
+    page.kind_at(offset) == TupleKind::Placeholder
+}
+
 /// Whether `age_page` changes a page: a redirect of a stamp below the horizon stands there, or a
 /// placeholder stands at its end. It takes no memory.
 pub fn needs_ageing(page: &Page, horizon: Stamp) -> bool
@@ -46,5 +54,5 @@ pub fn needs_ageing(page: &Page, horizon: Stamp) -> bool
         }
     }
     let count = page.count();
-    count != 0 && page.kind_at(Offset(count)) == TupleKind::Placeholder
+    count != 0 && is_placeholder_at(page, Offset(count))
 }
