@@ -1,4 +1,2 @@
 pub mod Places
-pub mod Handling
-pub mod Steps
-pub mod Keeping
+pub mod PendingSet

@@ -1,5 +1,2 @@
 pub mod Listing
 pub mod Inside
-pub mod Handled
-pub mod Latch
-pub mod Vacuums

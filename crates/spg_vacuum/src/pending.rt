@@ -1,4 +1,4 @@
-ghost use Rattle.std.specs.Prelude.{◌≡◌, ◌<◌, ◌≤◌, ◌-◌, ◌∷◌, [], length, take, IfSome, OnOk, OnErr};
+ghost use Rattle.std.specs.Prelude.{◌≡◌, ◌<◌, ◌≤◌, ◌+◌, ◌-◌, ◌∷◌, [], length, take, IfSome, OnOk, OnErr};
 ghost use Rattle.spg_cover.specs.Vacuum.{AreHigh};
 ghost use Rattle.spg_vacuum.specs.Listing.{none_listed, first_place, with_listed, first_done};
 
@@ -61,5 +61,65 @@ impl Pending {
         self.listed.insert(place)?;
         self.places.push(place)?;
         Ok(())
+    }
+
+    /// How many places are listed.
+    fn len(&self) -> usize
+        ensures { result ≡ length self.now.done + length self.now.todo }
+    {
+        self.places.len()
+    }
+
+    /// Takes the last place away, which is to do.
+    fn pop(&mut self)
+        requires { 0 < length self.old.todo }
+        ensures { self.new ≡ record { done = self.old.done; todo = take (length self.old.todo - 1) self.old.todo } }
+    {
+        if let Some(place) = self.places.pop() {
+            self.listed.remove(&place);
+        }
+    }
+
+    /// Takes so many of the last places away, which are to do.
+    fn drop_last(&mut self, count: usize)
+        requires { count ≤ length self.old.todo }
+        ensures { self.new ≡ record { done = self.old.done; todo = take (length self.old.todo - count) self.old.todo } }
+    {
+        for step in 0..count {
+            self.pop();
+        }
+    }
+
+    /// Lists places in their order, each unless it is listed already. After a refusal the list is as it
+    /// was.
+    pub(crate) fn list_all(&mut self, places: &[Place]) -> Result<(), Memory>
+        requires { AreHigh places.now }
+        ensures ok { OnOk result (self.new ≡ with_listed self.old places.now) }
+        ensures err { OnErr result (self.new ≡ self.old) }
+    {
+        let before = self.len();
+        for place in places {
+            match self.list(*place) {
+                Ok(()) => {}
+                Err(memory) => {
+                    self.drop_last(self.len() - before);
+                    return Err(memory);
+                }
+            }
+        }
+        Ok(())
+    }
+
+    /// Marks the first place to do as done. Once all are done the list is emptied.
+    pub(crate) fn mark_first(&mut self)
+        requires { 0 < length self.old.todo }
+        ensures { self.new ≡ first_done self.old.done self.old.todo }
+    {
+        self.done += 1;
+        if self.done == self.places.len() {
+            self.places.clear();
+            self.listed.clear();
+            self.done = 0;
+        }
     }
 }
