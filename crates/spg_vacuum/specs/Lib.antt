@@ -1,2 +1,5 @@
 pub mod Listing
 pub mod Inside
+pub mod Handled
+pub mod Latch
+pub mod Vacuums
