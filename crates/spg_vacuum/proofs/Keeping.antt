@@ -1,5 +1,6 @@
 -- What is covered once a section is done.
-use Rattle.std.proofs.Common.{◌≡◌, ℕ, suc, ◌+◌, ◌≤◌, ◌<◌, List, [], ◌∷◌, ◌++◌, Bool, true, false, Some, length, refl, sym, ap, ◌∙◌, subst, arith}
+use Rattle.std.proofs.Common.{◌≡◌, ℕ, suc, ◌+◌, ◌≤◌, ◌<◌, List, [], ◌∷◌, ◌++◌, ⊎_elim, Bool, true, false, Some, length, nat_lt, refl, sym, ap, ◌∙◌, subst, inl, inr, arith}
+use Rattle.std.proofs.lemmas.Bool.{ltb-false}
 use Rattle.spg_base.specs.Row.{RowAt}
 use Rattle.spg_opclass.specs.Meaning.{Meaning}
 use Rattle.spg_forest.specs.View.{Place, View}
@@ -10,14 +11,16 @@ use Rattle.spg_forest.specs.Steps.{HasRow}
 use Rattle.spg_forest.specs.Puts.{spreads}
 use Rattle.spg_cover.specs.Vacuum.{Cover, VacuumHolds, Of, IsLess, listed, leads_to}
 use Rattle.spg_cover.proofs.Own.{block_law, pending_law, listing_law, settling_law}
+use Rattle.spg_cover.proofs.Elsewhere.{finishes}
 use Rattle.spg_cover.proofs.Roots.{handles_nothing}
-use Rattle.spg_tree.specs.Table.{Table, sheets_of, with_touched, tuple_at}
+use Rattle.spg_cover.proofs.Stands.{pending_stands}
+use Rattle.spg_tree.specs.Table.{Table, sheets_of, tuple_at, tuples_at}
 use Rattle.spg_vacuum.specs.declared.done.Done.TheVariants.{Swept}
 use Rattle.spg_vacuum.specs.declared.vacuum.Vacuum.{Vacuum}
 use Rattle.spg_vacuum.specs.Listing.{first_place, first_done}
 use Rattle.spg_vacuum.specs.Handled.{HandlesBlock, HandlesPlace, found_at, found_from}
 use Rattle.spg_vacuum.specs.declared.done.Work.TheVariants as works
-use Rattle.spg_vacuum.specs.Vacuums.{IsVacuum, KeepsVacuum, after_block, after_place, work_at}
+use Rattle.spg_vacuum.specs.Vacuums.{IsVacuum, KeepsVacuum, LeavesNone, after_block, after_place, work_at, work_of}
 use Rattle.spg_vacuum.proofs.Handling.{block_step}
 use Rattle.spg_vacuum.proofs.Places.{listed_first}
 
@@ -29,6 +32,16 @@ fewer h D = record {
   undone_there = D.undone_there;
   cover = λ row l. D.cover row (h row l);
   nearer = λ p row a l k. D.nearer p row a (h row l) k;
+}
+
+-- what is covered from a block on is so from an earlier one on
+earlier : {R : Type 0} {V : View R} {OnLeaf done undone : Place → Type 0} {c b b2 : ℕ} {target : RowAt → Type 0} → b2 ≤ b → Cover V OnLeaf c b done undone target → Cover V OnLeaf c b2 done undone target
+earlier h D = record {
+  redirects = D.redirects;
+  done_there = D.done_there;
+  undone_there = D.undone_there;
+  cover = λ row g. ⊎_elim (λ (u, l, a, e, k). inl (u, l, a, e, omega arith)) (λ z. ⊎_elim (λ a. inr (inl a)) (λ (x, (y, u, f, k, o, j), a). inr (inr (x, (y, u, f, k, o, omega arith), a))) z) (D.cover row g);
+  nearer = D.nearer;
 }
 
 module _ {Key Recon Cond : Type 0} (m : Meaning Key Recon Cond) (t : Table) (v : Vacuum) (test : RowAt → Bool) (horizon : ℕ) (H : Shape m (sheets_of t)) (K : IsVacuum m t v (Of test)) (le : horizon ≤ v.stamp) where
@@ -94,3 +107,16 @@ place_next [] false e = cc
 pub first_of_todo : (todo : List Place) (p : Place) → first_place todo ≡ Some p → (ps : List Place) × (todo ≡ p ∷ ps)
 first_of_todo [] p e = cc
 first_of_todo (q ∷ qs) p e = let k : q ≡ p = cc in (qs, ap (λ z. z ∷ qs) k)
+
+-- the place to do is a tuple's
+pub place_stands : {Key Recon Cond : Type 0} (m : Meaning Key Recon Cond) (t : Table) (v : Vacuum) (test : RowAt → Bool) → Shape m (sheets_of t) → IsVacuum m t v (Of test) → (p : Place) (ps : List Place) → v.pending.todo ≡ p ∷ ps → 3 ≤ p.block →
+    (p.block < length t.pages) × (0 < p.offset) × (p.offset ≤ length (tuples_at t p.block))
+place_stands m t v test H K p ps q high =
+    let (a, b, c, d) = pending_stands m (sheets_of t) v.stamp v.next p v.pending.done ps test H high (subst (λ (xs : List Place). VacuumHolds m (sheets_of t) v.stamp v.next v.pending.done xs (Of test)) q K.cover) in (a, b, c)
+
+-- at its end a vacuum leaves no target
+pub none_left : {Key Recon Cond : Type 0} (m : Meaning Key Recon Cond) (t : Table) (v : Vacuum) → work_of v t ≡ works.Finish → LeavesNone m t v
+none_left m t v e targets H K row r =
+    let (n, f) = end_next v.pending.todo (nat_lt v.next (length t.pages)) e in
+    let h = ltb-false v.next (length t.pages) f in
+    finishes m (sheets_of t) v.stamp v.pending.done targets H (earlier h (subst (λ (xs : List Place). VacuumHolds m (sheets_of t) v.stamp v.next v.pending.done xs (Of targets)) n K.cover)) row r

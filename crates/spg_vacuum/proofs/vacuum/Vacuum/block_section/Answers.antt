@@ -14,7 +14,7 @@ handle_block-requires-clause-block g c = (c.requires.vacuum.from, ltb-true c.arg
 pub overflow_add-self : goal.overflow_add-self
 overflow_add-self g c =
     let a = ltb-true c.args.self.now.next (length c.args.table.now.pages) (block_next c.args.self.now.pending.todo (nat_lt c.args.self.now.next (length c.args.table.now.pages)) c.requires.next).1 in
-    let s = c.page_count-_count.ensures.sound in
+    let s = c.page_count-count.ensures.sound in
     let w = s.within in let l = s.limit_to in omega arith
 
 pub returns-clause-keeps : goal.returns-clause-keeps
