@@ -1,5 +1,5 @@
 -- A block's page that is handled.
-use Rattle.std.proofs.Common.{◌≡◌, ℕ, ◌≤◌, ◌<◌, List, [], ◌∷◌, ⊎_elim, Bool, true, false, length, set, get_or, refl, sym, ap, ap₂, ◌∙◌, subst, inl, inr, arith}
+use Rattle.std.proofs.Common.{◌≡◌, ℕ, ◌≤◌, ◌<◌, List, [], ◌∷◌, ⊎_elim, Bool, true, false, length, refl, sym, ap, ap₂, ◌∙◌, subst, inl, inr, arith}
 use Rattle.std.specs.Prelude.{nat_lt}
 use Rattle.std.proofs.lemmas.Bool.{cases_Bool}
 use Rattle.std.proofs.lemmas.List.{set-get_or, get_or-set_same}
@@ -7,18 +7,16 @@ use Rattle.spg_base.specs.Row.{RowAt}
 use Rattle.spg_opclass.specs.Meaning.{Meaning}
 use Rattle.spg_forest.specs.View.{Place}
 use Rattle.spg_forest.specs.Spot.{Spot}
-use Rattle.spg_forest.specs.Tuples.{Tuple, Placeholder}
-use Rattle.spg_forest.specs.Pages.{tuple_on}
+use Rattle.spg_forest.specs.Tuples.{Tuple}
 use Rattle.spg_forest.specs.Sheets.{Sheet, Sheets, with_tuples, blank}
 use Rattle.spg_forest.specs.Shape.{Shape}
-use Rattle.spg_forest.specs.Section.{Takes, Cost}
+use Rattle.spg_forest.specs.Section.{Takes}
 use Rattle.spg_forest.specs.Steps.{HasRow}
 use Rattle.spg_forest.specs.Puts.{spreads}
 use Rattle.spg_forest.specs.Edits.{with_sheet as with_page}
 use Rattle.spg_forest.specs.Sheets as sheets
-use Rattle.spg_page.specs.Changes.{trimmed}
 use Rattle.spg_cover.specs.Vacuum.{HandlesPage}
-use Rattle.spg_cover.specs.Swept.{IsSweptPage, targets_on}
+use Rattle.spg_cover.specs.Swept.{targets_on}
 use Rattle.spg_tree.specs.Table.{Table, sheet_at, sheets_of, with_sheet, with_tuples_at, with_touched, tuples_at}
 use Rattle.spg_vacuum.specs.declared.handle.Handled.{Handled}
 use Rattle.spg_vacuum.specs.Handled.{AreHandled, IsHandled, HandlesBlock, found_at}

@@ -1,5 +1,5 @@
 -- What a page leads to is on blocks from 3 on.
-use Rattle.std.proofs.Common.{◌≡◌, ℕ, zero, suc, ◌+◌, ◌≤◌, ◌<◌, List, [], ◌∷◌, ◌++◌, length, take, Option, Some, None, ⊎_elim, Bool, true, false, get_or, refl, sym, ap, ◌∙◌, subst, inl, inr}
+use Rattle.std.proofs.Common.{◌≡◌, ℕ, suc, ◌+◌, ◌<◌, List, [], ◌∷◌, ◌++◌, length, take, Option, Some, None, ⊎_elim, Bool, get_or, refl, sym, ap, ◌∙◌, subst}
 use Rattle.std.specs.Prelude.{cond, nat_le}
 use Rattle.std.proofs.lemmas.Bool.{cases_Bool, cond-true, cond-false}
 use Rattle.std.proofs.lemmas.List.{take_more}

@@ -5,7 +5,6 @@ use Rattle.std.proofs.lemmas.Bool.{cases_Bool, cond-true, cond-false}
 use Rattle.spg_base.specs.Row.{RowAt}
 use Rattle.spg_forest.specs.View.{Place}
 use Rattle.spg_forest.specs.Tuples.{Tuple, Inner, Live, Dead, Redirect, Placeholder}
-use Rattle.spg_forest.specs.Pages.{tuple_on}
 use Rattle.spg_forest.specs.Sheets.{Sheet, with_tuples}
 use Rattle.spg_page.specs.Changes.{trimmed}
 use Rattle.spg_cover.specs.Swept.{IsSweptPage, targets_on, aged}

@@ -4,12 +4,12 @@ use Rattle.std.proofs.lemmas.Bool.{ltb-false}
 use Rattle.spg_base.specs.Row.{RowAt}
 use Rattle.spg_opclass.specs.Meaning.{Meaning}
 use Rattle.spg_forest.specs.View.{Place, View}
-use Rattle.spg_forest.specs.Sheets.{Sheets, sheet_at}
+use Rattle.spg_forest.specs.Sheets.{sheet_at}
 use Rattle.spg_forest.specs.Shape.{Shape}
 use Rattle.spg_forest.specs.Section.{Takes}
 use Rattle.spg_forest.specs.Steps.{HasRow}
 use Rattle.spg_forest.specs.Puts.{spreads}
-use Rattle.spg_cover.specs.Vacuum.{Cover, VacuumHolds, Of, IsLess, listed, leads_to}
+use Rattle.spg_cover.specs.Vacuum.{Cover, VacuumHolds, Of, listed, leads_to}
 use Rattle.spg_cover.proofs.Own.{block_law, pending_law, listing_law, settling_law}
 use Rattle.spg_cover.proofs.Elsewhere.{finishes}
 use Rattle.spg_cover.proofs.Roots.{handles_nothing}

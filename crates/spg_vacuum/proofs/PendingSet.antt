@@ -1,5 +1,5 @@
 -- The set beside the list of pending places.
-use Rattle.std.proofs.Common.{◌≡◌, ℕ, zero, suc, ◌+◌, ◌≤◌, ◌<◌, List, [], ◌∷◌, ◌++◌, ⊎_elim, Bool, true, false, length, take, get_or, refl, sym, ap, ap₂, ◌∙◌, subst, inl, inr, arith}
+use Rattle.std.proofs.Common.{◌≡◌, ℕ, ◌+◌, ◌≤◌, ◌<◌, List, [], ◌∷◌, ◌++◌, ⊎_elim, Bool, true, false, length, take, get_or, refl, sym, ap, ap₂, ◌∙◌, subst, arith}
 use Rattle.std.specs.Prelude.{◌||◌, cond}
 use Rattle.std.specs.Ordering.{nat_cmp, ordering_then, is_eq}
 use Rattle.std.specs.declared.cmp.Ordering.{Ordering}
@@ -14,7 +14,7 @@ use Rattle.std.proofs.Math.ListN.{get_or-append}
 use Rattle.spg_forest.specs.View.{Place}
 use Rattle.spg_forest.specs.Spot.{same_place}
 use Rattle.spg_forest.proofs.Spots.{same_place-true, same_place_self}
-use Rattle.spg_cover.specs.Vacuum.{has_place, IsPlaceOf, AreHigh}
+use Rattle.spg_cover.specs.Vacuum.{has_place, IsPlaceOf}
 use Rattle.spg_cover.proofs.Places.{in_left, in_either}
 use Rattle.spg_vacuum.specs.declared.pending.Pending.TheInside.{Inside}
 use Rattle.spg_vacuum.specs.Listing.{place_cmp}

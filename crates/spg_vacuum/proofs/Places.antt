@@ -1,13 +1,11 @@
 -- Lists of places.
-use Rattle.std.proofs.Common.{◌≡◌, ℕ, zero, suc, ◌+◌, ◌-◌, ◌≤◌, ◌<◌, List, [], ◌∷◌, ◌++◌, ⊎_elim, Bool, true, false, length, take, drop, get_or, refl, sym, ap, ap₂, ◌∙◌, subst, inl, inr, arith}
+use Rattle.std.proofs.Common.{◌≡◌, ℕ, zero, suc, ◌+◌, ◌-◌, ◌≤◌, ◌<◌, List, [], ◌∷◌, ◌++◌, Bool, true, false, length, take, drop, get_or, refl, sym, ap, ap₂, ◌∙◌, inl, inr, arith}
 use Rattle.std.specs.Prelude.{◌||◌, cond}
-use Rattle.std.proofs.lemmas.Bool.{cases_Bool, cases_lt}
-use Rattle.std.proofs.lemmas.List.{take-append-drop, take-append-le, drop-append-le, length-take-le, length-drop, take_more}
-use Rattle.std.proofs.Math.Seq.{take-append_seam, get_or-append_seam, take-length}
-use Rattle.std.proofs.Math.ListN.{get_or-append}
+use Rattle.std.proofs.lemmas.List.{take-append-drop, take-append-le, drop-append-le, length-take-le, take_more}
+use Rattle.std.proofs.Math.Seq.{take-append_seam}
 use Rattle.spg_forest.specs.View.{Place}
 use Rattle.spg_forest.specs.Spot.{same_place}
-use Rattle.spg_cover.specs.Vacuum.{has_place, listed, IsPlaceOf, AreHigh}
+use Rattle.spg_cover.specs.Vacuum.{has_place, listed, IsPlaceOf}
 use Rattle.spg_vacuum.specs.Listing.{Listing, with_listed}
 
 or_swap : (a b c : Bool) → (a || (b || c)) ≡ ((a || b) || c)

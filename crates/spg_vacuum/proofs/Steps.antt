@@ -1,5 +1,5 @@
 -- The handling of a page as a step of the index.
-use Rattle.std.proofs.Common.{◌≡◌, ℕ, ◌≤◌, ◌<◌, suc, List, [], ◌∷◌, ⊎_elim, Bool, true, false, length, map, get_or, refl, sym, ap, ◌∙◌, subst, inl, inr, arith}
+use Rattle.std.proofs.Common.{◌≡◌, ℕ, ◌≤◌, ◌<◌, suc, List, [], ◌∷◌, ⊎_elim, Bool, true, false, length, map, get_or, refl, sym, ap, ◌∙◌, subst, inl, arith}
 use Rattle.std.specs.Prelude.{cond, nat_lt}
 use Rattle.std.proofs.lemmas.Bool.{ltb-true, ltb-false, cases_Bool}
 use Rattle.std.proofs.lemmas.List.{set-get_or}
@@ -18,15 +18,13 @@ use Rattle.spg_forest.specs.Classes.{HasEntry}
 use Rattle.spg_forest.specs.Puts.{spreads}
 use Rattle.spg_forest.proofs.Edits.{page_is}
 use Rattle.spg_forest.proofs.Sections.{shape_shown}
-use Rattle.spg_page.specs.Changes.{trimmed}
 use Rattle.spg_cover.specs.Vacuum.{HandlesPage}
-use Rattle.spg_cover.specs.Swept.{kept, IsSweptPage, targets_on, found_on, aged, handled}
+use Rattle.spg_cover.specs.Swept.{kept, targets_on, found_on, aged, handled}
 use Rattle.spg_cover.proofs.PageLaws.{handles_leaves, handles_inner}
 use Rattle.spg_cover.proofs.Roots.{handles_root, handles_nothing}
 use Rattle.spg_cover.proofs.SweptRows.{swept_rows}
 use Rattle.spg_chain.specs.Told.{without_targets}
-use Rattle.spg_chain.proofs.Calls.{swept_then_aged, trimmed_same, roots_swept, roots_lead}
-use Rattle.spg_tree.specs.Table.{Table, sheets_of, with_tuples_at, with_touched, tuples_at}
+use Rattle.spg_chain.proofs.Calls.{trimmed_same, roots_swept, roots_lead}
 use Rattle.spg_vacuum.specs.Handled.{AreHandled, found_at, rows_at}
 
 -- what the handling of block b's page does, where these are the rows it sweeps

@@ -2,7 +2,7 @@
 use Rattle.std.specs.Prelude.{◌≡◌, ℕ, ◌<◌, ◌≤◌, false, length, take, drop, get_or}
 use Rattle.std.specs.BTreeSet.{contains}
 use Rattle.spg_forest.specs.View.{Place}
-use Rattle.spg_cover.specs.Vacuum.{IsPlaceOf, has_place, AreHigh}
+use Rattle.spg_cover.specs.Vacuum.{has_place, AreHigh}
 use Rattle.spg_vacuum.specs.declared.pending.Pending.TheInside.{Inside}
 use Rattle.spg_vacuum.specs.Listing.{Listing, place_cmp}
 

@@ -1,9 +1,8 @@
-use Rattle.std.proofs.Common.{◌≡◌, ◌≤◌, ◌<◌, ℕ, false, sym, ap, ◌∙◌, subst}
+use Rattle.std.proofs.Common.{ℕ, sym, ap, ◌∙◌, subst}
 use Rattle.std.specs.Prelude.{nat_lt}
 use Rattle.std.specs.BTreeSet.{contains}
 use Rattle.std.proofs.lemmas.Bool.{ltb-false}
 use Rattle.spg_base.specs.Row.{row_cmp}
-use Rattle.spg_forest.specs.View.{Place}
 use Rattle.spg_forest.specs.Sheets.{Sheet}
 use Rattle.spg_chain.specs.Chained.{IsLeafPage}
 use Rattle.spg_chain.proofs.Calls.{leaf_pages}

@@ -1,4 +1,4 @@
-use Rattle.std.proofs.Common.{◌≡◌, ◌+◌, ◌≤◌, ◌∷◌, [], take, refl, sym, ap, ◌∙◌, subst}
+use Rattle.std.proofs.Common.{◌+◌, ◌≤◌, ◌∷◌, [], take, refl, sym, ap, ◌∙◌, subst}
 use Rattle.spg_forest.specs.View.{Place}
 use Rattle.spg_vacuum.specs.Listing.{with_listed}
 use Rattle.spg_vacuum.proofs.Places.{place_at, listed_more, unlisted}
