@@ -27,8 +27,7 @@ fn row_at(offset: u16) -> Result<Row, Memory> {
 }
 
 /// A leaf page with a chain of the rows 1 and 2 of block 1.
-fn chain_of_two(rt: &impl Abort, alloc: Global) -> Result<Page, Memory>
-{
+fn chain_of_two(rt: &impl Abort, alloc: Global) -> Result<Page, Memory> {
     let mut page = Page::new(alloc, PageKind::Leaf, false)?;
     let first = leaf_of(alloc, row_at(1)?)?;
     let second = leaf_of(alloc, row_at(2)?)?;

@@ -71,6 +71,8 @@ module _ {Key Recon Cond : Type 0} (m : Meaning Key Recon Cond) (t : Table) (b :
       let S : Sheets = sheets_of t in
       let N : Handling m S (with_page S b (with_tuples (sheet_at t b) (tuples_at t2 b))) b c horizon (targets_on test (tuples_at t b)) (found_at c (sheet_at t b)) test = stepped m S b test H c horizon pos there le (tuples_at t2 b) (nat_lt b 3) (sheet_at t b).inner refl refl D.tuples in
       let (V1, T) = subst (λ (rs : List RowAt). Handling m S (sheets_of t2) b c horizon rs (found_at c (sheet_at t b)) test) (sym D.swept)
-      (subst (λ (X : Sheets). Handling m S X b c horizon (targets_on test (tuples_at t b)) (found_at c (sheet_at t b)) test) (sym (ap sheets_of D.table)) N) in
-      (V1, ⊎_elim (λ (e, n). subst (λ bs. Takes m S (sheets_of t2) bs (spreads 0) horizon (HasRow rows)) (sym e) T) (λ (e, q). subst (λ bs. Takes m S (sheets_of t2) bs (spreads 0) horizon (HasRow rows)) (sym e)
-      (retouched m S (sheets_of t2) rows [] T (λ d n. ap (λ (X : Sheets). sheets.sheet_at X d) (ap sheets_of D.table ∙ ap (λ (ts : List Tuple). with_page S b (with_tuples (sheet_at t b) ts)) q ∙ sheet_back S b)) (omega arith))) D.touched)
+      (subst (λ (X : Sheets). Handling m S X b c horizon (targets_on test (tuples_at t b)) (found_at c (sheet_at t b)) test) (sym (ap sheets_of D.table)) N) in (
+        V1,
+        ⊎_elim (λ (e, n). subst (λ bs. Takes m S (sheets_of t2) bs (spreads 0) horizon (HasRow rows)) (sym e) T) (λ (e, q). subst (λ bs. Takes m S (sheets_of t2) bs (spreads 0) horizon (HasRow rows)) (sym e)
+            (retouched m S (sheets_of t2) rows [] T (λ d n. ap (λ (X : Sheets). sheets.sheet_at X d) (ap sheets_of D.table ∙ ap (λ (ts : List Tuple). with_page S b (with_tuples (sheet_at t b) ts)) q ∙ sheet_back S b)) (omega arith))) D.touched,
+      )

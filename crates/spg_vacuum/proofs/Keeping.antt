@@ -47,13 +47,15 @@ earlier h D = record {
 module _ {Key Recon Cond : Type 0} (m : Meaning Key Recon Cond) (t : Table) (v : Vacuum) (test : RowAt → Bool) (horizon : ℕ) (H : Shape m (sheets_of t)) (K : IsVacuum m t v (Of test)) (le : horizon ≤ v.stamp) where
   pub block_kept : (t2 : Table) (v2 : Vacuum) (rows : List RowAt) → v.next < length t.pages → HandlesBlock t t2 v.next test horizon rows → v2 ≡ after_block v (found_at v.stamp (sheet_at (sheets_of t) v.next)) rows → KeepsVacuum m t t2 v2 test horizon (Swept rows)
   block_kept t2 v2 rows there D e =
-      let ((V1, G), T) = block_step m t v.next test horizon H K.from there t2 rows v.stamp le D in
-      (T, λ left less. subst (λ (w : Vacuum). IsVacuum m t2 w (Of left)) (sym e) (record {
-        from = (let k = K.from in omega arith);
-        past = subst (λ k. v.stamp ≤ k) (sym (ap (λ (u : Table). u.clock) D.table)) K.past;
-        cover = subst (λ k. VacuumHolds m (sheets_of t2) v.stamp k v.pending.done (listed v.pending.done v.pending.todo (found_at v.stamp (sheet_at (sheets_of t) v.next))) (Of left)) one
-            (block_law m (sheets_of t) (sheets_of t2) V1 t2.touched (spreads 0) v.stamp v.next horizon v.pending.done v.pending.todo rows (found_at v.stamp (sheet_at (sheets_of t) v.next)) test left H K.past G T less K.cover);
-      }))
+      let ((V1, G), T) = block_step m t v.next test horizon H K.from there t2 rows v.stamp le D in (
+        T,
+        λ left less. subst (λ (w : Vacuum). IsVacuum m t2 w (Of left)) (sym e) (record {
+          from = (let k = K.from in omega arith);
+          past = subst (λ k. v.stamp ≤ k) (sym (ap (λ (u : Table). u.clock) D.table)) K.past;
+          cover = subst (λ k. VacuumHolds m (sheets_of t2) v.stamp k v.pending.done (listed v.pending.done v.pending.todo (found_at v.stamp (sheet_at (sheets_of t) v.next))) (Of left)) one
+              (block_law m (sheets_of t) (sheets_of t2) V1 t2.touched (spreads 0) v.stamp v.next horizon v.pending.done v.pending.todo rows (found_at v.stamp (sheet_at (sheets_of t) v.next)) test left H K.past G T less K.cover);
+        }),
+      )
     where
       one : suc v.next ≡ v.next + 1
       one = omega arith
@@ -69,24 +71,27 @@ module _ {Key Recon Cond : Type 0} (m : Meaning Key Recon Cond) (t : Table) (v :
       HandlesPlace inner t t2 p test horizon rows → v2 ≡ after_place v (found_from inner v.stamp t p) rows → KeepsVacuum m t t2 v2 test horizon (Swept rows)
   place_kept t2 v2 rows p todo false high there q i D e =
       let ((V1, G), T) = block_step m t p.block test horizon H (omega arith) there t2 rows v.stamp le D in
-      let C : VacuumHolds m (sheets_of t) v.stamp v.next v.pending.done (p ∷ todo) (Of test) = subst (λ (xs : List Place). VacuumHolds m (sheets_of t) v.stamp v.next v.pending.done xs (Of test)) q K.cover in
-      (T, λ left less. subst (λ (w : Vacuum). IsVacuum m t2 w (Of left)) (sym e) (record {
-        from = (let k = K.from in omega arith);
-        past = subst (λ k. v.stamp ≤ k) (sym (ap (λ (u : Table). u.clock) D.table)) K.past;
-        cover = settled_there t2 p todo (found_at v.stamp (sheet_at (sheets_of t) p.block)) left q
-            (pending_law m (sheets_of t) (sheets_of t2) V1 t2.touched (spreads 0) v.stamp v.next horizon p v.pending.done todo rows (found_at v.stamp (sheet_at (sheets_of t) p.block)) test left H K.past i G T less C);
-      }))
+      let C : VacuumHolds m (sheets_of t) v.stamp v.next v.pending.done (p ∷ todo) (Of test) = subst (λ (xs : List Place). VacuumHolds m (sheets_of t) v.stamp v.next v.pending.done xs (Of test)) q K.cover in (
+        T,
+        λ left less. subst (λ (w : Vacuum). IsVacuum m t2 w (Of left)) (sym e) (record {
+          from = (let k = K.from in omega arith);
+          past = subst (λ k. v.stamp ≤ k) (sym (ap (λ (u : Table). u.clock) D.table)) K.past;
+          cover = settled_there t2 p todo (found_at v.stamp (sheet_at (sheets_of t) p.block)) left q
+              (pending_law m (sheets_of t) (sheets_of t2) V1 t2.touched (spreads 0) v.stamp v.next horizon p v.pending.done todo rows (found_at v.stamp (sheet_at (sheets_of t) p.block)) test left H K.past i G T less C);
+        }),
+      )
   place_kept t2 v2 rows p todo true high there q i (f, s) e =
       let C : VacuumHolds m (sheets_of t) v.stamp v.next v.pending.done (p ∷ todo) (Of test) = subst (λ (xs : List Place). VacuumHolds m (sheets_of t) v.stamp v.next v.pending.done xs (Of test)) q K.cover in
       let N : Takes m (sheets_of t) (sheets_of t) [] (spreads 0) horizon (HasRow []) = (handles_nothing m (sheets_of t) p.block v.stamp horizon test H i le).1 in
-      let L = listing_law m (sheets_of t) v.stamp v.next p v.pending.done todo test H K.past high i C in
-      (subst (λ (rs : List RowAt). Takes m (sheets_of t) (sheets_of t2) t2.touched (spreads 0) horizon (HasRow rs)) (sym f) (subst (λ (u : Table). Takes m (sheets_of t) (sheets_of u) u.touched (spreads 0) horizon (HasRow [])) (sym s) N),
-      λ left less. subst (λ (w : Vacuum). IsVacuum m t2 w (Of left)) (sym e) (record {
-        from = (let k = K.from in omega arith);
-        past = subst (λ k. v.stamp ≤ k) (sym (ap (λ (u : Table). u.clock) s)) K.past;
-        cover = subst (λ (u : Table). VacuumHolds m (sheets_of u) v.stamp v.next (first_done v.pending.done (listed v.pending.done v.pending.todo (leads_to (tuple_at t p)))).done (first_done v.pending.done (listed v.pending.done v.pending.todo (leads_to (tuple_at t p)))).todo (Of left)) (sym s)
-            (settled_there t p todo (leads_to (tuple_at t p)) left q (fewer (λ row l. (less row l).0) L));
-      }))
+      let L = listing_law m (sheets_of t) v.stamp v.next p v.pending.done todo test H K.past high i C in (
+        subst (λ (rs : List RowAt). Takes m (sheets_of t) (sheets_of t2) t2.touched (spreads 0) horizon (HasRow rs)) (sym f) (subst (λ (u : Table). Takes m (sheets_of t) (sheets_of u) u.touched (spreads 0) horizon (HasRow [])) (sym s) N),
+        λ left less. subst (λ (w : Vacuum). IsVacuum m t2 w (Of left)) (sym e) (record {
+          from = (let k = K.from in omega arith);
+          past = subst (λ k. v.stamp ≤ k) (sym (ap (λ (u : Table). u.clock) s)) K.past;
+          cover = subst (λ (u : Table). VacuumHolds m (sheets_of u) v.stamp v.next (first_done v.pending.done (listed v.pending.done v.pending.todo (leads_to (tuple_at t p)))).done (first_done v.pending.done (listed v.pending.done v.pending.todo (leads_to (tuple_at t p)))).todo (Of left)) (sym s)
+              (settled_there t p todo (leads_to (tuple_at t p)) left q (fewer (λ row l. (less row l).0) L));
+        }),
+      )
 
 -- ---- what is next
 pub block_next : (todo : List Place) (more : Bool) → work_at todo more ≡ works.Block → (todo ≡ []) × (more ≡ true)

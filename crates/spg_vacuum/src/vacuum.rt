@@ -101,7 +101,15 @@ impl Vacuum {
             return Ok(Done::Latched { block, by });
         }
         let since = self.stamp;
-        let rows = handle_block::<O>(alloc, table, &mut self.pending, block, targets, since, horizon)?;
+        let rows = handle_block::<O>(
+            alloc,
+            table,
+            &mut self.pending,
+            block,
+            targets,
+            since,
+            horizon,
+        )?;
         self.next += 1;
         self.swept = self.swept.saturating_add(rows.len() as u64);
         Ok(Done::Swept(rows))
@@ -138,7 +146,15 @@ impl Vacuum {
             return Ok(Done::Latched { block, by });
         }
         let since = self.stamp;
-        let rows = handle_place::<O>(alloc, table, &mut self.pending, place, targets, since, horizon)?;
+        let rows = handle_place::<O>(
+            alloc,
+            table,
+            &mut self.pending,
+            place,
+            targets,
+            since,
+            horizon,
+        )?;
         self.pending.mark_first();
         self.swept = self.swept.saturating_add(rows.len() as u64);
         Ok(Done::Swept(rows))
