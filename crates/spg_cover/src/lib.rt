@@ -4,6 +4,7 @@
 ghost use Rattle.spg_cover.specs.Vacuum.{KeptByAdds, KeptByLeaves, Finished, Opens, BlockKeeps, PendingKeeps, ListingKeeps, SettlingKeeps, PendingStands, ListedHigh, TakesComing};
 ghost use Rattle.spg_cover.specs.Swept.{HandlesLeaves, HandlesRoot, HandlesInner, HandlesNothing, SweptRows};
 ghost use Rattle.spg_cover.specs.Run.{SweepsAll};
+ghost use Rattle.spg_cover.specs.Examples.{OneSwept, RedirectsAge};
 
 use spg_opclass::OpClass;
 
@@ -39,4 +40,10 @@ pub fn page_laws<O: OpClass>()
 /// sections of other seats came between.
 pub fn whole_laws<O: OpClass>()
     ensures { SweepsAll O.meaning }
+{}
+
+/// A small index and a small page that meet the definitions.
+pub fn small_laws<O: OpClass>()
+    ensures one_swept { OneSwept O.meaning }
+    ensures redirects { RedirectsAge }
 {}
