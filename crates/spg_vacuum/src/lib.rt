@@ -6,6 +6,8 @@ mod handle;
 mod latch;
 mod pending;
 mod place;
+#[cfg(test)]
+mod tests;
 mod vacuum;
 
 pub use done::{Done, Work};
