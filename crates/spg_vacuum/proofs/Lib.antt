@@ -5,3 +5,4 @@ pub mod Idle
 pub mod Steps
 pub mod Handling
 pub mod Keeping
+pub mod OtherSeats

@@ -3,3 +3,4 @@ pub mod Inside
 pub mod Handled
 pub mod Latch
 pub mod Vacuums
+pub mod Kept

@@ -4,6 +4,7 @@
 mod done;
 mod handle;
 mod latch;
+mod laws;
 mod pending;
 mod place;
 #[cfg(test)]
@@ -11,4 +12,5 @@ mod tests;
 mod vacuum;
 
 pub use done::{Done, Work};
+pub use laws::vacuum_laws;
 pub use vacuum::Vacuum;

@@ -167,7 +167,7 @@ impl Vacuum {
         ensures same { self.new ≡ self.old }
         ensures none { LeavesNone O.meaning table.now self.old }
     {
-        let _work = self.work(table);
+        prove!(self.work(table) == Work::Finish);
         self.swept
     }
 }
