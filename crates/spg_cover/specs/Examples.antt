@@ -1,9 +1,9 @@
 -- A small index whose only row a vacuum sweeps, and the tuples of a small page.
-use Rattle.std.specs.Prelude.{◌≡◌, ℕ, ◌≤◌, ◌&&◌, nat_eq, Bool, true, false, List, [], ◌∷◌, map, Some}
+use Rattle.std.specs.Prelude.{◌≡◌, ◌≤◌, ◌&&◌, nat_eq, Bool, true, false, List, [], ◌∷◌, map, Some}
 use Rattle.spg_base.specs.Row.{RowAt}
 use Rattle.spg_opclass.specs.Meaning.{Meaning}
 use Rattle.spg_opclass.specs.Laws.{leaf_size}
-use Rattle.spg_forest.specs.View.{Leaf, Place}
+use Rattle.spg_forest.specs.View.{Leaf}
 use Rattle.spg_forest.specs.Tuples.{Tuple, Live, Redirect, Placeholder}
 use Rattle.spg_forest.specs.Pages.{place}
 use Rattle.spg_forest.specs.Section.{Takes}

@@ -1,8 +1,6 @@
 -- A vacuum at its opening, and under sections of other seats.
-use Rattle.std.proofs.Common.{◌≡◌, ℕ, ◌≤◌, List, [], refl, sym, ap, subst, arith}
-use Rattle.spg_base.specs.Row.{RowAt}
+use Rattle.std.proofs.Common.{ℕ, [], sym, subst, arith}
 use Rattle.spg_opclass.specs.Meaning.{Meaning}
-use Rattle.spg_forest.specs.View.{Place}
 use Rattle.spg_cover.specs.Vacuum.{VacuumHolds, Of}
 use Rattle.spg_cover.proofs.Own.{opens_law}
 use Rattle.spg_cover.proofs.Elsewhere.{kept_by_adds, kept_by_leaves}
