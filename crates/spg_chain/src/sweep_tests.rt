@@ -1,6 +1,7 @@
 ghost use Rattle.std.specs.Prelude.{◌≡◌, ◌≤◌, IfOk};
 ghost use Rattle.spg_forest.specs.Tuples.{Live};
 ghost use Rattle.spg_page.specs.Reads.{leaf_in};
+ghost use Rattle.spg_chain.specs.Chained.{IsLeafPage};
 
 use crate::add::add_to_chain;
 use crate::age::age_page;
@@ -27,7 +28,9 @@ fn row_at(offset: u16) -> Result<Row, Memory> {
 }
 
 /// A leaf page with a chain of the rows 1 and 2 of block 1.
-fn chain_of_two(rt: &impl Abort, alloc: Global) -> Result<Page, Memory> {
+fn chain_of_two(rt: &impl Abort, alloc: Global) -> Result<Page, Memory>
+    ensures { IfOk result (λ page. IsLeafPage page.tuples) }
+{
     let mut page = Page::new(alloc, PageKind::Leaf, false)?;
     let first = leaf_of(alloc, row_at(1)?)?;
     let second = leaf_of(alloc, row_at(2)?)?;
@@ -44,6 +47,21 @@ fn first_row(alloc: Global) -> Result<RowSet, Memory> {
     let mut rows = RowSet::new(alloc);
     rows.add(row_at(1)?)?;
     Ok(rows)
+}
+
+#[test]
+fn the_first_that_stays_moves_to_the_head(rt: HostRuntime) -> Result<(), Fail> {
+    let alloc = rt.alloc();
+    let mut page = chain_of_two(&rt, alloc)?;
+    let targets = first_row(alloc)?;
+    let swept = sweep_page(alloc, &mut page, false, &targets, Stamp::at(0))?;
+    assert_eq!(rt; swept.rows.len(), 1);
+    assert!(rt; swept.found.is_empty());
+    assert_eq!(rt; page.count(), 2);
+    assert!(rt; page.kind_at(Offset(1)) == TupleKind::Leaf);
+    assert_eq!(rt; page.row_at(Offset(1)).offset(), 2);
+    assert!(rt; page.kind_at(Offset(2)) == TupleKind::Placeholder);
+    Ok(())
 }
 
 #[test]
