@@ -1,5 +1,5 @@
 -- A page without targets is swept as it is.
-use Rattle.std.proofs.Common.{◌≡◌, ℕ, zero, suc, ◌<◌, List, [], ◌∷◌, ⊎_elim, Bool, true, false, get_or, length, nat_eq, refl, sym, ap, ap₂, ◌∙◌, inl, inr, arith}
+use Rattle.std.proofs.Common.{◌≡◌, ℕ, zero, suc, ◌<◌, List, [], ◌∷◌, ⊎_elim, Bool, true, false, get_or, length, nat_eq, refl, sym, ap, ap₂, ◌∙◌, arith}
 use Rattle.std.proofs.lemmas.Bool.{cases_Bool, cases_eq, cond-true, cond-false, eqb-true}
 use mathlib.Core.Path.{fun_ext}
 use Rattle.spg_base.specs.Row.{RowAt}
@@ -7,7 +7,7 @@ use Rattle.spg_forest.specs.View.{Leaf}
 use Rattle.spg_forest.specs.Spot.{Spot, Branch, Bucket, Forward, Nothing}
 use Rattle.spg_forest.specs.Tuples.{Tuple, Inner, Live, Dead, Redirect, Placeholder, IsChainOf, IsAmong, IsLaidOut, first_of, with_chain, without, spot_on}
 use Rattle.spg_forest.specs.Pages.{tuple_on}
-use Rattle.spg_forest.specs.Sheets.{Sheet, with_tuples}
+use Rattle.spg_forest.specs.Sheets.{Sheet}
 use Rattle.spg_forest.proofs.Chain.{put_on_same, put_on_other}
 use Rattle.spg_forest.proofs.Chains.{with_chain_other}
 use Rattle.spg_forest.proofs.Joins.{stands_within}

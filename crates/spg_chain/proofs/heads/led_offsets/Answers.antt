@@ -1,7 +1,6 @@
-use Rattle.std.proofs.Common.{◌+◌, ◌<◌, ℕ, Bool, List, true, false, get_or, length, set, refl, sym, ap, ◌∙◌, subst, arith}
+use Rattle.std.proofs.Common.{Bool, List, true, false, get_or, length, refl, sym, ap, ◌∙◌, arith}
 use Rattle.std.proofs.lemmas.List.{get_or-replicate, length-set}
 use Rattle.spg_forest.specs.Pages.{tuple_on}
-use Rattle.spg_forest.specs.Tuples.{is_led_to}
 use Rattle.spg_chain.proofs.Matching.{led_begun, led_step, led_marked}
 use Rattle.spg_chain.proofs.heads.led_offsets.Goals.{then-next-lt409, else-next-lt409}
 use Rattle.spg_chain.proofs.heads.led_offsets.Goals as goal

@@ -1,4 +1,4 @@
-use Rattle.std.proofs.Common.{◌≡◌, sym, ◌∙◌, subst}
+use Rattle.std.proofs.Common.{sym, ◌∙◌, subst}
 use Rattle.std.specs.BTreeSet.{contains}
 use Rattle.spg_base.specs.Row.{row_cmp}
 use Rattle.spg_forest.specs.Sheets.{Sheet}
