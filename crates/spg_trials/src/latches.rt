@@ -5,8 +5,8 @@ ghost use Rattle.std.specs.Prelude.{◌≡◌};
 ghost use Rattle.spg_core.specs.Stage.{free};
 ghost use Rattle.spg_core.specs.Seen.{stage_at};
 
-use spg_base::{Block, Memory, Point, Row, SeatNo};
-use spg_core::{InsertOut, OpenKind, OpenRefused, ReadOut, State, StepRefused};
+use spg_base::{Memory, Point, Row, SeatNo};
+use spg_core::{InsertOut, OpenKind, OpenRefused, ReadOut, State};
 use spg_opclass::Query;
 use spg_quad::Quad;
 use spg_rows::Why;
@@ -44,18 +44,19 @@ enum Answer {
     No,
 }
 
-fn after_step(out: Result<InsertOut, StepRefused>) -> Answer {
+fn after_step(out: &InsertOut) -> Answer {
     match out {
-        Ok(InsertOut::Descended) => Answer::Descended,
-        Ok(InsertOut::Restructured) => Answer::Restructured,
-        Ok(
-            InsertOut::Restarted {
-                block: Block(block),
-                by,
-            },
-        ) => Answer::Restarted(block, by.number()),
-        Ok(InsertOut::Put) => Answer::Put,
-        Err(_) => Answer::Refused,
+        InsertOut::Descended => Answer::Descended,
+        InsertOut::Restructured => Answer::Restructured,
+        InsertOut::Restarted { block, by } => Answer::Restarted(block.0, by.number()),
+        InsertOut::Put => Answer::Put,
+    }
+}
+
+fn after_read(out: &ReadOut) -> Answer {
+    match out {
+        ReadOut::Read => Answer::Done,
+        ReadOut::Latched { block, by } => Answer::Latched(block.0, by.number()),
     }
 }
 
@@ -91,19 +92,17 @@ fn open(state: &mut State<Quad>, seat: SeatNo, call: Call) -> Result<Answer, Mem
 fn answer_of(state: &mut State<Quad>, seat: SeatNo, call: Call) -> Result<Answer, Memory> {
     match (state.open_of(seat), call) {
         (OpenKind::Nothing, _) => open(state, seat, call),
-        (OpenKind::Insert, Call::Step) => Ok(after_step(state.insert_step(seat))),
+        (OpenKind::Insert, Call::Step) => match state.insert_step(seat) {
+            Ok(out) => Ok(after_step(&out)),
+            Err(_) => Ok(Answer::Refused),
+        },
         (OpenKind::Scan { held: 0 }, Call::Close) => {
             let closed = state.close_scan(seat)?;
             Ok(Answer::Closed(closed.rows.len(), closed.met))
         }
         (OpenKind::Scan { held }, Call::Read(item)) if item < held => {
-            match state.scan_read(seat, item)? {
-                ReadOut::Read => Ok(Answer::Done),
-                ReadOut::Latched {
-                    block: Block(block),
-                    by,
-                } => Ok(Answer::Latched(block, by.number())),
-            }
+            let out = state.scan_read(seat, item)?;
+            Ok(after_read(&out))
         }
         (OpenKind::Insert, Call::Abandon) => {
             state.abandon(seat, Why::Given);

@@ -107,6 +107,22 @@ fn begin(
     }
 }
 
+/// Notes whom an insert has met.
+fn note_section(out: &InsertOut, met: &mut Met) {
+    if let InsertOut::Restarted { by, .. } = out {
+        met.last = Some(*by);
+        met.restarted = met.restarted.saturating_add(1);
+    }
+}
+
+/// Notes whom a scan has met.
+fn note_read(out: &ReadOut, met: &mut Met) {
+    if let ReadOut::Latched { by, .. } = out {
+        met.last = Some(*by);
+        met.latched = met.latched.saturating_add(1);
+    }
+}
+
 /// The next section of a seat's insert, which now and then is given up.
 fn step(state: &mut State<Quad>, seat: SeatNo, draw: &mut Draw, met: &mut Met) -> Result<(), Memory>
     requires { IsInserting (stage_at state.old seat) }
@@ -116,11 +132,7 @@ fn step(state: &mut State<Quad>, seat: SeatNo, draw: &mut Draw, met: &mut Met) -
         return Ok(());
     }
     match state.insert_step(seat) {
-        Ok(InsertOut::Restarted { by, .. }) => {
-            met.last = Some(by);
-            met.restarted = met.restarted.saturating_add(1);
-        }
-        Ok(_) => {}
+        Ok(out) => note_section(&out, met),
         Err(StepRefused::Memory) => return Err(Memory),
         Err(_) => state.abandon(seat, Why::Given),
     }
@@ -143,10 +155,8 @@ fn act(
             Ok(())
         }
         OpenKind::Scan { held } => {
-            if let ReadOut::Latched { by, .. } = state.scan_read(seat, draw.index(held))? {
-                met.last = Some(by);
-                met.latched = met.latched.saturating_add(1);
-            }
+            let out = state.scan_read(seat, draw.index(held))?;
+            note_read(&out, met);
             Ok(())
         }
     }
