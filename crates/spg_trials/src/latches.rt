@@ -2,7 +2,7 @@
 //! blocks latched.
 
 ghost use Rattle.std.specs.Prelude.{◌≡◌};
-ghost use Rattle.spg_core.specs.Stage.{free};
+ghost use Rattle.spg_core.specs.Stage.{free, IsInserting, held_count};
 ghost use Rattle.spg_core.specs.Seen.{stage_at};
 
 use spg_base::{Memory, Point, Row, SeatNo};
@@ -88,27 +88,46 @@ fn open(state: &mut State<Quad>, seat: SeatNo, call: Call) -> Result<Answer, Mem
     }
 }
 
-/// What a call answers.
-fn answer_of(state: &mut State<Quad>, seat: SeatNo, call: Call) -> Result<Answer, Memory> {
-    match (state.open_of(seat), call) {
-        (OpenKind::Nothing, _) => open(state, seat, call),
-        (OpenKind::Insert, Call::Step) => match state.insert_step(seat) {
-            Ok(out) => Ok(after_step(&out)),
-            Err(_) => Ok(Answer::Refused),
+/// A call of a seat whose insert is open.
+fn go_on(state: &mut State<Quad>, seat: SeatNo, call: Call) -> Answer
+    requires { IsInserting (stage_at state.old seat) }
+{
+    match call {
+        Call::Step => match state.insert_step(seat) {
+            Ok(out) => after_step(&out),
+            Err(_) => Answer::Refused,
         },
-        (OpenKind::Scan { held: 0 }, Call::Close) => {
-            let closed = state.close_scan(seat)?;
-            Ok(Answer::Closed(closed.rows.len(), closed.met))
+        Call::Abandon => {
+            state.abandon(seat, Why::Given);
+            Answer::Done
         }
-        (OpenKind::Scan { held }, Call::Read(item)) if item < held => {
+        _ => Answer::No,
+    }
+}
+
+/// A read of an item of a seat's scan, which holds so many.
+fn read(state: &mut State<Quad>, seat: SeatNo, call: Call, held: usize) -> Result<Answer, Memory>
+    requires { held_count (stage_at state.old seat) ≡ held }
+{
+    match call {
+        Call::Read(item) if item < held => {
             let out = state.scan_read(seat, item)?;
             Ok(after_read(&out))
         }
-        (OpenKind::Insert, Call::Abandon) => {
-            state.abandon(seat, Why::Given);
-            Ok(Answer::Done)
-        }
         _ => Ok(Answer::No),
+    }
+}
+
+/// What a call answers.
+fn answer_of(state: &mut State<Quad>, seat: SeatNo, call: Call) -> Result<Answer, Memory> {
+    match state.open_of(seat) {
+        OpenKind::Nothing => open(state, seat, call),
+        OpenKind::Insert => Ok(go_on(state, seat, call)),
+        OpenKind::Scan { held: 0 } => {
+            let closed = state.close_scan(seat)?;
+            Ok(Answer::Closed(closed.rows.len(), closed.met))
+        }
+        OpenKind::Scan { held } => read(state, seat, call, held),
     }
 }
 
