@@ -5,7 +5,7 @@
 
 Both commands read a script from standard input. They must write the same text, end with the same status and name the
 same bad line. A script on which they differ is left as NAME.differs. Small scripts have edges and bad lines; large ones
-have hundreds to thousands of inserts of one shape, with finds between and behind them.
+have hundreds to thousands of inserts of one shape, with deletes and finds between and behind them.
 """
 
 import argparse
@@ -132,7 +132,11 @@ def small(rng, classes):
     lines = [b"class " + name.encode()]
     for i in range(rng.choice([0, 3, 10, 40, 350])):
         row = b"%d.%d" % (rng.choice([0, 1, 2, 4294967295]), rng.choice([1, 2, 3, 65535, rng.randint(1, 400)]))
-        lines.append(insert(rng, keys, i, row, 0.1) if rng.random() < 0.7 else query(rng, keys))
+        chance = rng.random()
+        if chance < 0.12:
+            lines.append(b"delete " + row)
+        else:
+            lines.append(insert(rng, keys, i, row, 0.1) if chance < 0.74 else query(rng, keys))
     if rng.random() < 0.2:
         at = rng.randrange(len(lines))
         lines[at] = broken(rng, lines[at])
@@ -147,10 +151,14 @@ def large(rng, classes):
     if rng.random() < 0.5:
         rng.shuffle(rows)
     nulls = rng.choice([0, 0, 0.1, 0.5, 0.9])
+    deletes = rng.choice([0, 0.02, 0.3])
     lines = [b"class " + name.encode()]
     for i in range(count):
         row = rows[i] if rng.random() < 0.99 else rng.randrange(count)
         lines.append(insert(rng, keys, i, b"%d.%d" % (row // 300, row % 300 + 1), nulls))
+        if rng.random() < deletes:
+            row = rows[rng.randint(0, min(i + 3, count - 1))]
+            lines.append(b"delete %d.%d" % (row // 300, row % 300 + 1))
         if rng.random() < 8 / count:
             lines.append(query(rng, keys))
     lines += [query(rng, keys) for _ in range(rng.randint(1, 6))]
