@@ -52,6 +52,10 @@ killed_low : {Key : Type 0} (n at : ℕ) (ls : List (Life Key)) → StateSays (K
 killed_low n at [] says sound = absurd says
 killed_low n at (l ∷ ls) (put, says) sound = sound l (inl refl) at says.kill
 
+unless : (b : Bool) (next state : RowState) (n : ℕ) → killed_before n next ≡ false → killed_before n (cond b next state) ≡ true → killed_before n state ≡ true
+unless true next state n none h = absurd (false≢true (sym none ∙ h))
+unless false next state n none h = h
+
 module _ {O Key Recon Cond : Type 0} where
   pub targets_agree : TargetsAgree O Key Recon Cond
   targets_agree before past r legal = (
@@ -169,3 +173,52 @@ module _ {O Key Recon Cond : Type 0} where
       (λ q. (less r ∙ ap (λ b. cond b false (t r)) q, sl r)))
   kills_stay (CloseVacuum seat swept) past t l t2 l2 legal allowed K (st, sl) = kills_by (CloseVacuum seat swept) past t l t2 l2 K (λ s before h. was_open (CloseVacuum seat swept) past before s (λ e. absurd (cc e)) h) (λ r. inl (refl, st r, sl r))
   kills_stay (Leave seat) past t l t2 l2 legal allowed K (st, sl) = kills_by (Leave seat) past t l t2 l2 K (λ s before h. was_open (Leave seat) past before s (λ e. absurd (cc e)) h) (λ r. inl (refl, st r, sl r))
+
+  -- ---- as sections of other seats use it
+
+  -- a target after an event was one before
+  target_before : (e : Event O Key Recon Cond) (before past : History O Key Recon Cond) → length before ≤ length past → (r : RowAt) → is_target before (e ∷ past) r ≡ true → is_target before past r ≡ true
+  target_before (OpenInsert seat row key) before past later r h = unless (same_row row r) Claimed (state_of r past) (length before) refl h
+  target_before (Put seat row) before past later r h = unless (same_row row r) Live (state_of r past) (length before) refl h
+  target_before (Drop seat row why) before past later r h = unless (same_row row r) Free (state_of r past) (length before) refl h
+  target_before (Kill seat row) before past later r h = unless (same_row row r) (Killed (length past)) (state_of r past) (length before) (le-ltb (length past) (length before) later) h
+  target_before (OpenScan seat query) before past later r h = h
+  target_before (CloseScan seat rows) before past later r h = h
+  target_before (OpenVacuum seat) before past later r h = h
+  target_before (Sweep seat row) before past later r h = unless (same_row row r) (Swept (vacuum_from (open_of seat past))) (state_of r past) (length before) refl h
+  target_before (CloseVacuum seat swept) before past later r h = h
+  target_before (Leave seat) before past later r h = h
+
+  longer : (es past before : History O Key Recon Cond) → length before ≤ length past → length before ≤ length (es ++ past)
+  longer [] past before later = later
+  longer (e ∷ es) past before later = let a = longer es past before later in omega arith
+
+  pub target_was : (es before past : History O Key Recon Cond) → length before ≤ length past → (r : RowAt) → is_target before (es ++ past) r ≡ true → is_target before past r ≡ true
+  target_was [] before past later r h = h
+  target_was (e ∷ es) before past later r h = target_was es before past later r (target_before e before (es ++ past) (longer es past before later) r h)
+
+  -- the row of an open insert is none
+  pub inserted_none : (before past : History O Key Recon Cond) → IsLegal past → (seat : ℕ) (row : RowAt) (key : Option Key) → open_of seat past ≡ inserting row key → is_target before past row ≡ false
+  inserted_none before past legal seat row key has = ap (killed_before (length before)) ((sane_from_legal past legal).inserts seat row key has).state
+
+  -- another seat sweeps nothing while a vacuum is open
+  pub unswept_by : (e : Event O Key Recon Cond) (past : History O Key Recon Cond) → IsLegal past → IsAllowed past e → (other : ℕ) (before : History O Key Recon Cond) → open_of other past ≡ vacuuming before → (other ≡ seat_of e → ⊥) → sweep_count (e ∷ past) ≡ sweep_count past
+  unswept_by (OpenInsert seat row key) past legal allowed other before has apart = refl
+  unswept_by (Put seat row) past legal allowed other before has apart = refl
+  unswept_by (Drop seat row why) past legal allowed other before has apart = refl
+  unswept_by (Kill seat row) past legal allowed other before has apart = refl
+  unswept_by (OpenScan seat query) past legal allowed other before has apart = refl
+  unswept_by (CloseScan seat rows) past legal allowed other before has apart = refl
+  unswept_by (OpenVacuum seat) past legal allowed other before has apart = refl
+  unswept_by (Sweep seat row) past legal allowed other before has apart = absurd (apart ((sane_from_legal past legal).vacuum.alone other seat before allowed.0 has allowed.1))
+  unswept_by (CloseVacuum seat swept) past legal allowed other before has apart = refl
+  unswept_by (Leave seat) past legal allowed other before has apart = refl
+
+  -- ---- sets that are the same
+
+  pub kills_same : (past : History O Key Recon Cond) (t l t2 l2 : RowAt → Bool) → SameTest t t2 → SameTest l l2 → KillsTell past t l → KillsTell past t2 l2
+  kills_same past t l t2 l2 st sl K = record {
+    killed = λ r. ap₂ (λ x y. x || y) (st r) (sl r) ∙ K.killed r;
+    early = λ s before h r. st r ∙ K.early s before h r;
+    late = λ s before h r. sl r ∙ K.late s before h r;
+  }
