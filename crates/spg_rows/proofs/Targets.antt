@@ -21,7 +21,7 @@ use Rattle.spg_rows.proofs.Vacuums.{was_open}
 
 -- ---- what a state says
 
-killed_state : (n : ℕ) (state : RowState) → killed_before n state ≡ true → (at : ℕ) × (state ≡ Killed at) × (at < n)
+pub killed_state : (n : ℕ) (state : RowState) → killed_before n state ≡ true → (at : ℕ) × (state ≡ Killed at) × (at < n)
 killed_state n Free h = absurd (false≢true h)
 killed_state n Claimed h = absurd (false≢true h)
 killed_state n Live h = absurd (false≢true h)
