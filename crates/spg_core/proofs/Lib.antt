@@ -11,7 +11,6 @@ pub mod Rewriting
 pub mod Settles
 pub mod Ticks
 pub mod Slots
-pub mod Sweeps
 pub mod Steps
 pub mod Growing
 pub mod Keeping
@@ -19,5 +18,6 @@ pub mod Inserts
 pub mod Going
 pub mod Opens
 pub mod Scans
+pub mod Works
 pub mod Runs
 pub mod Counting
