@@ -19,5 +19,6 @@ pub mod Going
 pub mod Opens
 pub mod Scans
 pub mod Works
+pub mod Sweepers
 pub mod Runs
 pub mod Counting
