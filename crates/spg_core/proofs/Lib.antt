@@ -11,6 +11,7 @@ pub mod Rewriting
 pub mod Settles
 pub mod Ticks
 pub mod Slots
+pub mod Seeking
 pub mod Sweeps
 pub mod Steps
 pub mod Growing
