@@ -21,5 +21,6 @@ pub mod Inserts
 pub mod Going
 pub mod Opens
 pub mod Scans
+pub mod Works
 pub mod Runs
 pub mod Counting

@@ -1,5 +1,5 @@
 -- Calls of any seats in any order.
-use Rattle.std.specs.Prelude.{◌≡◌, ◌≤◌, ◌++◌, ℕ, true, false, List, [], ◌∷◌, Option, length, reverse, slice_set, if◌then◌else◌, ◌==◌, ⊤}
+use Rattle.std.specs.Prelude.{◌≡◌, ◌<◌, ◌≤◌, ◌^◌, ◌++◌, ℕ, true, false, List, [], ◌∷◌, Option, length, reverse, slice_set, if◌then◌else◌, ◌==◌, ⊤}
 use Rattle.spg_base.specs.Row.{RowAt}
 use Rattle.spg_opclass.specs.Meaning.{Meaning}
 use Rattle.spg_opclass.specs.declared.query.Query.{Query}
@@ -17,14 +17,13 @@ use Rattle.spg_scan.specs.declared.walk.ReadOut.{ReadOut}
 use Rattle.spg_scan.specs.declared.walk.Closed.{Closed}
 use Rattle.spg_seats.specs.Latching.{HoldsNone, rest_of}
 use Rattle.spg_vacuum.specs.declared.vacuum.Vacuum.{Vacuum}
-use Rattle.spg_seats.specs.Opening.{SameRows, ChangesRows, SweepsRows, sweeps}
+use Rattle.spg_seats.specs.Opening.{opened_vacuum, SameRows, ChangesRows, SweepsRows, EndsNewest, sweeps}
 use Rattle.spg_seats.specs.Slots.{Stage, free, descending, reading, sweeping, stage_in, open_count, horizon_of, NoneSweeps, Fields, IsKept}
 use Rattle.spg_core.specs.declared.answer.InsertOut.{InsertOut}
 use Rattle.spg_core.specs.declared.answer.InsertOut.TheVariants as outs
 use Rattle.spg_core.specs.declared.answer.VacuumOut.{VacuumOut}
 use Rattle.spg_core.specs.declared.answer.VacuumOut.TheVariants as work
 use Rattle.spg_core.specs.Seen.{untouched}
-use Rattle.spg_core.specs.Sections.{new_vacuum}
 use Rattle.spg_core.specs.Sweeping.{DoesWork, KeepsWork}
 use Rattle.spg_core.specs.Telling.{IsButLatches, StepDone}
 
@@ -83,12 +82,12 @@ StepsTo s s2 seat key d d2 outs.Restructured = Goes s s2 seat (descending key d2
 StepsTo s s2 seat key d d2 (outs.Restarted block by) = Goes s s2 seat (descending key d2) [] × SameRows s s2
 StepsTo {O} {Key} {Recon} {Cond} s s2 seat key d d2 outs.Put = Goes s s2 seat free (event.Put seat d.row ∷ []) × ChangesRows (event.Put seat d.row) (reverse s.journal) s s2
 
--- a section of the seat's vacuum: its sweeps are told in order; once it is at its end, the seat has nothing open
+-- a section of the seat's vacuum: its sweeps are told in order, of fewer than 2^64 events in all; once it is at its end, the seat has nothing open
 abbrev pub WorksTo : {O Key Recon Cond : Type 0} → Fields O Key Recon Cond → Fields O Key Recon Cond → ℕ → Vacuum → Vacuum → List RowAt → VacuumOut → Type 0
-WorksTo s s2 seat v v2 swept work.Block = Goes s s2 seat (sweeping v2) (sweeps seat swept) × SweepsRows v.at swept s s2
-WorksTo s s2 seat v v2 swept work.Pending = Goes s s2 seat (sweeping v2) (sweeps seat swept) × SweepsRows v.at swept s s2
+WorksTo s s2 seat v v2 swept work.Block = Goes s s2 seat (sweeping v2) (sweeps seat swept) × SweepsRows v.at swept s s2 × (length s2.journal < 2 ^ 64)
+WorksTo s s2 seat v v2 swept work.Pending = Goes s s2 seat (sweeping v2) (sweeps seat swept) × SweepsRows v.at swept s s2 × (length s2.journal < 2 ^ 64)
 WorksTo s s2 seat v v2 swept (work.Latched block by) = Goes s s2 seat (sweeping v2) [] × SameRows s s2
-WorksTo s s2 seat v v2 swept (work.Finished count) = Goes s s2 seat free (event.CloseVacuum seat count ∷ []) × ChangesRows (event.CloseVacuum seat count) (reverse s.journal) s s2
+WorksTo s s2 seat v v2 swept (work.Finished count) = Goes s s2 seat free (event.CloseVacuum seat count ∷ []) × EndsNewest (length (reverse s.journal)) s s2
 
 -- a scan or a vacuum, which may be left
 abbrev pub IsLeft : {O Key Recon Cond : Type 0} → Stage O Key Recon Cond → Type 0
@@ -120,7 +119,7 @@ Does {O} {Key} {Recon} {Cond} m s s2 seat (drops row why) =
 Does {O} {Key} {Recon} {Cond} m s s2 seat leaves =
     IsLeft (stage_in s.stages seat) × Goes s s2 seat free (event.Leave seat ∷ []) × (s2.table ≡ untouched s.table) × ChangesRows (event.Leave seat) (reverse s.journal) s s2
 Does {O} {Key} {Recon} {Cond} m s s2 seat opens_vacuum =
-    (stage_in s.stages seat ≡ free) × NoneSweeps s.stages × Goes s s2 seat (sweeping (new_vacuum (length s.journal) s.table.clock)) (event.OpenVacuum seat ∷ []) × (s2.table ≡ untouched s.table) × ChangesRows (event.OpenVacuum seat) (reverse s.journal) s s2
+    (stage_in s.stages seat ≡ free) × NoneSweeps s.stages × Goes s s2 seat (sweeping (opened_vacuum (length s.journal) s.table.clock)) (event.OpenVacuum seat ∷ []) × (s2.table ≡ untouched s.table) × ChangesRows (event.OpenVacuum seat) (reverse s.journal) s s2
 Does m s s2 seat (works out swept) =
     let horizon : Vacuum → ℕ = λ v. horizon_of s.stages v.stamp in
     (v v2 : Vacuum) × (stage_in s.stages seat ≡ sweeping v) × DoesWork s.table s2.table v v2 s.targets (horizon v) seat out swept × KeepsWork m s.table s2.table v v2 s.targets (horizon v) out swept × WorksTo s s2 seat v v2 swept out

@@ -24,8 +24,7 @@ use Rattle.spg_core.specs.declared.answer.InsertOut.TheVariants as outs
 use Rattle.spg_core.specs.Stage.{Stage, free, descending, reading, sweeping, given_up}
 use Rattle.spg_rows.specs.Targets.{killed_before}
 use Rattle.spg_vacuum.specs.declared.vacuum.Vacuum.{Vacuum}
-use Rattle.spg_vacuum.specs.Listing.{none_listed}
-use Rattle.spg_seats.specs.Opening.{sweeps}
+use Rattle.spg_seats.specs.Opening.{opened_vacuum, sweeps}
 use Rattle.spg_seats.specs.Slots.{HasLatches, horizon_of}
 use Rattle.spg_core.specs.declared.answer.VacuumOut.{VacuumOut}
 use Rattle.spg_core.specs.declared.answer.VacuumOut.TheVariants as works
@@ -168,13 +167,9 @@ ClosesScan old new seat closed = (new ≡ logged old seat (CloseScan seat closed
 
 -- ---- vacuums
 
--- a vacuum that opens at a journal position and at the clock: at block 1, with nothing pending and nothing swept
-abbrev pub new_vacuum : ℕ → ℕ → Vacuum
-new_vacuum at clock = record { at = at; stamp = clock; next = 1; swept = 0; pending = none_listed }
-
 abbrev pub OpensVacuum : {O Key Recon Cond : Type 0} → Seen O Key Recon Cond → Seen O Key Recon Cond → ℕ → Type 0
 OpensVacuum old new seat =
-    let s : Stage _ _ _ _ = sweeping (new_vacuum (length old.journal) old.table.clock) in
+    let s : Stage _ _ _ _ = sweeping (opened_vacuum (length old.journal) old.table.clock) in
     (new ≡ logged old seat (OpenVacuum seat) s (untouched old.table)) × (stage_at new seat ≡ s)
 
 -- the rows of the test were deleted before this position, and are not swept

@@ -19,7 +19,7 @@ pub returns-then-not-is_live-clause-ok : goal.returns-then-not-is_live-clause-ok
 returns-then-not-is_live-clause-ok g c =
     let s = c.self.inside in
     let past = past_is s c.args.self.now c.self.view_is 0 in
-    (λ live. false≢true (sym c.if-not-is_live.true ∙ c.is_live.ensures.1 (c.state.ensures ∙ c.self.invariant.kept.tells.states c.args.row ∙ sym (ap (state_of c.args.row) past) ∙ live)), refl)
+    (λ live. false≢true (sym c.if-not-is_live.true ∙ c.is_live.ensures.1 (c.state.ensures ∙ c.self.invariant.tells.states c.args.row ∙ sym (ap (state_of c.args.row) past) ∙ live)), refl)
 
 pub kill-requires : goal.kill-requires
 kill-requires g c = sym c.state.ensures ∙ c.is_live.ensures.0 c.if-not-is_live.false
