@@ -12,6 +12,7 @@ pub mod Settles
 pub mod Ticks
 pub mod Slots
 pub mod Seeking
+pub mod Sectioning
 pub mod Spanning
 pub mod Sweeps
 pub mod Steps
