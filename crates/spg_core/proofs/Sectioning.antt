@@ -1,6 +1,7 @@
 -- What a section of a vacuum did, and how it is told.
-use Rattle.std.proofs.Common.{◌≡◌, ◌≤◌, ◌<◌, ◌+◌, ◌*◌, inl, inr, ⊎_elim, ℕ, zero, suc, Bool, true, false, cond, List, [], ◌∷◌, ◌++◌, Some, length, take, get_or, Contains, refl, sym, ap, ◌∙◌, subst, arith}
-use Rattle.std.proofs.lemmas.Bool.{cases_Bool, cond_both, false≢true}
+use Rattle.std.proofs.Common.{◌≡◌, ◌≤◌, ◌<◌, ◌+◌, ◌*◌, inl, inr, ℕ, zero, suc, Bool, true, false, cond, List, [], ◌∷◌, ◌++◌, Option, Some, None, length, map, take, get_or, set, refl, sym, ap, ◌∙◌, subst, arith}
+use Rattle.std.proofs.Math.Nat.{min-le_right}
+use Rattle.std.proofs.lemmas.Bool.{cond_both}
 use Rattle.std.proofs.lemmas.List.{take_more, append_assoc}
 use Rattle.spg_base.specs.Row.{RowAt, same_row}
 use Rattle.spg_opclass.specs.Meaning.{Meaning}
@@ -22,10 +23,14 @@ use Rattle.spg_vacuum.specs.declared.vacuum.Vacuum.{Vacuum}
 use Rattle.spg_vacuum.specs.Listing.{first_place}
 use Rattle.spg_vacuum.specs.Handled.{HandlesPlace}
 use Rattle.spg_vacuum.specs.Vacuums.{work_at, work_of, BlockDone, FirstDone, KeepsVacuum}
+use Rattle.spg_seats.specs.Slots.{Stage, stamp_of, least, horizon_of}
 use Rattle.spg_seats.specs.Opening.{is_among, sweeps}
 use Rattle.spg_core.specs.declared.answer.VacuumOut.{VacuumOut}
 use Rattle.spg_core.specs.declared.answer.VacuumOut.TheVariants as outs
-use Rattle.spg_core.specs.Sweeping.{DoesWork, KeepsWork}
+use Rattle.spg_core.specs.declared.slot.Slot.{Slot}
+use Rattle.spg_core.specs.declared.slot.Slot.TheVariants as slots
+use Rattle.spg_core.specs.Slot.{stage_of}
+use Rattle.spg_core.specs.Sweeping.{DoesWork, KeepsWork, CanSweep, IsVacuumSlot, IsHorizonFor}
 
 -- ---- no page has more than 408 leaves
 
@@ -124,3 +129,39 @@ module _ (xs : List RowAt) (i : ℕ) (row : RowAt) (there : i < length xs) (is :
   one_told {O} {Key} {Recon} {Cond} seat now was old h k =
       h ∙ ap (λ (l : List (Event O Key Recon Cond)). l ++ Sweep seat row ∷ []) k ∙ append_assoc old (sweeps seat (take i xs)) (Sweep seat row ∷ [])
       ∙ sym (ap (λ (l : List (Event O Key Recon Cond)). old ++ l) (ap (λ (ys : List RowAt). sweeps seat ys) one_more ∙ sweeps_last seat (take i xs) row))
+
+-- ---- a vacuum in a slot
+
+least_under : (x : Option ℕ) (n : ℕ) → least x n ≤ n
+least_under None n = omega arith
+least_under (Some u) n = min-le_right u n
+
+module _ {O Key Recon Cond : Type 0} where
+  pub vacuum_of : (m : Meaning Key Recon Cond) (t : Table) (test : RowAt → Bool) (slot : Slot O Key Recon Cond) → CanSweep m t test slot → (v : Vacuum) × (slot ≡ slots.Vacuum v)
+  vacuum_of m t test slots.Free h = absurd h
+  vacuum_of m t test (slots.Insert key d) h = absurd h
+  vacuum_of m t test (slots.Scan s) h = absurd h
+  vacuum_of m t test (slots.Vacuum v) h = (v, refl)
+
+  pub vacuum_slot : (m : Meaning Key Recon Cond) (t : Table) (test : RowAt → Bool) (slot : Slot O Key Recon Cond) → CanSweep m t test slot → IsVacuumSlot slot
+  vacuum_slot m t test slots.Free h = absurd h
+  vacuum_slot m t test (slots.Insert key d) h = absurd h
+  vacuum_slot m t test (slots.Scan s) h = absurd h
+  vacuum_slot m t test (slots.Vacuum v) h = tt
+
+  pub horizon_under : (stages : List (Stage O Key Recon Cond)) (n : ℕ) → horizon_of stages n ≤ n
+  horizon_under [] n = omega arith
+  horizon_under (s ∷ stages) n = let a = least_under (stamp_of s) (horizon_of stages n) in let b = horizon_under stages n in omega arith
+
+  -- the horizon that was found, where the slot is the vacuum's
+  pub horizon_is : (now items : List (Slot O Key Recon Cond)) (seat horizon : ℕ) (v : Vacuum) → now ≡ items → get_or items seat slots.Free ≡ slots.Vacuum v → IsHorizonFor now (get_or now seat slots.Free) horizon → horizon ≡ horizon_of (map stage_of items) v.stamp
+  horizon_is now items seat horizon v same here h =
+      subst (λ (x : Slot O Key Recon Cond). IsHorizonFor items x horizon) here (subst (λ (xs : List (Slot O Key Recon Cond)). IsHorizonFor xs (get_or xs seat slots.Free) horizon) same h)
+
+  itself : (xs : List (Slot O Key Recon Cond)) (i : ℕ) → set xs i (get_or xs i slots.Free) ≡ xs
+  itself [] i = refl
+  itself (x ∷ xs) zero = refl
+  itself (x ∷ xs) (suc i) = ap (λ ys. x ∷ ys) (itself xs i)
+
+  pub same_slot : (items : List (Slot O Key Recon Cond)) (at : ℕ) (v v2 : Vacuum) → get_or items at slots.Free ≡ slots.Vacuum v → v2 ≡ v → set items at (slots.Vacuum v2) ≡ items
+  same_slot items at v v2 here same = ap (λ (x : Vacuum). set items at (slots.Vacuum x)) same ∙ ap (λ (x : Slot O Key Recon Cond). set items at x) (sym here) ∙ itself items at

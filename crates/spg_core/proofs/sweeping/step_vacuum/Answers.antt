@@ -1,4 +1,4 @@
-use Rattle.std.proofs.Common.{◌≡◌, refl, sym, ap, ◌∙◌}
+use Rattle.std.proofs.Common.{sym, ap, ◌∙◌}
 use Rattle.std.specs.BTreeSet.{contains}
 use Rattle.spg_base.specs.Row.{row_cmp}
 use Rattle.spg_core.proofs.Sectioning.{IsTold, block_told, pending_told}

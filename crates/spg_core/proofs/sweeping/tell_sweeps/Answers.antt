@@ -1,4 +1,4 @@
-use Rattle.std.proofs.Common.{◌≡◌, ◌<◌, cond, length, take, false, sym, ap, ◌∙◌, arith}
+use Rattle.std.proofs.Common.{◌<◌, cond, length, false, sym, ap, ◌∙◌, arith}
 use Rattle.std.specs.BTreeSet.{contains}
 use Rattle.spg_base.specs.Row.{row_cmp}
 use Rattle.spg_rows.specs.declared.table.RowState.TheVariants.{Swept}
@@ -12,8 +12,8 @@ sweep-requires g c =
     let (at, was) = c.requires.killed c.row-item.result (c.loop-row.row-index, there, sym c.row-item.is) in (
       at,
       c.loop-row.invariant.2 c.row-item.result
-      ∙ ap (λ b. cond b (Swept c.args.vacuum) (state_in c.args.rows.now c.row-item.result)) (not_yet c.args.swept.now c.loop-row.row-index c.row-item.result there c.row-item.is c.requires.once)
-      ∙ was,
+          ∙ ap (λ b. cond b (Swept c.args.vacuum) (state_in c.args.rows.now c.row-item.result)) (not_yet c.args.swept.now c.loop-row.row-index c.row-item.result there c.row-item.is c.requires.once)
+          ∙ was,
     )
 
 pub loop-row-preserved : goal.loop-row-preserved
