@@ -11,6 +11,10 @@ pub mod Rewriting
 pub mod Settles
 pub mod Ticks
 pub mod Slots
+pub mod Seeking
+pub mod Sectioning
+pub mod Spanning
+pub mod Sweeps
 pub mod Steps
 pub mod Growing
 pub mod Keeping

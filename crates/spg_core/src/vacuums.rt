@@ -66,10 +66,7 @@ impl Vacuums {
     pub fn end_of(&self, opened: u64) -> Option<u64>
         ensures { result ≡ find_end opened self.now }
     {
-        match self
-            .spans
-            .binary_search_by_key(&opened, |span| span.opened)
-        {
+        match self.spans.binary_search_by_key(&opened, |span| span.opened) {
             Ok(index) => self.spans[index].ended,
             Err(_) => None,
         }

@@ -1,5 +1,5 @@
 -- Which rows an open vacuum must sweep, and the sets of the rows that were killed and not swept.
-use Rattle.std.proofs.Common.{◌≡◌, ◌≤◌, ◌<◌, ◌⊎◌, ⊎_elim, inl, inr, ℕ, Bool, true, false, cond, ◌||◌, List, [], ◌∷◌, ◌++◌, length, Option, Some, nat_lt, nat_le, refl, sym, ap, ap₂, ◌∙◌, subst, arith}
+use Rattle.std.proofs.Common.{◌≡◌, ◌≤◌, ◌<◌, ◌⊎◌, inl, inr, ℕ, Bool, true, false, cond, ◌||◌, List, [], ◌∷◌, ◌++◌, length, Option, Some, refl, sym, ap, ap₂, ◌∙◌, subst, arith}
 use Rattle.std.proofs.lemmas.Bool.{false≢true, ltb-true, lt-ltb, le-ltb, lt-leb, le-leb}
 use Rattle.std.proofs.Math.Bool.{or-false, or-true}
 use Rattle.spg_base.specs.Row.{RowAt, same_row}
@@ -12,11 +12,10 @@ use Rattle.spg_rows.specs.Lives.{Life, lives, IsOneOf, vacuum_from}
 use Rattle.spg_rows.specs.Rows.{present_in, kill_in, state_of, sweep_count}
 use Rattle.spg_rows.specs.Legal.{IsAllowed, IsLegal}
 use Rattle.spg_rows.specs.States.{StateSays}
-use Rattle.spg_rows.specs.Scans.{IsTarget}
-use Rattle.spg_rows.specs.Targets.{is_killed, killed_before, killed_from, is_target, TargetsAgree, KillsTell, SameTest, ChangesTargets, KillsStay}
+use Rattle.spg_rows.specs.Targets.{is_killed, killed_before, killed_from, is_target, TargetsAgree, KillsTell, SameTest, KillsStay}
 use Rattle.spg_rows.proofs.RowOrder.{row_tells, same_row-refl}
 use Rattle.spg_rows.proofs.Opened.{opened_cases, vacuum_before}
-use Rattle.spg_rows.proofs.Histories.{Sane, IsSound, sane_from_legal, live_says, present_says, unclaimed_says}
+use Rattle.spg_rows.proofs.Histories.{sane_from_legal, live_says, present_says, unclaimed_says}
 use Rattle.spg_rows.proofs.Vacuums.{was_open}
 
 -- ---- what a state says

@@ -1,5 +1,5 @@
 -- What the sweeps of one section of a vacuum leave of rows.
-use Rattle.std.proofs.Common.{◌≡◌, ◌↔◌, ◌≤◌, ◌<◌, ◌+◌, ◌⊎◌, ⊎_elim, inl, inr, ℕ, zero, suc, Bool, true, false, cond, ◌||◌, List, [], ◌∷◌, ◌++◌, length, reverse, Some, Contains, refl, sym, ap, ap₂, ◌∙◌, subst, arith}
+use Rattle.std.proofs.Common.{◌≡◌, ◌↔◌, ◌≤◌, ◌<◌, ◌+◌, ◌⊎◌, ⊎_elim, inl, inr, ℕ, zero, suc, Bool, true, false, cond, ◌||◌, List, [], ◌∷◌, ◌++◌, length, reverse, Contains, refl, sym, ap, ap₂, ◌∙◌, subst, arith}
 use Rattle.std.proofs.lemmas.Bool.{cases_Bool, lt-leb, false≢true}
 use Rattle.std.proofs.lemmas.List.{reverse-append}
 use Rattle.spg_base.specs.Row.{RowAt, same_row}
@@ -8,9 +8,7 @@ use Rattle.spg_forest.specs.Sheets.{Sheets}
 use Rattle.spg_forest.specs.Section.{Takes, Cost}
 use Rattle.spg_forest.specs.Steps.{HasRow}
 use Rattle.spg_cover.specs.Swept.{NoneTwice}
-use Rattle.spg_rows.specs.declared.event.Event.{Event}
 use Rattle.spg_rows.specs.declared.event.Event.TheVariants.{OpenInsert, Put, Drop, Kill, OpenScan, CloseScan, OpenVacuum, Sweep, CloseVacuum, Leave}
-use Rattle.spg_rows.specs.declared.table.RowState.{RowState}
 use Rattle.spg_rows.specs.declared.table.RowState.TheVariants.{Killed, Swept}
 use Rattle.spg_rows.specs.History.{History, vacuuming, open_of}
 use Rattle.spg_rows.specs.Lives.{Life, swept_by, sweeper, last_on, lives, vacuum_from}
@@ -20,7 +18,6 @@ use Rattle.spg_rows.specs.Right.{AnswersRight}
 use Rattle.spg_rows.specs.Scans.{IsTarget}
 use Rattle.spg_rows.specs.Targets.{is_killed, killed_before, killed_from, KillsTell, SameTest}
 use Rattle.spg_rows.specs.Vacuums.{vacuums}
-use Rattle.spg_rows.specs.Table as rows
 use Rattle.spg_rows.proofs.RowOrder.{row_tells, same_row-refl}
 use Rattle.spg_rows.proofs.Opened.{opened_cases}
 use Rattle.spg_rows.proofs.Targets.{killed_state}

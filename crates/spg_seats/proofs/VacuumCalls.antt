@@ -2,23 +2,22 @@
 use Rattle.std.proofs.Common.{◌≡◌, ◌≢◌, ◌≤◌, ◌<◌, ◌+◌, ◌^◌, ◌-◌, ◌⊎◌, ⊎_elim, inl, inr, ℕ, zero, suc, min, Bool, true, false, cond, List, [], ◌∷◌, ◌++◌, length, reverse, set, get_or, Option, Some, None, Contains, nat_lt, refl, sym, ap, ◌∙◌, subst, arith, get_or-set_other}
 use Rattle.std.proofs.Math.Nat.{min-le_left, min-le_right, min-eq_left}
 use Rattle.std.proofs.lemmas.Bool.{cases_Bool, cases_eq}
-use Rattle.std.proofs.lemmas.List.{reverse-append, length-append, length-reverse}
+use Rattle.std.proofs.lemmas.List.{reverse-append, length-reverse}
 use Rattle.spg_base.specs.Row.{RowAt}
 use Rattle.spg_opclass.specs.Meaning.{Meaning}
 use Rattle.spg_forest.specs.View.{Place}
 use Rattle.spg_forest.specs.Classes.{HasEntry}
-use Rattle.spg_forest.specs.Sheets.{Sheet, Sheets, with_tuples, blank}
-use Rattle.spg_forest.specs.Shape.{Shape, spots}
-use Rattle.spg_forest.specs.Section.{Takes, Cost}
+use Rattle.spg_forest.specs.Sheets.{Sheet, with_tuples, blank}
+use Rattle.spg_forest.specs.Shape.{spots}
+use Rattle.spg_forest.specs.Section.{Takes}
 use Rattle.spg_forest.specs.Steps.{HasRow}
 use Rattle.spg_forest.specs.Puts.{spreads}
 use Rattle.spg_forest.specs.Walk.{weight_of}
-use Rattle.spg_rows.specs.declared.event.Event.{Event}
 use Rattle.spg_rows.specs.declared.event.Event.TheVariants.{OpenVacuum, CloseVacuum, Leave}
-use Rattle.spg_rows.specs.declared.table.RowState.TheVariants.{Killed, Swept}
-use Rattle.spg_rows.specs.History.{History, nothing, inserting, scanning, vacuuming, open_of}
+use Rattle.spg_rows.specs.declared.table.RowState.TheVariants.{Swept}
+use Rattle.spg_rows.specs.History.{History, nothing, vacuuming, open_of}
 use Rattle.spg_rows.specs.Lives.{Life, lives, vacuum_from}
-use Rattle.spg_rows.specs.Rows.{present_in, key_in, kill_of, state_of, sweep_count}
+use Rattle.spg_rows.specs.Rows.{present_in, key_in, state_of, sweep_count}
 use Rattle.spg_rows.specs.Legal.{IsLeavable, IsLegal}
 use Rattle.spg_rows.specs.Right.{VacuumRight}
 use Rattle.spg_rows.specs.Scans.{IsTarget}
@@ -30,8 +29,8 @@ use Rattle.spg_rows.proofs.Scans.{killed_swept}
 use Rattle.spg_rows.proofs.Targets.{targets_agree, target_was}
 use Rattle.spg_tree.specs.Table.{Table, sheets_of, sheet_at, latch_at, tuples_at}
 use Rattle.spg_descend.specs.Carried.{root_of}
-use Rattle.spg_cover.specs.Vacuum.{Of, IsLess}
-use Rattle.spg_cover.specs.Swept.{NoneTwice, targets_on}
+use Rattle.spg_cover.specs.Vacuum.{Of}
+use Rattle.spg_cover.specs.Swept.{NoneTwice}
 use Rattle.spg_cover.proofs.SweptRows.{swept_rows}
 use Rattle.spg_vacuum.specs.declared.done.Done.TheVariants as done
 use Rattle.spg_vacuum.specs.declared.done.Work.TheVariants as works
@@ -39,17 +38,17 @@ use Rattle.spg_vacuum.specs.declared.vacuum.Vacuum.{Vacuum}
 use Rattle.spg_vacuum.specs.Latch.{IsFree}
 use Rattle.spg_vacuum.specs.Listing.{first_place}
 use Rattle.spg_vacuum.specs.Handled.{HandlesBlock, HandlesPlace}
-use Rattle.spg_vacuum.specs.Vacuums.{IsVacuum, BlockDone, PendingDone, FirstDone, KeepsVacuum, LeavesNone, work_at, work_of}
+use Rattle.spg_vacuum.specs.Vacuums.{IsVacuum, BlockDone, FirstDone, KeepsVacuum, LeavesNone, work_at, work_of}
 use Rattle.spg_vacuum.proofs.OtherSeats.{opens_vacuum}
 use Rattle.spg_seats.specs.Descending.{HasInnerRoot, ChangesHeld}
 use Rattle.spg_seats.specs.Latching.{AreHeld, rest_of}
-use Rattle.spg_seats.specs.Slots.{Stage, free, descending, reading, sweeping, stage_in, stamp_of, IsVacuumOf, StageFits, stage_holds, kept_key, open_count, least, horizon_of, IsSafe, NoneSweeps, RootsAreHeavy, opened_keys, Fields, IsKept}
+use Rattle.spg_seats.specs.Slots.{Stage, free, descending, reading, sweeping, stage_in, stamp_of, IsVacuumOf, StageFits, stage_holds, kept_key, open_count, least, horizon_of, IsSafe, NoneSweeps, Fields, IsKept}
 use Rattle.spg_seats.specs.Opening.{opened_vacuum, sweeps, SameRows, ChangesRows, SweepsRows, EndsNewest, is_among}
 use Rattle.spg_seats.proofs.Slots.{keeps}
 use Rattle.spg_seats.proofs.Opening.{sweeps_hold}
 use Rattle.spg_seats.proofs.Holding.{latches_law}
 use Rattle.spg_seats.proofs.Sweeping.{fewer_targets, vacuum_same}
-use Rattle.spg_seats.proofs.SweptRows.{among_has, has_among, has_contains, contains_has, has_turned, once_turned, takes_as, sweeps_turned, sweeps_of, sweeps_open, sweeps_state, sweeps_counted, sweeps_keys, sweeps_vacuums, sweeps_answer, sweeps_legal, sweeps_tell, sweeps_kept, sweeps_few, was_killed}
+use Rattle.spg_seats.proofs.SweptRows.{among_has, has_among, has_contains, contains_has, has_turned, once_turned, takes_as, sweeps_turned, sweeps_of, sweeps_open, sweeps_state, sweeps_counted, sweeps_keys, sweeps_vacuums, sweeps_answer, sweeps_legal, sweeps_tell, sweeps_kept, sweeps_few}
 use Rattle.spg_seats.proofs.Calls as calls
 
 -- ---- the horizon

@@ -1,15 +1,12 @@
 -- For which seat a swept row waits, as the stages tell.
-use Rattle.std.proofs.Common.{◌≡◌, ◌≤◌, ◌<◌, ⊎_elim, ℕ, zero, suc, Bool, true, false, List, length, reverse, Option, Some, None, nat_lt, refl, sym, ap, ap₂, ◌∙◌, subst, arith}
+use Rattle.std.proofs.Common.{◌≡◌, ◌≤◌, ◌<◌, ⊎_elim, ℕ, zero, suc, Bool, true, List, reverse, Option, Some, None, nat_lt, refl, sym, ap, ap₂, ◌∙◌, subst, arith}
 use Rattle.std.proofs.lemmas.Bool.{cases_Bool, cases_eq, cases_lt}
 use Rattle.std.proofs.lemmas.List.{get_or_past}
-use Rattle.spg_base.specs.Row.{RowAt}
 use Rattle.spg_opclass.specs.Meaning.{Meaning}
 use Rattle.spg_rows.specs.declared.table.RowState.{RowState}
-use Rattle.spg_rows.specs.declared.table.RowState.TheVariants.{Swept}
-use Rattle.spg_rows.specs.History.{History, nothing, inserting, scanning, vacuuming, open_of}
+use Rattle.spg_rows.specs.History.{History, vacuuming, open_of}
 use Rattle.spg_rows.specs.Lives.{Sweeper}
-use Rattle.spg_rows.specs.Held.{or_then, is_scan_at, vacuum_end, lowest_scan, waits_for, waits_after}
-use Rattle.spg_rows.specs.Rows.{held_by, state_of}
+use Rattle.spg_rows.specs.Held.{or_then, is_scan_at, vacuum_end, lowest_scan, waits_after}
 use Rattle.spg_rows.specs.Told.{RunsVacuum, StateTells}
 use Rattle.spg_rows.specs.Vacuums.{find_end}
 use Rattle.spg_rows.proofs.Histories.{sane_from_legal}
