@@ -14,7 +14,6 @@ pub mod Slots
 pub mod Seeking
 pub mod Sectioning
 pub mod Spanning
-pub mod Sweeps
 pub mod Steps
 pub mod Growing
 pub mod Keeping
@@ -24,5 +23,6 @@ pub mod Opens
 pub mod Scans
 pub mod Works
 pub mod Sweepers
+pub mod Vacuumed
 pub mod Runs
 pub mod Counting

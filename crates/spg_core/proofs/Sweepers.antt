@@ -33,26 +33,30 @@ use Rattle.spg_core.specs.Kept.{fields_of, seen_of, IsState}
 use Rattle.spg_core.proofs.Slots.{stages_set, stage_set}
 use Rattle.spg_core.proofs.Steps.{with_all, rows_in, held_on, past, stages, sane, seats, free_held, free_open}
 
+or_empty : (a b c : Bool) → (a || b) ≡ c → b ≡ false → a ≡ c
+or_empty true b c h e = h
+or_empty false b c h e = sym e ∙ h
+
 -- ---- the lowest seat of a test
 
 module _ {O Key Recon Cond : Type 0} (test : Stage O Key Recon Cond → Bool) (all : List (Stage O Key Recon Cond)) where
   lowest_is : (n k : ℕ) → lowest_seat test n all ≡ Some k → test (stage_in all k) ≡ true
   lowest_is zero k e = absurd (cc e)
-  lowest_is (suc n) k e = go (lowest_seat test n all) refl (test (stage_in all n)) refl e
+  lowest_is (suc n) k e = go (lowest_seat test n all) (λ h. lowest_is n k h) (test (stage_in all n)) refl e
     where
-      go : (x : Option ℕ) → lowest_seat test n all ≡ x → (b : Bool) → test (stage_in all n) ≡ b → or_then x b n ≡ Some k → test (stage_in all k) ≡ true
-      go (Some j) q b t e = lowest_is n k (q ∙ e)
-      go None q true t e = let h : n ≡ k = cc e in subst (λ i. test (stage_in all i) ≡ true) h t
-      go None q false t e = absurd (cc e)
+      go : (x : Option ℕ) → (x ≡ Some k → test (stage_in all k) ≡ true) → (b : Bool) → test (stage_in all n) ≡ b → or_then x b n ≡ Some k → test (stage_in all k) ≡ true
+      go (Some j) below b t e = below e
+      go None below true t e = let h : n ≡ k = cc e in subst (λ i. test (stage_in all i) ≡ true) h t
+      go None below false t e = absurd (cc e)
 
   lowest_none : (n : ℕ) → lowest_seat test n all ≡ None → (k : ℕ) → k < n → test (stage_in all k) ≡ false
   lowest_none zero e k low = absurd (omega (arith, low))
-  lowest_none (suc n) e k low = go (lowest_seat test n all) refl (test (stage_in all n)) refl e
+  lowest_none (suc n) e k low = go (lowest_seat test n all) (λ q h. lowest_none n q k h) (test (stage_in all n)) refl e
     where
-      go : (x : Option ℕ) → lowest_seat test n all ≡ x → (b : Bool) → test (stage_in all n) ≡ b → or_then x b n ≡ None → test (stage_in all k) ≡ false
-      go (Some j) q b t e = absurd (cc e)
-      go None q true t e = absurd (cc e)
-      go None q false t e = ⊎_elim (λ h. subst (λ i. test (stage_in all i) ≡ false) (sym h) t) (λ apart. lowest_none n q k (omega (arith, low, apart))) (cases_eq k n)
+      go : (x : Option ℕ) → (x ≡ None → k < n → test (stage_in all k) ≡ false) → (b : Bool) → test (stage_in all n) ≡ b → or_then x b n ≡ None → test (stage_in all k) ≡ false
+      go (Some j) below b t e = absurd (cc e)
+      go None below true t e = absurd (cc e)
+      go None below false t e = ⊎_elim (λ h. subst (λ i. test (stage_in all i) ≡ false) (sym h) t) (λ apart. below refl (omega (arith, low, apart))) (cases_eq k n)
 
 module _ {O Key Recon Cond : Type 0} where
   sweeps_said : (stage : Stage O Key Recon Cond) → is_sweeping stage ≡ true → IsSweeping stage
@@ -121,10 +125,6 @@ module _ {O Key Recon Cond : Type 0} (m : Meaning Key Recon Cond) where
     latches = kept.latches;
   }
 
-  or_empty : (a b c : Bool) → (a || b) ≡ c → b ≡ false → a ≡ c
-  or_empty true b c h e = h
-  or_empty false b c h e = sym e ∙ h
-
   module _ (s : Inside O Key Recon Cond) (I : IsState m s) where
     -- the seat that is found has a vacuum open, and no other has
     pub found_sweeps : (seen : Seen O Key Recon Cond) → seen_of s ≡ seen → (by : ℕ) → lowest_seat is_sweeping 64 (map stage_of s.slots.items) ≡ Some by → IsSweeping (stage_at seen by)
@@ -140,7 +140,7 @@ module _ {O Key Recon Cond : Type 0} (m : Meaning Key Recon Cond) where
     pub open_by : (seen : Seen O Key Recon Cond) → seen_of s ≡ seen → (found : ℕ) → lowest_seat is_sweeping 64 (map stage_of s.slots.items) ≡ Some found → (by : ℕ) → IsErrOf {T = Unit {0}} (Err (refused.Open found)) (refused.Open by) ↔ IsSweeping (stage_at seen by)
     open_by seen view found e by = (
       λ h. let q : found ≡ by = cc h in subst (λ n. IsSweeping (stage_at seen n)) q (found_sweeps seen view found e),
-      λ is. let q : found ≡ by = one_sweeps seen view found by (found_sweeps seen view found e) is in ap refused.Open q,
+      λ is. let q : found ≡ by = one_sweeps seen view found by (found_sweeps seen view found e) is in subst (λ n. IsErrOf {T = Unit {0}} (Err (refused.Open found)) (refused.Open n)) q refl,
     )
 
     pub none_by : (seen : Seen O Key Recon Cond) → seen_of s ≡ seen → lowest_seat is_sweeping 64 (map stage_of s.slots.items) ≡ None → (r : Result (Unit {0}) VacuumRefused) → ((by : ℕ) → IsErrOf r (refused.Open by) → ⊥) → (by : ℕ) → IsErrOf r (refused.Open by) ↔ IsSweeping (stage_at seen by)
@@ -186,4 +186,4 @@ module _ {O Key Recon Cond : Type 0} (m : Meaning Key Recon Cond) where
 -- want of memory is no seat
 pub no_seat : (r : Result (Unit {0}) VacuumRefused) → IsErrAnd r (λ e. e ≡ refused.Memory) → (by : ℕ) → IsErrOf r (refused.Open by) → ⊥
 no_seat (Ok x) h by e = absurd h
-no_seat (Err x) h by e = cc (sym h ∙ e)
+no_seat (Err x) h by e = cc (h, e)

@@ -381,6 +381,9 @@ impl<O: OpClass> State<O> {
             &self.targets,
             seat,
         )?;
+        if let VacuumOut::Latched { .. } = stepped.out {
+            return Ok(stepped.out);
+        }
         if let VacuumOut::Finished { swept } = stepped.out {
             self.vacuums.end(self.journal.len());
             self.journal.append(Event::CloseVacuum { seat, swept });
@@ -395,6 +398,7 @@ impl<O: OpClass> State<O> {
             stepped.opened,
             stepped.rows.as_slice(),
         );
+        let _events = self.journal.len();
         Ok(stepped.out)
     }
 
