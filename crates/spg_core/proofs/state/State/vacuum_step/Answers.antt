@@ -1,4 +1,6 @@
 use Rattle.std.proofs.Common.{◌≡◌, ◌∷◌, ◌++◌, ◌≤◌, ◌<◌, ◌^◌, [], List, length, get_or, map, refl, sym, ap, ◌∙◌, subst, arith, Contains}
+use Rattle.std.specs.BTreeSet.{contains}
+use Rattle.spg_base.specs.Row.{row_cmp}
 use Rattle.spg_rows.specs.declared.event.Event.TheVariants.{CloseVacuum}
 use Rattle.spg_rows.specs.Count.{IsOnce}
 use Rattle.spg_rows.specs.Table.{IsKilledIn, SameKeys}
@@ -95,7 +97,7 @@ invariant_of-self-2 g c =
     vacuumed.kept_swept m s I seat c.sweep_slot.new.table c.tell_sweeps.new.rows c.sweep_slot.new.slots c.tell_sweeps.new.journal c.tell_sweeps.new.targets stepped events short
     (subst (λ rs. SetsSwept s.rows c.tell_sweeps.new.rows stepped.opened rs) c.as_slice.ensures c.tell_sweeps.ensures.states)
     c.tell_sweeps.ensures.keys
-    (subst (λ rs. LeaveSet _ _ rs) c.as_slice.ensures c.tell_sweeps.ensures.targets)
+    (subst (λ rs. LeaveSet (contains row_cmp s.targets.rows) (contains row_cmp c.tell_sweeps.new.targets.rows) rs) c.as_slice.ensures c.tell_sweeps.ensures.targets)
     (vacuumed.room_after m s I seat (get_or s.slots.items seat slot.Free) c.sweep_slot.new.table c.sweep_slot.new.slots.items stepped c.tell_sweeps.new.journal.spare c.in_ok-stepped.ensures.ok (omega (arith, spare, few, more, length_is)))
     (get_or s.slots.items seat slot.Free) refl c.in_default.not-Latched c.in_default-out.not-Finished c.in_ok-stepped.ensures.ok
 
