@@ -84,49 +84,49 @@ module _ {O Key Recon Cond : Type 0} (m : Meaning Key Recon Cond) (codes : CodeL
 
     moves : (out : InsertOut) → (out ≡ outs.Put → ⊥) → StepDone m s.table t2 d d2 seat out → (slots : Vec (Slot O Key Recon Cond) Global) → slots.items ≡ set s.slots.items seat (Insert key d2) → IsState m (with_fields m s t2 s.rows slots s.journal)
     moves out n S slots items = step_keeps
-          m
-          codes
-          (fields_of s)
-          I
-          seat
-          key
-          d
-          at_stage
-          (fields_of (with_fields m s t2 s.rows slots s.journal))
-          d2
-          (stages_set slots.items s.slots.items seat (Insert key d2) items)
-          (stage_set slots.items s.slots.items seat (Insert key d2) items (seats m s I) (low m s I seat was_open))
-          (room_on m s I seat (Insert key d2) slots.items items was_open)
-          refl
-          refl
-          (same_rows m s t2 slots s.journal)
-          out
-          n
-          S
+        m
+        codes
+        (fields_of s)
+        I
+        seat
+        key
+        d
+        at_stage
+        (fields_of (with_fields m s t2 s.rows slots s.journal))
+        d2
+        (stages_set slots.items s.slots.items seat (Insert key d2) items)
+        (stage_set slots.items s.slots.items seat (Insert key d2) items (seats m s I) (low m s I seat was_open))
+        (room_on m s I seat (Insert key d2) slots.items items was_open)
+        refl
+        refl
+        (same_rows m s t2 slots s.journal)
+        out
+        n
+        S
 
     -- its row is put
     puts : (rows : Table O Key Recon Cond) (slots : Vec (Slot O Key Recon Cond) Global) (journal : Written O Key Recon Cond) (row : RowAt) → slots.items ≡ set s.slots.items seat Free → row ≡ d.row → StepDone m s.table t2 d d2 seat outs.Put → SetsState s.rows rows row row_state.Live → SameKeys s.rows rows →
         journal.events ≡ s.journal.events ++ Put seat row ∷ [] → journal.spare + 1 ≡ s.journal.spare → IsState m (with_fields m s t2 rows slots journal)
     puts rows slots journal row items r S states keys events spare = put_keeps
-          m
-          codes
-          (fields_of s)
-          I
-          seat
-          key
-          d
-          at_stage
-          (fields_of (with_fields m s t2 rows slots journal))
-          d2
-          (stages_set slots.items s.slots.items seat Free items)
-          (stage_set slots.items s.slots.items seat Free items (seats m s I) (low m s I seat was_open))
-          (room_ended m s I seat slots.items journal.spare items spare was_open)
-          refl
-          row
-          r
-          events
-          (record { row = (states, keys); targets = (λ r. refl, λ r. refl); vacuums = refl })
-          S
+        m
+        codes
+        (fields_of s)
+        I
+        seat
+        key
+        d
+        at_stage
+        (fields_of (with_fields m s t2 rows slots journal))
+        d2
+        (stages_set slots.items s.slots.items seat Free items)
+        (stage_set slots.items s.slots.items seat Free items (seats m s I) (low m s I seat was_open))
+        (room_ended m s I seat slots.items journal.spare items spare was_open)
+        refl
+        row
+        r
+        events
+        (record { row = (states, keys); targets = (λ r. refl, λ r. refl); vacuums = refl })
+        S
 
     -- what the others have latched
     others_hold : (out : InsertOut) → HoldsAfter t2 seat (rest_of s.table seat) d2 out → OthersHold s.table t2 seat

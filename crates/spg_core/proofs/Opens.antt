@@ -114,31 +114,31 @@ module _ {O Key Recon Cond : Type 0} (m : Meaning Key Recon Cond) (s : Inside O 
   insert_opens row key d rows slots journal e carries unclaimed none within items events states keys room =
       let of : d.row ≡ row = ap (λ (z : Descending Recon). z.row) e ∙ opened_row m row key in
       calls.kept_opens_insert
-            m
-            (fields_of s)
-            (fields_of (with_fields m s (untouched s.table) rows slots journal))
-            seat
-            (descending key d)
-            I
-            (stages_set slots.items s.slots.items seat (Insert key d) items)
-            (stage_set slots.items s.slots.items seat (Insert key d) items (seats m s I) within)
-            (held_on s.table (untouched s.table) seat (rest_of s.table seat) (stage_holds {O = O} {Cond = Cond} (descending key d)) (λ b. refl)
-            (subst (λ (z : Descending Recon). InsertHolds s.table seat (rest_of s.table seat) z) (sym e) (opened_holds m s.table seat (rest_of s.table seat) row key (free_held m s I seat none))))
-            room
-            refl
-            refl
-            refl
-            row
-            key
-            d
-            refl
-            of
-            (free_open m s I seat none)
-            unclaimed
-            (carries (sheets_of s.table) (unclaimed_fresh m s I d.row (ap (λ (r : RowAt). is_claimed r (past m s I)) of ∙ unclaimed)))
-            (subst (λ (z : Descending Recon). Stands (untouched s.table) z) (sym e) (opened_stands m (untouched s.table) row key))
-            events
-            (record { row = (states, keys); targets = (λ r. refl, λ r. refl); vacuums = refl })
+      m
+      (fields_of s)
+      (fields_of (with_fields m s (untouched s.table) rows slots journal))
+      seat
+      (descending key d)
+      I
+      (stages_set slots.items s.slots.items seat (Insert key d) items)
+      (stage_set slots.items s.slots.items seat (Insert key d) items (seats m s I) within)
+      (held_on s.table (untouched s.table) seat (rest_of s.table seat) (stage_holds {O = O} {Cond = Cond} (descending key d)) (λ b. refl)
+      (subst (λ (z : Descending Recon). InsertHolds s.table seat (rest_of s.table seat) z) (sym e) (opened_holds m s.table seat (rest_of s.table seat) row key (free_held m s I seat none))))
+      room
+      refl
+      refl
+      refl
+      row
+      key
+      d
+      refl
+      of
+      (free_open m s I seat none)
+      unclaimed
+      (carries (sheets_of s.table) (unclaimed_fresh m s I d.row (ap (λ (r : RowAt). is_claimed r (past m s I)) of ∙ unclaimed)))
+      (subst (λ (z : Descending Recon). Stands (untouched s.table) z) (sym e) (opened_stands m (untouched s.table) row key))
+      events
+      (record { row = (states, keys); targets = (λ r. refl, λ r. refl); vacuums = refl })
 
   -- ---- a row is killed
 
@@ -148,29 +148,29 @@ module _ {O Key Recon Cond : Type 0} (m : Meaning Key Recon Cond) (s : Inside O 
       let at : stage_in (stages m s I) seat ≡ free = stage_get s.slots.items seat ∙ none in
       let most : open_count (stages m s I) ≤ 64 = open_count-all (stages m s I) I.seats in
       calls.kept_kill
-            m
-            (fields_of s)
-            (fields_of (with_all m s (untouched s.table) rows s.slots journal s.vacuums s.targets later))
-            seat
-            free
-            I
-            (sym (set_itself (stages m s I) seat) ∙ ap (λ x. set (stages m s I) seat x) at)
-            at
-            (held_on s.table (untouched s.table) seat (rest_of s.table seat) (λ b. false) (λ b. refl) (free_held m s I seat none))
-            (omega (arith, most, room))
-            refl
-            refl
-            refl
-            row
-            refl
-            (free_open m s I seat none)
-            (live_state (state_of row (past m s I)) (lives row (past m s I)) ((sane m s I).says row) (sym (I.tells.states row) ∙ live))
-            events
-            (record {
-              row = (subst (λ n. SetsState s.rows rows row (row_state.Killed n)) (sym (length-reverse s.journal.events)) states, keys);
-              targets = (λ r. refl, put.0);
-              vacuums = refl;
-            })
+      m
+      (fields_of s)
+      (fields_of (with_all m s (untouched s.table) rows s.slots journal s.vacuums s.targets later))
+      seat
+      free
+      I
+      (sym (set_itself (stages m s I) seat) ∙ ap (λ x. set (stages m s I) seat x) at)
+      at
+      (held_on s.table (untouched s.table) seat (rest_of s.table seat) (λ b. false) (λ b. refl) (free_held m s I seat none))
+      (omega (arith, most, room))
+      refl
+      refl
+      refl
+      row
+      refl
+      (free_open m s I seat none)
+      (live_state (state_of row (past m s I)) (lives row (past m s I)) ((sane m s I).says row) (sym (I.tells.states row) ∙ live))
+      events
+      (record {
+        row = (subst (λ n. SetsState s.rows rows row (row_state.Killed n)) (sym (length-reverse s.journal.events)) states, keys);
+        targets = (λ r. refl, put.0);
+        vacuums = refl;
+      })
 
   pub killed_seen : (seen : Seen O Key Recon Cond) (view : seen_of s ≡ seen) (row : RowAt) (events : List (Event O Key Recon Cond)) (t2 : pages.Table) → stage_at seen seat ≡ free → state_in s.rows row ≡ row_state.Live → events ≡ s.journal.events ++ Kill seat row ∷ [] → t2 ≡ untouched seen.table
       → KillsRow seen (seen_as events (stages m s I) t2 s.origin) seat row true

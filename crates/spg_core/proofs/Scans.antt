@@ -49,24 +49,24 @@ module _ {O Key Recon Cond : Type 0} (m : Meaning Key Recon Cond) (s : Inside O 
   pub scan_opens : (query : Query O Key Recon Cond) (scan : Scanning O Key Recon Cond) (slots : Vec (Slot O Key Recon Cond) Global) (journal : Written O Key Recon Cond) → scan ≡ opened m query (length s.journal.events) s.table.clock → stage_of slot_now ≡ free → seat < 64 →
       slots.items ≡ set s.slots.items seat (Scan scan) → journal.events ≡ s.journal.events ++ OpenScan seat query ∷ [] → open_count (map stage_of slots.items) ≤ journal.spare → IsState m (steps.with_fields m s (untouched s.table) s.rows slots journal)
   scan_opens query scan slots journal is none within items events room = calls.kept_opens_scan
-        m
-        (fields_of s)
-        (fields_of (steps.with_fields m s (untouched s.table) s.rows slots journal))
-        seat
-        (reading scan)
-        I
-        (stages_set slots.items s.slots.items seat (Scan scan) items)
-        (stage_set slots.items s.slots.items seat (Scan scan) items (steps.seats m s I) within)
-        (steps.held_on s.table (untouched s.table) seat (rest_of s.table seat) (λ b. false) (λ b. refl) (steps.free_held m s I seat none))
-        room
-        refl
-        refl
-        refl
-        query
-        (ap reading (is ∙ ap (λ n. opened m query n s.table.clock) (sym (length-reverse s.journal.events))))
-        (steps.free_open m s I seat none)
-        events
-        (steps.same_rows m s (untouched s.table) slots journal)
+      m
+      (fields_of s)
+      (fields_of (steps.with_fields m s (untouched s.table) s.rows slots journal))
+      seat
+      (reading scan)
+      I
+      (stages_set slots.items s.slots.items seat (Scan scan) items)
+      (stage_set slots.items s.slots.items seat (Scan scan) items (steps.seats m s I) within)
+      (steps.held_on s.table (untouched s.table) seat (rest_of s.table seat) (λ b. false) (λ b. refl) (steps.free_held m s I seat none))
+      room
+      refl
+      refl
+      refl
+      query
+      (ap reading (is ∙ ap (λ n. opened m query n s.table.clock) (sym (length-reverse s.journal.events))))
+      (steps.free_open m s I seat none)
+      events
+      (steps.same_rows m s (untouched s.table) slots journal)
 
   -- ---- a scan reads
 
