@@ -12,7 +12,7 @@ use Rattle.spg_tree.specs.Descents.{Descending}
 use Rattle.spg_seats.specs.Descending.{ChangesHeld}
 use Rattle.spg_core.specs.declared.answer.InsertOut.{InsertOut}
 use Rattle.spg_core.specs.declared.answer.InsertOut.TheVariants.{Descended, Restructured, Restarted, Put}
-use Rattle.spg_core.specs.Stage.{Stage, free, descending, reading, IsInserting}
+use Rattle.spg_core.specs.Stage.{Stage, free, descending, reading, sweeping, IsInserting}
 use Rattle.spg_core.specs.Seen.{Seen, stage_at, moved}
 use Rattle.spg_core.specs.Sections.{IsAfterSection, IsOutOf, IsInsertOut, OthersHold}
 use Rattle.spg_core.specs.Ends.{StageEnds, SeatEnds, SeatThenEnds}
@@ -74,6 +74,7 @@ module _ {O Key Recon Cond : Type 0} where
   section_of s1 s2 seat out free at is no_put = absurd is
   section_of s1 s2 seat out (descending k d) at is no_put = section s1 s2 seat k d out at is.1 no_put
   section_of s1 s2 seat out (reading s) at is no_put = absurd is
+  section_of s1 s2 seat out (sweeping v) at is no_put = absurd is
 
   pub goes_further : (s0 s1 s2 : Seen O Key Recon Cond) (seat : ℕ) (out : InsertOut) → StillInserts s0 s1 seat → IsInsertOut s1 s2 seat out → (out ≡ Put → ⊥) → StillInserts s0 s2 seat
   goes_further s0 s1 s2 seat out G is no_put =
@@ -86,6 +87,7 @@ module _ {O Key Recon Cond : Type 0} where
   inserting_of : (s1 s2 : Seen O Key Recon Cond) (seat : ℕ) (out : InsertOut) (stage : Stage O Key Recon Cond) → IsOutOf s1 s2 seat out stage → (out ≡ Put → ⊥) → IsInserting (stage_at s2 seat)
   inserting_of s1 s2 seat out free is no_put = absurd is
   inserting_of s1 s2 seat out (reading s) is no_put = absurd is
+  inserting_of s1 s2 seat out (sweeping v) is no_put = absurd is
   inserting_of s1 s2 seat Descended (descending k d) (stood, (d2, same, pages, is, stage)) no_put = still_inserting k d2 (stage_at s2 seat) stage
   inserting_of s1 s2 seat Restructured (descending k d) (stood, (d2, same, is, stage)) no_put = still_inserting k d2 (stage_at s2 seat) stage
   inserting_of s1 s2 seat (Restarted block by) (descending k d) (stood, (d2, same, start, pages, is, stage)) no_put = still_inserting k d2 (stage_at s2 seat) stage
@@ -107,6 +109,7 @@ module _ {O Key Recon Cond : Type 0} where
   put_of s1 s2 seat free at is = absurd is
   put_of s1 s2 seat (descending k d) at is = put_row s1 s2 seat k d at is.1
   put_of s1 s2 seat (reading s) at is = absurd is
+  put_of s1 s2 seat (sweeping v) at is = absurd is
 
   pub puts : (s0 s1 s2 : Seen O Key Recon Cond) (seat : ℕ) (out : InsertOut) → StillInserts s0 s1 seat → IsInsertOut s1 s2 seat out → out ≡ Put → PutsRow s0 s2 seat
   puts s0 s1 s2 seat out G is put =
@@ -127,6 +130,7 @@ module _ {O Key Recon Cond : Type 0} where
       go free h = absurd h
       go (descending k d) h = ((others by block h.0.1).1 h.0.0, h.0.1)
       go (reading s) h = absurd h
+      go (sweeping v) h = absurd h
 
   -- ---- the insert comes to its end
 
@@ -137,6 +141,7 @@ module _ {O Key Recon Cond : Type 0} where
       go free is = absurd is
       go (descending key d) is = ends_somewhere m ranks seen.table d H
       go (reading s) is = absurd is
+      go (sweeping v) is = absurd is
 
   pub one_comes : (m : Meaning Key Recon Cond) (seen : Seen O Key Recon Cond) (seat : ℕ) → SeatEnds m seen seat 0 → ⊥
   one_comes m seen seat h = go (stage_at seen seat) h
@@ -145,6 +150,7 @@ module _ {O Key Recon Cond : Type 0} where
       go free a = a
       go (descending key d) a = none_left m seen.table d d.stand a
       go (reading s) a = a
+      go (sweeping v) a = a
 
   open_still : (m : Meaning Key Recon Cond) (seen : Seen O Key Recon Cond) (seat n : ℕ) (out : InsertOut) → SeatThenEnds m seen seat n out → (out ≡ Put → ⊥) → IsNoRestart out → SeatEnds m seen seat n
   open_still m seen seat n Descended h no_put on = h

@@ -20,7 +20,7 @@ use Rattle.spg_seats.proofs.Holding.{latches_law}
 use Rattle.spg_core.specs.declared.answer.InsertOut.{InsertOut}
 use Rattle.spg_core.specs.declared.answer.InsertOut.TheVariants as outs
 use Rattle.spg_core.specs.declared.slot.Slot.{Slot}
-use Rattle.spg_core.specs.declared.slot.Slot.TheVariants.{Free, Insert, Scan}
+use Rattle.spg_core.specs.declared.slot.Slot.TheVariants.{Free, Insert, Scan, Vacuum}
 use Rattle.spg_core.specs.declared.state.State.TheInside.{Inside}
 use Rattle.spg_core.specs.Stepping.{SamePages, Grows, MakesAtMostOne, IsStepOut}
 use Rattle.spg_core.specs.Telling.{StepTells, StepDone}
@@ -35,7 +35,7 @@ use Rattle.spg_core.specs.Kept.{fields_of, seen_of, IsState}
 use Rattle.spg_core.proofs.Weights.{nulls_key}
 use Rattle.spg_core.proofs.Keeping.{outgrown_heavy, its_held, section_changes, section_grows, step_keeps, put_keeps}
 use Rattle.spg_core.proofs.Slots.{set_twice, stages_set, stage_set, stage_get, stage_is, past_is, table_is, moved_is, logged_is, seen_as}
-use Rattle.spg_core.proofs.Steps.{with_fields, past, seats, low, room_on, room_ended, unswept_then, insert_claimed}
+use Rattle.spg_core.proofs.Steps.{with_fields, same_rows, past, seats, low, room_on, room_ended, insert_claimed}
 
 -- what a seat has latched is its own, and what it has not is not
 pub none_held : (t t2 : pages.Table) (seat : ℕ) → AreHeld t2 seat (rest_of t seat) (λ b. false) → HasNone t2 seat
@@ -60,13 +60,15 @@ module _ {O Key Recon Cond : Type 0} (m : Meaning Key Recon Cond) (codes : CodeL
   can_step Free has is = absurd is
   can_step (Insert key d) has is = (has.1, has.2)
   can_step (Scan x) has is = absurd is
+  can_step (Vacuum x) has is = absurd is
 
   pub heavy_for : (seen : Seen O Key Recon Cond) → seen_of s ≡ seen → (slot : Slot O Key Recon Cond) → StageFits m s.table before seat (stage_of slot) → IsOutgrownBy s.table slot → IsHeavyFor m seen (stage_of slot)
   heavy_for seen view Free has out = absurd out
   heavy_for seen view (Insert key d) has out =
       subst (λ (h : History O Key Recon Cond). 8160 < weight_of m (is_none key) (opened_keys h)) (sym (past_is s seen view 0))
-      (subst (λ (b : Bool). 8160 < weight_of m b (opened_keys before)) (nulls_key m (sheets_of s.table) d key has.1) (outgrown_heavy m codes (fields_of s) I.kept seat key d has out))
+      (subst (λ (b : Bool). 8160 < weight_of m b (opened_keys before)) (nulls_key m (sheets_of s.table) d key has.1) (outgrown_heavy m codes (fields_of s) I seat key d has out))
   heavy_for seen view (Scan x) has out = absurd out
+  heavy_for seen view (Vacuum x) has out = absurd out
 
   -- ---- the insert of the seat's slot
 
@@ -78,59 +80,53 @@ module _ {O Key Recon Cond : Type 0} (m : Meaning Key Recon Cond) (codes : CodeL
     was_open = ap (λ (x : Slot O Key Recon Cond). is_open (stage_of x)) here
 
     its : InsertHolds s.table seat (rest_of s.table seat) d
-    its = its_held m (fields_of s) I.kept seat key d at_stage
+    its = its_held m (fields_of s) I seat key d at_stage
 
     moves : (out : InsertOut) → (out ≡ outs.Put → ⊥) → StepDone m s.table t2 d d2 seat out → (slots : Vec (Slot O Key Recon Cond) Global) → slots.items ≡ set s.slots.items seat (Insert key d2) → IsState m (with_fields m s t2 s.rows slots s.journal)
-    moves out n S slots items = record {
-      kept = step_keeps
-          m
-          codes
-          (fields_of s)
-          I.kept
-          seat
-          key
-          d
-          at_stage
-          (fields_of (with_fields m s t2 s.rows slots s.journal))
-          d2
-          (stages_set slots.items s.slots.items seat (Insert key d2) items)
-          (stage_set slots.items s.slots.items seat (Insert key d2) items (seats m s I) (low m s I seat was_open))
-          (room_on m s I seat (Insert key d2) slots.items items was_open)
-          refl
-          refl
-          refl
-          out
-          n
-          S;
-      unswept = I.unswept;
-    }
+    moves out n S slots items = step_keeps
+        m
+        codes
+        (fields_of s)
+        I
+        seat
+        key
+        d
+        at_stage
+        (fields_of (with_fields m s t2 s.rows slots s.journal))
+        d2
+        (stages_set slots.items s.slots.items seat (Insert key d2) items)
+        (stage_set slots.items s.slots.items seat (Insert key d2) items (seats m s I) (low m s I seat was_open))
+        (room_on m s I seat (Insert key d2) slots.items items was_open)
+        refl
+        refl
+        (same_rows m s t2 slots s.journal)
+        out
+        n
+        S
 
     -- its row is put
     puts : (rows : Table O Key Recon Cond) (slots : Vec (Slot O Key Recon Cond) Global) (journal : Written O Key Recon Cond) (row : RowAt) → slots.items ≡ set s.slots.items seat Free → row ≡ d.row → StepDone m s.table t2 d d2 seat outs.Put → SetsState s.rows rows row row_state.Live → SameKeys s.rows rows →
         journal.events ≡ s.journal.events ++ Put seat row ∷ [] → journal.spare + 1 ≡ s.journal.spare → IsState m (with_fields m s t2 rows slots journal)
-    puts rows slots journal row items r S states keys events spare = record {
-      kept = put_keeps
-          m
-          codes
-          (fields_of s)
-          I.kept
-          seat
-          key
-          d
-          at_stage
-          (fields_of (with_fields m s t2 rows slots journal))
-          d2
-          (stages_set slots.items s.slots.items seat Free items)
-          (stage_set slots.items s.slots.items seat Free items (seats m s I) (low m s I seat was_open))
-          (room_ended m s I seat slots.items journal.spare items spare was_open)
-          refl
-          row
-          r
-          events
-          (states, keys)
-          S;
-      unswept = unswept_then m s I journal.events (Put seat row) events refl;
-    }
+    puts rows slots journal row items r S states keys events spare = put_keeps
+        m
+        codes
+        (fields_of s)
+        I
+        seat
+        key
+        d
+        at_stage
+        (fields_of (with_fields m s t2 rows slots journal))
+        d2
+        (stages_set slots.items s.slots.items seat Free items)
+        (stage_set slots.items s.slots.items seat Free items (seats m s I) (low m s I seat was_open))
+        (room_ended m s I seat slots.items journal.spare items spare was_open)
+        refl
+        row
+        r
+        events
+        (record { row = (states, keys); targets = (λ r. refl, λ r. refl); vacuums = refl })
+        S
 
     -- what the others have latched
     others_hold : (out : InsertOut) → HoldsAfter t2 seat (rest_of s.table seat) d2 out → OthersHold s.table t2 seat
@@ -144,6 +140,7 @@ module _ {O Key Recon Cond : Type 0} (m : Meaning Key Recon Cond) (codes : CodeL
   pub kept_step : (out : InsertOut) (slot : Slot O Key Recon Cond) (t2 : pages.Table) (slots : Vec (Slot O Key Recon Cond) Global) → get_or s.slots.items seat Free ≡ slot → (out ≡ outs.Put → ⊥) → StepsFrom m s.table t2 s.slots.items slots.items seat out slot → IsState m (with_fields m s t2 s.rows slots s.journal)
   kept_step out Free t2 slots e n h = absurd h
   kept_step out (Scan x) t2 slots e n h = absurd h
+  kept_step out (Vacuum x) t2 slots e n h = absurd h
   kept_step out (Insert key d) t2 slots e n (d2, items, S) = moves key d d2 t2 e out n S slots items
 
   -- the row that is put, and the slots then
@@ -154,12 +151,14 @@ module _ {O Key Recon Cond : Type 0} (m : Meaning Key Recon Cond) (codes : CodeL
       let (off, adds, limit, grow, er) = S.ok in
       subst (λ (x : Slot O Key Recon Cond). IsRowOf x row) e r ∙ er
   put_row (Scan x) t2 slots row within h r = absurd h
+  put_row (Vacuum x) t2 slots row within h r = absurd h
 
   pub kept_put : (slot : Slot O Key Recon Cond) (t2 : pages.Table) (rows : Table O Key Recon Cond) (between slots : Vec (Slot O Key Recon Cond) Global) (journal : Written O Key Recon Cond) (row : RowAt) → get_or s.slots.items seat Free ≡ slot →
       StepsFrom m s.table t2 s.slots.items between.items seat outs.Put slot → IsRowOf slot row → slots.items ≡ set between.items seat Free → SetsState s.rows rows row row_state.Live → SameKeys s.rows rows →
       journal.events ≡ s.journal.events ++ Put seat row ∷ [] → journal.spare + 1 ≡ s.journal.spare → IsState m (with_fields m s t2 rows slots journal)
   kept_put Free t2 rows between slots journal row e h r items states keys events spare = absurd h
   kept_put (Scan x) t2 rows between slots journal row e h r items states keys events spare = absurd h
+  kept_put (Vacuum x) t2 rows between slots journal row e h r items states keys events spare = absurd h
   kept_put (Insert key d) t2 rows between slots journal row e (d2, made, S) r items states keys events spare =
       puts key d d2 t2 e rows slots journal row (set_twice s.slots.items between.items slots.items seat (Insert key d2) Free made items) r S states keys events spare
 
@@ -168,17 +167,20 @@ module _ {O Key Recon Cond : Type 0} (m : Meaning Key Recon Cond) (codes : CodeL
   row_claimed Free row fit r = absurd r
   row_claimed (Insert key d) row fit r = ap (λ (x : RowAt). state_in s.rows x) r ∙ insert_claimed m s I seat d.row key fit.0
   row_claimed (Scan x) row fit r = absurd r
+  row_claimed (Vacuum x) row fit r = absurd r
 
   -- it is an insert still
   pub steps_insert : (slot : Slot O Key Recon Cond) (t2 : pages.Table) (slots : List (Slot O Key Recon Cond)) (out : InsertOut) → seat < length s.slots.items → StepsFrom m s.table t2 s.slots.items slots seat out slot → IsInsert (get_or slots seat Free)
   steps_insert Free t2 slots out there h = absurd h
   steps_insert (Insert key d) t2 slots out there (d2, items, S) = subst (λ (x : Slot O Key Recon Cond). IsInsert x) (sym (ap (λ l. get_or l seat Free) items ∙ get_or-set_same s.slots.items seat (Insert key d2) Free there)) tt
   steps_insert (Scan x) t2 slots out there h = absurd h
+  steps_insert (Vacuum x) t2 slots out there h = absurd h
 
   pub steps_length : (slot : Slot O Key Recon Cond) (t2 : pages.Table) (slots : List (Slot O Key Recon Cond)) (out : InsertOut) → StepsFrom m s.table t2 s.slots.items slots seat out slot → length slots ≡ 64
   steps_length Free t2 slots out h = absurd h
   steps_length (Insert key d) t2 slots out (d2, items, S) = ap (λ l. length l) items ∙ length-set s.slots.items seat (Insert key d2) ∙ seats m s I
   steps_length (Scan x) t2 slots out h = absurd h
+  steps_length (Vacuum x) t2 slots out h = absurd h
 
   -- ---- what the callers see of it
 
@@ -194,6 +196,7 @@ module _ {O Key Recon Cond : Type 0} (m : Meaning Key Recon Cond) (codes : CodeL
         StepsFrom m s.table t2 s.slots.items slots seat out slot → IsOutOf seen (seen_as s.journal.events (map stage_of slots) t2 s.origin) seat out (stage_of slot)
     seen_step out Free t2 slots e n h = absurd h
     seen_step out (Scan x) t2 slots e n h = absurd h
+    seen_step out (Vacuum x) t2 slots e n h = absurd h
     seen_step out (Insert key d) t2 slots e n (d2, items, S) = go out n S.ok
       where
         go : (o : InsertOut) → (o ≡ outs.Put → ⊥) → IsStepOut m s.table t2 d d2 seat o → IsOutOf seen (seen_as s.journal.events (map stage_of slots) t2 s.origin) seat o (descending key d)
@@ -212,6 +215,7 @@ module _ {O Key Recon Cond : Type 0} (m : Meaning Key Recon Cond) (codes : CodeL
         slots ≡ set between seat Free → events ≡ s.journal.events ++ Put seat row ∷ [] → IsOutOf seen (seen_as events (map stage_of slots) t2 s.origin) seat outs.Put (stage_of slot)
     seen_put Free t2 between slots row events e h r items ev = absurd h
     seen_put (Scan x) t2 between slots row events e h r items ev = absurd h
+    seen_put (Vacuum x) t2 between slots row events e h r items ev = absurd h
     seen_put (Insert key d) t2 between slots row events e (d2, made, S) r items ev =
         let (off, adds, limit, grow, er) = S.ok in
         let all = set_twice s.slots.items between slots seat (Insert key d2) Free made items in (
@@ -227,6 +231,7 @@ module _ {O Key Recon Cond : Type 0} (m : Meaning Key Recon Cond) (codes : CodeL
         StepsFrom m s.table t2 s.slots.items slots seat out slot → TellsFor m seen (seen_as s.journal.events (map stage_of slots) t2 s.origin) seat out (stage_of slot)
     tells_step out Free t2 slots e n h = absurd h
     tells_step out (Scan x) t2 slots e n h = absurd h
+    tells_step out (Vacuum x) t2 slots e n h = absurd h
     tells_step out (Insert key d) t2 slots e n (d2, items, S) = go out n S.told
       where
         go : (o : InsertOut) → (o ≡ outs.Put → ⊥) → StepTells m s.table t2 d d2 seat o → TellsFor m seen (seen_as s.journal.events (map stage_of slots) t2 s.origin) seat o (descending key d)
@@ -239,6 +244,7 @@ module _ {O Key Recon Cond : Type 0} (m : Meaning Key Recon Cond) (codes : CodeL
         slots ≡ set between seat Free → TellsFor m seen (seen_as events (map stage_of slots) t2 s.origin) seat outs.Put (stage_of slot)
     tells_put Free t2 between slots events e h items = absurd h
     tells_put (Scan x) t2 between slots events e h items = absurd h
+    tells_put (Vacuum x) t2 between slots events e h items = absurd h
     tells_put (Insert key d) t2 between slots events e (d2, made, S) items = (
       d2,
       stage_set slots s.slots.items seat Free (set_twice s.slots.items between slots seat (Insert key d2) Free made items) (seats m s I) (low m s I seat (ap (λ (x : Slot O Key Recon Cond). is_open (stage_of x)) e)),
@@ -250,6 +256,7 @@ module _ {O Key Recon Cond : Type 0} (m : Meaning Key Recon Cond) (codes : CodeL
         StepsFrom m s.table t2 s.slots.items slots seat out slot → LatchesAfter (seen_as s.journal.events (map stage_of slots) t2 s.origin) seat out
     latches_step out Free t2 slots e n h = absurd h
     latches_step out (Scan x) t2 slots e n h = absurd h
+    latches_step out (Vacuum x) t2 slots e n h = absurd h
     latches_step out (Insert key d) t2 slots e n (d2, items, S) = go out n (S.latches (rest_of s.table seat) (its key d d2 t2 e))
       where
         at_now : HasLatches {O = O} {Key = Key} {Recon = Recon} {Cond = Cond} t2 seat (descending key d2) → HasLatches t2 seat (stage_in (map stage_of slots) seat)
@@ -264,24 +271,28 @@ module _ {O Key Recon Cond : Type 0} (m : Meaning Key Recon Cond) (codes : CodeL
     pub latches_put : (slot : Slot O Key Recon Cond) (t2 : pages.Table) (slots : List (Slot O Key Recon Cond)) → get_or s.slots.items seat Free ≡ slot → StepsFrom m s.table t2 s.slots.items slots seat outs.Put slot → HasNone t2 seat
     latches_put Free t2 slots e h = absurd h
     latches_put (Scan x) t2 slots e h = absurd h
+    latches_put (Vacuum x) t2 slots e h = absurd h
     latches_put (Insert key d) t2 slots e (d2, items, S) = none_held s.table t2 seat (S.latches (rest_of s.table seat) (its key d d2 t2 e))
 
     pub others_step : (out : InsertOut) (slot : Slot O Key Recon Cond) (t2 : pages.Table) (slots : List (Slot O Key Recon Cond)) → get_or s.slots.items seat Free ≡ slot → StepsFrom m s.table t2 s.slots.items slots seat out slot → OthersHold seen.table t2 seat
     others_step out Free t2 slots e h = absurd h
     others_step out (Scan x) t2 slots e h = absurd h
+    others_step out (Vacuum x) t2 slots e h = absurd h
     others_step out (Insert key d) t2 slots e (d2, items, S) = at_table (λ t. OthersHold t t2 seat) (others_hold key d d2 t2 e out (S.latches (rest_of s.table seat) (its key d d2 t2 e)))
 
     -- which blocks it may change
     pub within_step : (out : InsertOut) (slot : Slot O Key Recon Cond) (t2 : pages.Table) (slots : List (Slot O Key Recon Cond)) → get_or s.slots.items seat Free ≡ slot → StepsFrom m s.table t2 s.slots.items slots seat out slot → ChangesHeld seen.table t2 seat
     within_step out Free t2 slots e h = absurd h
     within_step out (Scan x) t2 slots e h = absurd h
-    within_step out (Insert key d) t2 slots e (d2, items, S) = at_table (λ t. ChangesHeld t t2 seat) (section_changes m (fields_of s) I.kept seat key d (at_stage key d d2 t2 e) t2 d2 out S)
+    within_step out (Vacuum x) t2 slots e h = absurd h
+    within_step out (Insert key d) t2 slots e (d2, items, S) = at_table (λ t. ChangesHeld t t2 seat) (section_changes m (fields_of s) I seat key d (at_stage key d d2 t2 e) t2 d2 out S)
 
     -- no page is lost
     pub grows_step : (out : InsertOut) (slot : Slot O Key Recon Cond) (t2 : pages.Table) (slots : List (Slot O Key Recon Cond)) → get_or s.slots.items seat Free ≡ slot → StepsFrom m s.table t2 s.slots.items slots seat out slot → Grows seen.table t2
     grows_step out Free t2 slots e h = absurd h
     grows_step out (Scan x) t2 slots e h = absurd h
-    grows_step out (Insert key d) t2 slots e (d2, items, S) = at_table (λ t. Grows t t2) (section_grows m (fields_of s) I.kept seat key d (at_stage key d d2 t2 e) t2 d2 out S)
+    grows_step out (Vacuum x) t2 slots e h = absurd h
+    grows_step out (Insert key d) t2 slots e (d2, items, S) = at_table (λ t. Grows t t2) (section_grows m (fields_of s) I seat key d (at_stage key d d2 t2 e) t2 d2 out S)
 
     -- one of the sections that may come is taken
     ends_seen : (key : Option Key) (d : Descending Recon) (n : ℕ) → get_or s.slots.items seat Free ≡ Insert key d → SeatEnds m seen seat n → EndsWithin m s.table d n
@@ -291,6 +302,7 @@ module _ {O Key Recon Cond : Type 0} (m : Meaning Key Recon Cond) (codes : CodeL
         StepsFrom m s.table t2 s.slots.items slots seat out slot → (n : ℕ) → SeatEnds m seen seat (suc n) → SeatThenEnds m (seen_as s.journal.events (map stage_of slots) t2 s.origin) seat n out
     ends_step out Free t2 slots e no_put h n was = absurd h
     ends_step out (Scan x) t2 slots e no_put h n was = absurd h
+    ends_step out (Vacuum x) t2 slots e no_put h n was = absurd h
     ends_step outs.Descended (Insert key d) t2 slots e no_put (d2, items, S) n was = subst (λ (st : Stage O Key Recon Cond). StageEnds m t2 n st) (sym (moved_by d d2 key t2 slots e items).1) (S.ends n (ends_seen key d (suc n) e was))
     ends_step outs.Restructured (Insert key d) t2 slots e no_put (d2, items, S) n was = subst (λ (st : Stage O Key Recon Cond). StageEnds m t2 n st) (sym (moved_by d d2 key t2 slots e items).1) (S.ends n (ends_seen key d (suc n) e was))
     ends_step (outs.Restarted block by) (Insert key d) t2 slots e no_put h n was = tt
@@ -300,4 +312,5 @@ module _ {O Key Recon Cond : Type 0} (m : Meaning Key Recon Cond) (codes : CodeL
     pub makes_step : (out : InsertOut) (slot : Slot O Key Recon Cond) (t2 : pages.Table) (slots : List (Slot O Key Recon Cond)) → StepsFrom m s.table t2 s.slots.items slots seat out slot → MakesAtMostOne seen.table t2
     makes_step out Free t2 slots h = absurd h
     makes_step out (Scan x) t2 slots h = absurd h
+    makes_step out (Vacuum x) t2 slots h = absurd h
     makes_step out (Insert key d) t2 slots (d2, items, S) = at_table (λ t. MakesAtMostOne t t2) S.makes

@@ -20,7 +20,7 @@ use Rattle.spg_tree.specs.Table.{sheets_of}
 use Rattle.spg_tree.specs.Descents.{Descending, in_nulls}
 use Rattle.spg_seats.specs.Descending.{HasInnerRoot, ChangesHeld}
 use Rattle.spg_seats.specs.Latching.{AreHeld, InsertHolds, rest_of}
-use Rattle.spg_seats.specs.Opening.{ChangesRow}
+use Rattle.spg_seats.specs.Opening.{SameRows, ChangesRows}
 use Rattle.spg_seats.specs.Slots.{Stage, free, descending, stage_in, stage_holds, open_count, StageFits, Fields, IsKept, opened_keys}
 use Rattle.spg_seats.proofs.Calls as calls
 use Rattle.spg_seats.proofs.Holding.{latches_law}
@@ -84,7 +84,7 @@ module _ {O Key Recon Cond : Type 0} (m : Meaning Key Recon Cond) (codes : CodeL
   goes : GoesOn m s.table s2.table d d2 → StageFits m s2.table past seat (descending key d2)
   goes (row, nulls, at, carry) = (has.0 ∙ ap (λ (r : RowAt). inserting r key) (sym row), carry key has.1, at)
 
-  module _ (stages : s2.stages ≡ set s.stages seat (descending key d2)) (now : stage_in s2.stages seat ≡ descending key d2) (room : open_count s2.stages ≤ s2.spare) (origin : s2.origin ≡ s.origin) (journal : s2.journal ≡ s.journal) (rows : s2.rows ≡ s.rows) where
+  module _ (stages : s2.stages ≡ set s.stages seat (descending key d2)) (now : stage_in s2.stages seat ≡ descending key d2) (room : open_count s2.stages ≤ s2.spare) (origin : s2.origin ≡ s.origin) (journal : s2.journal ≡ s.journal) (rows : SameRows s s2) where
     pub step_keeps : (out : InsertOut) → (out ≡ outs.Put → ⊥) → StepDone m s.table s2.table d d2 seat out → IsKept m s2
     step_keeps outs.Descended n S =
         let (stood, same, G) = S.ok in
@@ -98,7 +98,7 @@ module _ {O Key Recon Cond : Type 0} (m : Meaning Key Recon Cond) (codes : CodeL
     step_keeps outs.Put n S = absurd (n refl)
 
   -- its row is put
-  pub put_keeps : s2.stages ≡ set s.stages seat free → stage_in s2.stages seat ≡ free → open_count s2.stages ≤ s2.spare → s2.origin ≡ s.origin → (row : RowAt) → row ≡ d.row → s2.journal ≡ s.journal ++ Put seat row ∷ [] → ChangesRow {O = O} {Key = Key} {Recon = Recon} {Cond = Cond} (Put seat row) past s.rows s2.rows →
+  pub put_keeps : s2.stages ≡ set s.stages seat free → stage_in s2.stages seat ≡ free → open_count s2.stages ≤ s2.spare → s2.origin ≡ s.origin → (row : RowAt) → row ≡ d.row → s2.journal ≡ s.journal ++ Put seat row ∷ [] → ChangesRows (Put seat row) past s s2 →
       StepDone m s.table s2.table d d2 seat outs.Put → IsKept m s2
   put_keeps stages now room origin row r journal rows S =
       let (off, adds, limit, grow, er) = S.ok in

@@ -11,7 +11,9 @@ pub mod Rewriting
 pub mod Settles
 pub mod Ticks
 pub mod Slots
-pub mod Sweeps
+pub mod Seeking
+pub mod Sectioning
+pub mod Spanning
 pub mod Steps
 pub mod Growing
 pub mod Keeping
@@ -19,5 +21,8 @@ pub mod Inserts
 pub mod Going
 pub mod Opens
 pub mod Scans
+pub mod Works
+pub mod Sweepers
+pub mod Vacuumed
 pub mod Runs
 pub mod Counting

@@ -25,7 +25,7 @@ use Rattle.spg_seats.specs.Slots.{free, reading, is_open, open_count, stage_in, 
 use Rattle.spg_seats.specs.Latching.{AreHeld, rest_of}
 use Rattle.spg_seats.proofs.Calls as calls
 use Rattle.spg_core.specs.declared.slot.Slot.{Slot}
-use Rattle.spg_core.specs.declared.slot.Slot.TheVariants.{Free, Insert, Scan}
+use Rattle.spg_core.specs.declared.slot.Slot.TheVariants.{Free, Insert, Scan, Vacuum}
 use Rattle.spg_core.specs.declared.state.State.TheInside.{Inside}
 use Rattle.spg_core.specs.Slot.{stage_of}
 use Rattle.spg_core.specs.Stage.{IsRead, held_count}
@@ -48,34 +48,32 @@ module _ {O Key Recon Cond : Type 0} (m : Meaning Key Recon Cond) (s : Inside O 
 
   pub scan_opens : (query : Query O Key Recon Cond) (scan : Scanning O Key Recon Cond) (slots : Vec (Slot O Key Recon Cond) Global) (journal : Written O Key Recon Cond) → scan ≡ opened m query (length s.journal.events) s.table.clock → stage_of slot_now ≡ free → seat < 64 →
       slots.items ≡ set s.slots.items seat (Scan scan) → journal.events ≡ s.journal.events ++ OpenScan seat query ∷ [] → open_count (map stage_of slots.items) ≤ journal.spare → IsState m (steps.with_fields m s (untouched s.table) s.rows slots journal)
-  scan_opens query scan slots journal is none within items events room = record {
-    kept = calls.kept_opens_scan
-        m
-        (fields_of s)
-        (fields_of (steps.with_fields m s (untouched s.table) s.rows slots journal))
-        seat
-        (reading scan)
-        I.kept
-        (stages_set slots.items s.slots.items seat (Scan scan) items)
-        (stage_set slots.items s.slots.items seat (Scan scan) items (steps.seats m s I) within)
-        (steps.held_on s.table (untouched s.table) seat (rest_of s.table seat) (λ b. false) (λ b. refl) (steps.free_held m s I seat none))
-        room
-        refl
-        refl
-        refl
-        query
-        (ap reading (is ∙ ap (λ n. opened m query n s.table.clock) (sym (length-reverse s.journal.events))))
-        (steps.free_open m s I seat none)
-        events
-        refl;
-    unswept = steps.unswept_then m s I journal.events (OpenScan seat query) events refl;
-  }
+  scan_opens query scan slots journal is none within items events room = calls.kept_opens_scan
+      m
+      (fields_of s)
+      (fields_of (steps.with_fields m s (untouched s.table) s.rows slots journal))
+      seat
+      (reading scan)
+      I
+      (stages_set slots.items s.slots.items seat (Scan scan) items)
+      (stage_set slots.items s.slots.items seat (Scan scan) items (steps.seats m s I) within)
+      (steps.held_on s.table (untouched s.table) seat (rest_of s.table seat) (λ b. false) (λ b. refl) (steps.free_held m s I seat none))
+      room
+      refl
+      refl
+      refl
+      query
+      (ap reading (is ∙ ap (λ n. opened m query n s.table.clock) (sym (length-reverse s.journal.events))))
+      (steps.free_open m s I seat none)
+      events
+      (steps.same_rows m s (untouched s.table) slots journal)
 
   -- ---- a scan reads
 
   pub can_read : (slot : Slot O Key Recon Cond) (item : ℕ) → StageFits m s.table (steps.past m s I) seat (stage_of slot) → item < held_count (stage_of slot) → CanRead m s.table slot item
   can_read Free item has h = absurd (omega arith)
   can_read (Insert key d) item has h = absurd (omega arith)
+  can_read (Vacuum v) item has h = absurd (omega arith)
   can_read (Scan q) item (before, has, D) h = (h, λ x r i. D.spots.sheltered (item, 0) x r (held x r, i, (refl, refl, refl)))
 
   module _ (q q2 : Scanning O Key Recon Cond) (item : ℕ) (slots : Vec (Slot O Key Recon Cond) Global) (here : slot_now ≡ Scan q) (items : slots.items ≡ set s.slots.items seat (Scan q2)) where
@@ -96,7 +94,7 @@ module _ {O Key Recon Cond : Type 0} (m : Meaning Key Recon Cond) (s : Inside O 
         (fields_of (steps.with_fields m s (untouched s.table) s.rows slots s.journal))
         seat
         (reading q2)
-        I.kept
+        I
         (stages_set slots.items s.slots.items seat (Scan q2) items)
         (stage_set slots.items s.slots.items seat (Scan q2) items (steps.seats m s I) (steps.low m s I seat was))
         none
@@ -117,14 +115,14 @@ module _ {O Key Recon Cond : Type 0} (m : Meaning Key Recon Cond) (s : Inside O 
         (inl R.reads)
         refl
         refl
-        refl
+        (steps.same_rows m s (untouched s.table) slots s.journal)
     reads_at (Latched block by) K L (place, latched, other, same) = calls.kept_still
         m
         (fields_of s)
         (fields_of (steps.with_fields m s (untouched s.table) s.rows slots s.journal))
         seat
         (reading q2)
-        I.kept
+        I
         (stages_set slots.items s.slots.items seat (Scan q2) items)
         (stage_set slots.items s.slots.items seat (Scan q2) items (steps.seats m s I) (steps.low m s I seat was))
         none
@@ -133,7 +131,7 @@ module _ {O Key Recon Cond : Type 0} (m : Meaning Key Recon Cond) (s : Inside O 
         refl
         refl
         refl
-        refl
+        (steps.same_rows m s (untouched s.table) slots s.journal)
         (subst (λ (z : Scanning O Key Recon Cond). StageFits m s.table (steps.past m s I) seat (reading z)) (sym same) has)
 
     -- ---- it ends
@@ -148,7 +146,7 @@ module _ {O Key Recon Cond : Type 0} (m : Meaning Key Recon Cond) (s : Inside O 
         (fields_of (steps.with_fields m s (untouched s.table) s.rows ended journal))
         seat
         free
-        I.kept
+        I
         (stages_set ended.items s.slots.items seat Free all)
         (stage_set ended.items s.slots.items seat Free all (steps.seats m s I) (steps.low m s I seat was))
         none
@@ -164,21 +162,23 @@ module _ {O Key Recon Cond : Type 0} (m : Meaning Key Recon Cond) (s : Inside O 
         C.same
         (C.ascending (once_taken q D))
         events
-        refl
+        (steps.same_rows m s (untouched s.table) ended journal)
 
   pub kept_reads : (item : ℕ) (out : ReadOut) (slots : Vec (Slot O Key Recon Cond) Global) → KeptLaw m → CodeLaw m → (slot : Slot O Key Recon Cond) → slot_now ≡ slot → ReadsFrom m s.table s.rows s.slots.items slots.items seat item out slot → IsState m (steps.with_fields m s (untouched s.table) s.rows slots s.journal)
   kept_reads item out slots K L Free here h = absurd h
   kept_reads item out slots K L (Insert key d) here h = absurd h
-  kept_reads item out slots K L (Scan q) here (q2, items, R) = record { kept = reads_at q q2 item slots here items out K L R; unswept = I.unswept }
+  kept_reads item out slots K L (Scan q) here (q2, items, R) = reads_at q q2 item slots here items out K L R
+  kept_reads item out slots K L (Vacuum v) here h = absurd h
 
   pub reads_seen : (seen : Seen O Key Recon Cond) → seen_of s ≡ seen → (item : ℕ) (out : ReadOut) (slots : List (Slot O Key Recon Cond)) (t2 : pages.Table) → t2 ≡ untouched s.table → (slot : Slot O Key Recon Cond) → slot_now ≡ slot → ReadsFrom m s.table s.rows s.slots.items slots seat item out slot →
       ReadsFor m seen (seen_as s.journal.events (map stage_of slots) t2 s.origin) seat item out (stage_of slot)
   reads_seen seen view item out slots t2 table Free here h = absurd h
   reads_seen seen view item out slots t2 table (Insert key d) here h = absurd h
+  reads_seen seen view item out slots t2 table (Vacuum v) here h = absurd h
   reads_seen seen view item out slots t2 table (Scan q) here (q2, items, R) = (
     q2,
     s.rows,
-    λ row. I.kept.tells.states row ∙ ap (state_of row) (sym (past_is s seen view 0)),
+    λ row. I.tells.states row ∙ ap (state_of row) (sym (past_is s seen view 0)),
     subst (λ (t : pages.Table). IsReadOut m t s.rows q q2 item seat out) (sym (table_is s seen view 0)) R,
     moved_is s seen view seat (Scan q2) slots t2 items ∙ ap (λ (t : pages.Table). moved seen seat (reading q2) t) (table ∙ ap untouched (sym (table_is s seen view 0))),
     stage_set slots s.slots.items seat (Scan q2) items (steps.seats m s I) (steps.low m s I seat (ap (λ (x : Slot O Key Recon Cond). is_open (stage_of x)) here)),
@@ -190,26 +190,27 @@ module _ {O Key Recon Cond : Type 0} (m : Meaning Key Recon Cond) (s : Inside O 
   is_read Free h = absurd h
   is_read (Insert key d) h = absurd h
   is_read (Scan q) h = (h, refl)
+  is_read (Vacuum v) h = absurd h
 
   pub closes_seats : (closed : Closed) (between : List (Slot O Key Recon Cond)) (slot : Slot O Key Recon Cond) → ClosesFrom s.slots.items between seat closed slot → length between ≡ 64
   closes_seats closed between Free h = absurd h
   closes_seats closed between (Insert key d) h = absurd h
+  closes_seats closed between (Vacuum v) h = absurd h
   closes_seats closed between (Scan q) (items, C) = ap length items ∙ length-set s.slots.items seat (Scan (emptied q)) ∙ steps.seats m s I
 
   pub kept_closes : (closed : Closed) (between slots : Vec (Slot O Key Recon Cond) Global) (journal : Written O Key Recon Cond) → (slot : Slot O Key Recon Cond) → slot_now ≡ slot → CanClose slot →
       ClosesFrom s.slots.items between.items seat closed slot → slots.items ≡ set between.items seat Free → journal.events ≡ s.journal.events ++ CloseScan seat closed.rows ∷ [] → journal.spare + 1 ≡ s.journal.spare → IsState m (steps.with_fields m s (untouched s.table) s.rows slots journal)
   kept_closes closed between slots journal Free here can h items events less = absurd h
   kept_closes closed between slots journal (Insert key d) here can h items events less = absurd h
-  kept_closes closed between slots journal (Scan q) here empty (made, C) items events less = record {
-    kept = closes_at q (emptied q) 0 between here made closed slots journal empty C (set_twice s.slots.items between.items slots.items seat (Scan (emptied q)) Free made items) events less;
-    unswept = steps.unswept_then m s I journal.events (CloseScan seat closed.rows) events refl;
-  }
+  kept_closes closed between slots journal (Scan q) here empty (made, C) items events less = closes_at q (emptied q) 0 between here made closed slots journal empty C (set_twice s.slots.items between.items slots.items seat (Scan (emptied q)) Free made items) events less
+  kept_closes closed between slots journal (Vacuum v) here can h items events less = absurd h
 
   pub closes_seen : (seen : Seen O Key Recon Cond) → seen_of s ≡ seen → (closed : Closed) (between slots : List (Slot O Key Recon Cond)) (events : List (Event O Key Recon Cond)) (t2 : pages.Table) → t2 ≡ untouched s.table → (slot : Slot O Key Recon Cond) → slot_now ≡ slot →
       ClosesFrom s.slots.items between seat closed slot → slots ≡ set between seat Free → events ≡ s.journal.events ++ CloseScan seat closed.rows ∷ [] →
       (seen_as events (map stage_of slots) t2 s.origin ≡ logged seen seat (CloseScan seat closed.rows) free (untouched seen.table)) × (stage_in (map stage_of slots) seat ≡ free) × HasMet (stage_of slot) closed.met
   closes_seen seen view closed between slots events t2 table Free here h items events_are = absurd h
   closes_seen seen view closed between slots events t2 table (Insert key d) here h items events_are = absurd h
+  closes_seen seen view closed between slots events t2 table (Vacuum v) here h items events_are = absurd h
   closes_seen seen view closed between slots events t2 table (Scan q) here (made, C) items events_are =
       let all : slots ≡ set s.slots.items seat Free = set_twice s.slots.items between slots seat (Scan (emptied q)) Free made items in (
         logged_is s seen view seat (CloseScan seat closed.rows) Free slots events t2 all events_are ∙ ap (λ (t : pages.Table). logged seen seat (CloseScan seat closed.rows) free t) (table ∙ ap untouched (sym (table_is s seen view 0))),

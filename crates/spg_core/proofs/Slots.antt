@@ -9,12 +9,12 @@ use Rattle.spg_rows.specs.declared.event.Event.{Event}
 use Rattle.spg_rows.specs.History.{History, open_of}
 use Rattle.spg_tree.specs.Table.{Table}
 use Rattle.spg_tree.specs.Descents.{Descending}
-use Rattle.spg_seats.specs.Slots.{Stage, free, descending, reading, stage_in, is_open, open_count, StageFits}
+use Rattle.spg_seats.specs.Slots.{Stage, free, descending, reading, sweeping, stage_in, is_open, open_count, StageFits}
 use Rattle.spg_core.specs.declared.slot.Slot.{Slot}
 use Rattle.spg_core.specs.declared.slot.Slot.TheVariants.{Free, Insert}
 use Rattle.spg_core.specs.declared.state.State.TheInside.{Inside}
-use Rattle.spg_core.specs.Stage.{IsInserting, IsRead, IsStageOf}
-use Rattle.spg_core.specs.Seen.{Seen, stage_at, moved, logged, past_of}
+use Rattle.spg_core.specs.Stage.{IsInserting, IsRead, IsSweeping, IsStageOf}
+use Rattle.spg_core.specs.Seen.{Seen, stage_at, moved, logged, logged_all, past_of}
 use Rattle.spg_core.specs.Slot.{stage_of}
 use Rattle.spg_core.specs.Kept.{seen_of}
 
@@ -119,6 +119,11 @@ module _ {O Key Recon Cond : Type 0} where
     logged_is e slot slots events table slots_are events_are =
         ap (λ j. seen_as j (map stage_of slots) table s.origin) events_are ∙ ap (λ l. seen_as (s.journal.events ++ e ∷ []) l table s.origin) (stages_set slots s.slots.items seat slot slots_are) ∙ ap (λ v. logged v seat e (stage_of slot) table) view
 
+    pub logged_all_is : (es : List (Event O Key Recon Cond)) (slot : Slot O Key Recon Cond) (slots : List (Slot O Key Recon Cond)) (events : List (Event O Key Recon Cond)) (table : Table) → slots ≡ set s.slots.items seat slot → events ≡ s.journal.events ++ es
+        → seen_as events (map stage_of slots) table s.origin ≡ logged_all seen seat es (stage_of slot) table
+    logged_all_is es slot slots events table slots_are events_are =
+        ap (λ j. seen_as j (map stage_of slots) table s.origin) events_are ∙ ap (λ l. seen_as (s.journal.events ++ es) l table s.origin) (stages_set slots s.slots.items seat slot slots_are) ∙ ap (λ v. logged_all v seat es (stage_of slot) table) view
+
     pub moved_is : (slot : Slot O Key Recon Cond) (slots : List (Slot O Key Recon Cond)) (table : Table) → slots ≡ set s.slots.items seat slot → seen_as s.journal.events (map stage_of slots) table s.origin ≡ moved seen seat (stage_of slot) table
     moved_is slot slots table slots_are = ap (λ l. seen_as s.journal.events l table s.origin) (stages_set slots s.slots.items seat slot slots_are) ∙ ap (λ v. moved v seat (stage_of slot) table) view
 
@@ -128,22 +133,32 @@ module _ {O Key Recon Cond : Type 0} where
   inserting_open free is = absurd is
   inserting_open (descending key d) is = refl
   inserting_open (reading s) is = refl
+  inserting_open (sweeping v) is = refl
 
   pub read_open : (stage : Stage O Key Recon Cond) → IsRead stage → is_open stage ≡ true
   read_open free is = absurd is
   read_open (descending key d) is = refl
   read_open (reading s) is = refl
+  read_open (sweeping v) is = refl
+
+  pub sweeping_open : (stage : Stage O Key Recon Cond) → IsSweeping stage → is_open stage ≡ true
+  sweeping_open free is = absurd is
+  sweeping_open (descending key d) is = refl
+  sweeping_open (reading s) is = refl
+  sweeping_open (sweeping v) is = refl
 
   pub not_free_open : (stage : Stage O Key Recon Cond) → stage ≢ free → is_open stage ≡ true
   not_free_open free is = absurd (is refl)
   not_free_open (descending key d) is = refl
   not_free_open (reading s) is = refl
+  not_free_open (sweeping v) is = refl
 
   module _ (m : Meaning Key Recon Cond) (t : Table) (past : History O Key Recon Cond) (seat : ℕ) where
     pub fits_stage : (stage : Stage O Key Recon Cond) → StageFits m t past seat stage → IsStageOf (open_of seat past) stage
     fits_stage free fits = fits
     fits_stage (descending key d) fits = fits.0
     fits_stage (reading s) fits = (fits.0, fits.1)
+    fits_stage (sweeping v) fits = (fits.0, fits.1)
 
   -- the slots of a new state
   pub stages_new : (n : ℕ) → ◌≡◌ {A = List (Stage O Key Recon Cond)} (map stage_of (replicate n Free)) (replicate n free)

@@ -13,7 +13,7 @@ use Rattle.spg_tree.specs.declared.stand.Stand.TheVariants.{Start, Root, At, Emp
 use Rattle.spg_descend.specs.Carried.{root_of}
 use Rattle.spg_descend.specs.Follows.{IsAtInner, tuple_place, link_of}
 use Rattle.spg_descend.specs.Answers.{LeadsNowhere}
-use Rattle.spg_core.specs.Stage.{Stage, free, descending, reading}
+use Rattle.spg_core.specs.Stage.{Stage, free, descending, reading, sweeping}
 use Rattle.spg_core.specs.Seen.{Seen, stage_at}
 use Rattle.spg_core.specs.declared.answer.InsertOut.{InsertOut}
 use Rattle.spg_core.specs.declared.answer.InsertOut.TheVariants.{Descended, Restructured, Restarted, Put}
@@ -54,6 +54,7 @@ abbrev pub StageEnds : {O Key Recon Cond : Type 0} → Meaning Key Recon Cond �
 StageEnds m t n free = ⊥
 StageEnds m t n (descending key d) = EndsWithin m t d n
 StageEnds m t n (reading s) = ⊥
+StageEnds m t n (sweeping v) = ⊥
 
 abbrev pub SeatEnds : {O Key Recon Cond : Type 0} → Meaning Key Recon Cond → Seen O Key Recon Cond → ℕ → ℕ → Type 0
 SeatEnds m seen seat n = StageEnds m seen.table n (stage_at seen seat)

@@ -4,6 +4,9 @@ pub mod Weight
 pub mod Stage
 pub mod Seen
 pub mod Slot
+pub mod Spans
+pub mod Waiting
+pub mod Sweeping
 pub mod Operations
 pub mod Kept
 pub mod Sections

@@ -1,5 +1,5 @@
 -- What each call of a state does, as its callers see it.
-use Rattle.std.specs.Prelude.{◌≡◌, ◌≢◌, ◌<◌, ◌⊎◌, ◌↔◌, [], ℕ, Bool, true, false, is_none, Option, Some, length}
+use Rattle.std.specs.Prelude.{◌≡◌, ◌≢◌, ◌<◌, ◌⊎◌, ◌↔◌, [], ℕ, Bool, true, false, is_none, List, Option, Some, length}
 use Rattle.spg_base.specs.Row.{RowAt}
 use Rattle.spg_opclass.specs.Meaning.{Meaning}
 use Rattle.spg_opclass.specs.declared.query.Query.{Query}
@@ -7,7 +7,7 @@ use Rattle.spg_forest.specs.Walk.{weight_of}
 use Rattle.spg_rows.specs.Table as rows
 use Rattle.spg_rows.specs.Rows.{state_of}
 use Rattle.spg_rows.specs.declared.table.RowState.TheVariants as row_state
-use Rattle.spg_rows.specs.declared.event.Event.TheVariants.{OpenInsert, Put, Kill, OpenScan, CloseScan}
+use Rattle.spg_rows.specs.declared.event.Event.TheVariants.{OpenInsert, Put, Kill, OpenScan, CloseScan, OpenVacuum, CloseVacuum}
 use Rattle.spg_rows.specs.declared.event.Why.{Why}
 use Rattle.spg_tree.specs.Table.{Table, start_table, latch_at}
 use Rattle.spg_tree.specs.Descents.{Descending}
@@ -21,9 +21,15 @@ use Rattle.spg_scan.specs.declared.walk.ReadOut.{ReadOut}
 use Rattle.spg_scan.specs.declared.walk.Closed.{Closed}
 use Rattle.spg_core.specs.declared.answer.InsertOut.{InsertOut}
 use Rattle.spg_core.specs.declared.answer.InsertOut.TheVariants as outs
-use Rattle.spg_core.specs.Stage.{Stage, free, descending, reading, given_up}
-use Rattle.spg_seats.specs.Slots.{HasLatches}
-use Rattle.spg_core.specs.Seen.{Seen, stage_at, moved, logged, past_of, untouched}
+use Rattle.spg_core.specs.Stage.{Stage, free, descending, reading, sweeping, given_up}
+use Rattle.spg_rows.specs.Targets.{killed_before}
+use Rattle.spg_vacuum.specs.declared.vacuum.Vacuum.{Vacuum}
+use Rattle.spg_seats.specs.Opening.{opened_vacuum, sweeps}
+use Rattle.spg_seats.specs.Slots.{HasLatches, horizon_of}
+use Rattle.spg_core.specs.declared.answer.VacuumOut.{VacuumOut}
+use Rattle.spg_core.specs.declared.answer.VacuumOut.TheVariants as works
+use Rattle.spg_core.specs.Sweeping.{DoesWork}
+use Rattle.spg_core.specs.Seen.{Seen, stage_at, moved, logged, logged_all, past_of, untouched}
 use Rattle.spg_core.specs.Stepping.{SamePages}
 use Rattle.spg_core.specs.Telling.{StepTells}
 use Rattle.spg_core.specs.Refusing.{FindsNoPage, Ticks}
@@ -57,6 +63,7 @@ abbrev pub IsOutOf : {O Key Recon Cond : Type 0} → Seen O Key Recon Cond → S
 IsOutOf old new seat out free = ⊥
 IsOutOf old new seat out (descending key d) = StoodFor old.table d seat out × IsAfterSection old new seat key d out
 IsOutOf old new seat out (reading s) = ⊥
+IsOutOf old new seat out (sweeping v) = ⊥
 
 abbrev pub IsInsertOut : {O Key Recon Cond : Type 0} → Seen O Key Recon Cond → Seen O Key Recon Cond → ℕ → InsertOut → Type 0
 IsInsertOut old new seat out = IsOutOf old new seat out (stage_at old seat)
@@ -73,6 +80,7 @@ abbrev pub TellsFor : {O Key Recon Cond : Type 0} → Meaning Key Recon Cond →
 TellsFor m old new seat out free = ⊥
 TellsFor {O} {Key} {Recon} m old new seat out (descending key d) = (d2 : Descending Recon) × IsAtThen new seat key d2 out × StepTells m old.table new.table d d2 seat out
 TellsFor m old new seat out (reading s) = ⊥
+TellsFor m old new seat out (sweeping v) = ⊥
 
 abbrev pub TellsSection : {O Key Recon Cond : Type 0} → Meaning Key Recon Cond → Seen O Key Recon Cond → Seen O Key Recon Cond → ℕ → InsertOut → Type 0
 TellsSection m old new seat out = TellsFor m old new seat out (stage_at old seat)
@@ -106,6 +114,7 @@ abbrev pub IsHeavyFor : {O Key Recon Cond : Type 0} → Meaning Key Recon Cond �
 IsHeavyFor m seen free = ⊥
 IsHeavyFor m seen (descending key d) = 8160 < weight_of m (is_none key) (opened_keys (past_of seen))
 IsHeavyFor m seen (reading s) = ⊥
+IsHeavyFor m seen (sweeping v) = ⊥
 
 abbrev pub IsHeavy : {O Key Recon Cond : Type 0} → Meaning Key Recon Cond → Seen O Key Recon Cond → ℕ → Type 0
 IsHeavy m seen seat = IsHeavyFor m seen (stage_at seen seat)
@@ -115,6 +124,7 @@ abbrev pub FindsNoPageFor : {O Key Recon Cond : Type 0} → Meaning Key Recon Co
 FindsNoPageFor m t seat free = ⊥
 FindsNoPageFor m t seat (descending key d) = FindsNoPage m t d seat
 FindsNoPageFor m t seat (reading s) = ⊥
+FindsNoPageFor m t seat (sweeping v) = ⊥
 
 abbrev pub SeatFindsNoPage : {O Key Recon Cond : Type 0} → Meaning Key Recon Cond → Seen O Key Recon Cond → ℕ → Type 0
 SeatFindsNoPage m seen seat = FindsNoPageFor m seen.table seat (stage_at seen seat)
@@ -124,6 +134,7 @@ abbrev pub TicksFor : {O Key Recon Cond : Type 0} → Meaning Key Recon Cond →
 TicksFor m t free = ⊥
 TicksFor m t (descending key d) = Ticks m t d
 TicksFor m t (reading s) = ⊥
+TicksFor m t (sweeping v) = ⊥
 
 abbrev pub SeatTicks : {O Key Recon Cond : Type 0} → Meaning Key Recon Cond → Seen O Key Recon Cond → ℕ → Type 0
 SeatTicks m seen seat = TicksFor m seen.table (stage_at seen seat)
@@ -139,6 +150,7 @@ ReadsFor m old new seat item out free = ⊥
 ReadsFor m old new seat item out (descending key d) = ⊥
 ReadsFor {O} {Key} {Recon} {Cond} m old new seat item out (reading s) =
     (s2 : Scanning O Key Recon Cond) × (table : rows.Table O Key Recon Cond) × ((row : RowAt) → rows.state_in table row ≡ state_of row (past_of old)) × IsReadOut m old.table table s s2 item seat out × (new ≡ moved old seat (reading s2) (untouched old.table)) × (stage_at new seat ≡ reading s2)
+ReadsFor m old new seat item out (sweeping v) = ⊥
 
 abbrev pub ReadsItem : {O Key Recon Cond : Type 0} → Meaning Key Recon Cond → Seen O Key Recon Cond → Seen O Key Recon Cond → ℕ → ℕ → ReadOut → Type 0
 ReadsItem m old new seat item out = ReadsFor m old new seat item out (stage_at old seat)
@@ -148,9 +160,42 @@ abbrev pub HasMet : {O Key Recon Cond : Type 0} → Stage O Key Recon Cond → �
 HasMet free met = ⊥
 HasMet (descending key d) met = ⊥
 HasMet (reading s) met = met ≡ s.met
+HasMet (sweeping v) met = ⊥
 
 abbrev pub ClosesScan : {O Key Recon Cond : Type 0} → Seen O Key Recon Cond → Seen O Key Recon Cond → ℕ → Closed → Type 0
 ClosesScan old new seat closed = (new ≡ logged old seat (CloseScan seat closed.rows) free (untouched old.table)) × (stage_at new seat ≡ free) × HasMet (stage_at old seat) closed.met
+
+-- ---- vacuums
+
+abbrev pub OpensVacuum : {O Key Recon Cond : Type 0} → Seen O Key Recon Cond → Seen O Key Recon Cond → ℕ → Type 0
+OpensVacuum old new seat =
+    let s : Stage _ _ _ _ = sweeping (opened_vacuum (length old.journal) old.table.clock) in
+    (new ≡ logged old seat (OpenVacuum seat) s (untouched old.table)) × (stage_at new seat ≡ s)
+
+-- the rows of the test were deleted before this position, and are not swept
+abbrev pub AreTargets : {O Key Recon Cond : Type 0} → (RowAt → Bool) → ℕ → Seen O Key Recon Cond → Type 0
+AreTargets test at seen = (row : RowAt) → test row ≡ killed_before at (state_of row (past_of seen))
+
+-- after a section of a vacuum: its sweeps are told in order, and it goes on; or it has ended
+abbrev pub IsAfterWork : {O Key Recon Cond : Type 0} → Seen O Key Recon Cond → Seen O Key Recon Cond → ℕ → Vacuum → List RowAt → VacuumOut → Type 0
+IsAfterWork old new seat v2 swept works.Block = (new ≡ logged_all old seat (sweeps seat swept) (sweeping v2) new.table) × (stage_at new seat ≡ sweeping v2)
+IsAfterWork old new seat v2 swept works.Pending = (new ≡ logged_all old seat (sweeps seat swept) (sweeping v2) new.table) × (stage_at new seat ≡ sweeping v2)
+IsAfterWork old new seat v2 swept (works.Latched block by) = (new ≡ moved old seat (sweeping v2) new.table) × (stage_at new seat ≡ sweeping v2)
+IsAfterWork old new seat v2 swept (works.Finished count) = (new ≡ logged old seat (CloseVacuum seat count) free new.table) × (stage_at new seat ≡ free)
+
+-- the seat's vacuum has done a section: on its targets, with the least opening stamp of all that is open for its horizon
+abbrev pub StepsFor : {O Key Recon Cond : Type 0} → Seen O Key Recon Cond → Seen O Key Recon Cond → ℕ → VacuumOut → Stage O Key Recon Cond → Type 0
+StepsFor old new seat out free = ⊥
+StepsFor old new seat out (descending key d) = ⊥
+StepsFor old new seat out (reading s) = ⊥
+StepsFor old new seat out (sweeping v) =
+    (v2 : Vacuum) × (swept : List RowAt) × (test : RowAt → Bool) × AreTargets test v.at old
+    × DoesWork old.table new.table v v2 test (horizon_of old.stages v.stamp) seat out swept × IsAfterWork old new seat v2 swept out
+
+abbrev pub StepsVacuum : {O Key Recon Cond : Type 0} → Seen O Key Recon Cond → Seen O Key Recon Cond → ℕ → VacuumOut → Type 0
+StepsVacuum old new seat out = StepsFor old new seat out (stage_at old seat)
+
+-- ---- giving up
 
 -- but for latches the table is as it was, with none touched
 abbrev pub IsReleased : Table → Table → Type 0

@@ -25,10 +25,14 @@ moved seen seat stage table = record { journal = seen.journal; stages = slice_se
 abbrev pub logged : {O Key Recon Cond : Type 0} → Seen O Key Recon Cond → ℕ → Event O Key Recon Cond → Stage O Key Recon Cond → Table → Seen O Key Recon Cond
 logged seen seat event stage table = record { journal = seen.journal ++ event ∷ []; stages = slice_set seen.stages seat stage; table = table; origin = seen.origin }
 
+-- the seat did these one after another, and is then at this stage, with these pages
+abbrev pub logged_all : {O Key Recon Cond : Type 0} → Seen O Key Recon Cond → ℕ → List (Event O Key Recon Cond) → Stage O Key Recon Cond → Table → Seen O Key Recon Cond
+logged_all seen seat events stage table = record { journal = seen.journal ++ events; stages = slice_set seen.stages seat stage; table = table; origin = seen.origin }
+
 -- the journal, the newest event first
 abbrev pub past_of : {O Key Recon Cond : Type 0} → Seen O Key Recon Cond → History O Key Recon Cond
 past_of seen = reverse seen.journal
 
--- the pages, with none touched: what a call leaves that is no section of an insert
+-- the pages, with none touched: what a call leaves that is no section of an insert or of a vacuum
 abbrev pub untouched : Table → Table
 untouched t = with_touched t []

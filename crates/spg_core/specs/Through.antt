@@ -5,7 +5,7 @@ use Rattle.spg_rows.specs.declared.event.Event.TheVariants as event
 use Rattle.spg_tree.specs.Table.{latch_at}
 use Rattle.spg_core.specs.declared.answer.InsertRan.{InsertRan}
 use Rattle.spg_core.specs.declared.answer.InsertRan.TheVariants.{Put, Restarted}
-use Rattle.spg_core.specs.Stage.{Stage, free, descending, reading}
+use Rattle.spg_core.specs.Stage.{Stage, free, descending, reading, sweeping}
 use Rattle.spg_core.specs.Seen.{Seen, stage_at}
 use Rattle.spg_core.specs.Sections.{HasNone}
 
@@ -14,6 +14,7 @@ abbrev pub IsInsertOf : {O Key Recon Cond : Type 0} → RowAt → Option Key →
 IsInsertOf row key free = ⊥
 IsInsertOf row key (descending k d) = (k ≡ key) × (d.row ≡ row)
 IsInsertOf row key (reading s) = ⊥
+IsInsertOf row key (sweeping v) = ⊥
 
 -- no event was written since, and an insert of a row and a key that the seat had open is open still
 pub record StillInserts {O Key Recon Cond : Type 0} (old new : Seen O Key Recon Cond) (seat : ℕ) : Type 0 where

@@ -1,5 +1,6 @@
 ghost use Rattle.std.specs.Prelude.{◌≡◌};
 ghost use Rattle.spg_core.specs.declared.answer.OpenRefused.TheVariants as refused;
+ghost use Rattle.spg_core.specs.declared.answer.VacuumRefused.TheVariants as vacuum_refused;
 
 use spg_base::{Block, Memory, SeatNo};
 
@@ -8,6 +9,9 @@ use spg_base::{Block, Memory, SeatNo};
 pub enum OpenRefused {
     /// The row is claimed, and waits for nobody.
     RowUsed,
+    /// The entry of the row was swept, and this seat is waited for: that of the vacuum until it ends,
+    /// and then the lowest one whose scan was open at that end and still is.
+    RowHeld { by: SeatNo },
     /// Want of memory.
     Memory,
 }
@@ -17,6 +21,23 @@ impl From<Memory> for OpenRefused {
 
     fn from(_: Memory) -> OpenRefused {
         OpenRefused::Memory
+    }
+}
+
+/// Why a vacuum was not opened.
+#[derive(Clone, Copy, Debug, PartialEq, Eq)]
+pub enum VacuumRefused {
+    /// This seat has a vacuum open.
+    Open { by: SeatNo },
+    /// Want of memory.
+    Memory,
+}
+
+impl From<Memory> for VacuumRefused {
+    ghost from_gives = { λ _ e. e ≡ vacuum_refused.Memory };
+
+    fn from(_: Memory) -> VacuumRefused {
+        VacuumRefused::Memory
     }
 }
 
@@ -44,6 +65,19 @@ pub enum InsertRan {
     Restarted { block: Block, by: SeatNo },
 }
 
+/// What a section of a vacuum did.
+#[derive(Clone, Copy, Debug, PartialEq, Eq)]
+pub enum VacuumOut {
+    /// It handled the next block.
+    Block,
+    /// It handled the first place of its pending list that was not done.
+    Pending,
+    /// Another seat holds the block to be handled, and nothing was done.
+    Latched { block: Block, by: SeatNo },
+    /// It was at its end, and is closed. It swept this many rows.
+    Finished { swept: u64 },
+}
+
 /// What a seat has open.
 #[derive(Clone, Copy, Debug, PartialEq, Eq)]
 pub enum OpenKind {
@@ -53,4 +87,6 @@ pub enum OpenKind {
     Insert,
     /// A scan, which still holds so many items.
     Scan { held: usize },
+    /// A vacuum.
+    Vacuum,
 }

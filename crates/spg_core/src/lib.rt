@@ -12,9 +12,12 @@ mod recorded;
 mod slot;
 mod stat;
 mod state;
+mod sweeping;
 mod through;
+mod vacuums;
+mod waiting;
 
-pub use answer::{InsertOut, InsertRan, OpenKind, OpenRefused};
+pub use answer::{InsertOut, InsertRan, OpenKind, OpenRefused, VacuumOut, VacuumRefused};
 pub use laws::calls_keep;
 pub use spg_scan::{Closed, ReadOut};
 pub use spg_tree::StepRefused;

@@ -8,7 +8,7 @@ ghost use Rattle.spg_core.specs.declared.slot.Slot.TheVariants as kept;
 ghost use Rattle.spg_seats.specs.Slots.{stage_holds};
 ghost use Rattle.spg_seats.specs.Latching.{AreHeld, HoldsNone};
 ghost use Rattle.spg_core.specs.Telling.{IsButLatches};
-ghost use Rattle.spg_core.specs.Slot.{GivesBack, stage_of};
+ghost use Rattle.spg_core.specs.Slot.{GivesBack, ended_with, stage_of};
 ghost use Rattle.spg_core.specs.Operations.{CanStep, StepsSlot, IsOutgrownBy, CanRead, ReadsSlot, CanClose, ClosesSlot, CanRelease, IsInsert, IsRowOf};
 ghost use Rattle.spg_core.specs.Stepping.{IsNearLimit};
 ghost use Rattle.spg_core.specs.Sections.{FindsNoPageFor, TicksFor};
@@ -17,6 +17,7 @@ ghost use Rattle.spg_scan.specs.Scanning.{IsClosing, emptied};
 use crate::answer::InsertOut;
 use crate::insert::step;
 use crate::slot::Slot;
+use crate::vacuums::Vacuums;
 use spg_base::{List, Memory, Row, Rows, SeatNo};
 use spg_descend::release_latches;
 use spg_opclass::OpClass;
@@ -144,5 +145,14 @@ pub(crate) fn release_slot<O: OpClass>(
     if let Slot::Insert { descent, .. } = slot {
         release_latches(table, descent, seat);
         rows.drop_claim(descent.row());
+    }
+}
+
+/// The vacuum of a slot, where it has one, ends at a position of the journal.
+pub(crate) fn end_vacuum<O: OpClass>(vacuums: &mut Vacuums, slot: &Slot<O>, at: u64)
+    ensures { vacuums.new ≡ ended_with slot.now at vacuums.old }
+{
+    if let Slot::Vacuum(_) = slot {
+        vacuums.end(at);
     }
 }

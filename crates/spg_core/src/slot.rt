@@ -9,6 +9,7 @@ use spg_opclass::OpClass;
 use spg_rows::{Event, Why};
 use spg_scan::{Scan, Walk};
 use spg_tree::Descent;
+use spg_vacuum::Vacuum;
 use std::alloc::Global;
 
 /// How many seats there are.
@@ -23,6 +24,7 @@ pub enum Slot<O: OpClass> {
         descent: Descent<O>,
     },
     Scan(Scan<O>),
+    Vacuum(Vacuum),
 }
 
 /// A slot for each seat, with nothing open.
@@ -62,6 +64,7 @@ pub fn kind<O: OpClass>(slot: &Slot<O>) -> OpenKind
         Slot::Free => OpenKind::Nothing,
         Slot::Insert { .. } => OpenKind::Insert,
         Slot::Scan(scan) => OpenKind::Scan { held: scan.held() },
+        Slot::Vacuum(_) => OpenKind::Vacuum,
     }
 }
 

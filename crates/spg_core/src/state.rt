@@ -3,7 +3,7 @@ ghost use Rattle.spg_base.specs.declared.recorded.Origin.{Origin};
 ghost use Rattle.spg_forest.specs.Shape.{Represents};
 ghost use Rattle.spg_base.specs.Row.{RowAt};
 ghost use Rattle.spg_rows.specs.Table.{state_in, key_in};
-ghost use Rattle.spg_rows.specs.Rows.{state_of};
+ghost use Rattle.spg_rows.specs.Rows.{state_of, held_by};
 ghost use Rattle.spg_rows.specs.Told.{IsUsed};
 ghost use Rattle.spg_rows.specs.Right.{Right};
 ghost use Rattle.spg_rows.specs.declared.table.RowState.TheVariants as row_state;
@@ -12,29 +12,37 @@ ghost use Rattle.spg_rows.specs.History.{open_of};
 ghost use Rattle.spg_tree.specs.Table.{sheets_of};
 ghost use Rattle.spg_seats.specs.Slots.{StageFits, LatchesAre, kept_key};
 ghost use Rattle.spg_seats.specs.Descending.{ChangesHeld};
-ghost use Rattle.spg_core.specs.Stage.{free, IsInserting, IsRead, IsStageOf, MayGiveUp, held_count, kind_of};
+ghost use Rattle.spg_core.specs.Stage.{free, IsInserting, IsSweeping, IsRead, IsStageOf, MayGiveUp, held_count, kind_of};
 ghost use Rattle.spg_core.specs.Seen.{stage_at, past_of, IsPresentWith};
 ghost use Rattle.spg_core.specs.Stepping.{IsNearLimit, Grows, MakesAtMostOne};
 ghost use Rattle.spg_core.specs.Ends.{SeatEnds, SeatThenEnds};
-ghost use Rattle.spg_core.specs.Kept.{RootsAreHeavy, IsUnswept};
+ghost use Rattle.spg_core.specs.Kept.{RootsAreHeavy};
 ghost use Rattle.spg_core.specs.Counts.{IsStat};
-ghost use Rattle.spg_core.specs.Sections.{IsNew, OpensInsert, IsInsertOut, TellsSection, LatchesAfter, OthersHold, IsHeavy, SeatFindsNoPage, SeatTicks, KillsRow, OpensScan, ReadsItem, ClosesScan, GivesUp};
+ghost use Rattle.spg_core.specs.Waiting.{is_used};
+ghost use Rattle.spg_core.specs.Sections.{IsNew, OpensInsert, IsInsertOut, TellsSection, LatchesAfter, OthersHold, IsHeavy, SeatFindsNoPage, SeatTicks, KillsRow, OpensScan, ReadsItem, ClosesScan, OpensVacuum, StepsVacuum, GivesUp};
 
-use crate::answer::{InsertOut, OpenKind, OpenRefused};
-use crate::operations::{close_slot, end_insert, read_slot, release_slot, step_slot};
+use crate::answer::{InsertOut, OpenKind, OpenRefused, VacuumOut, VacuumRefused};
+use crate::operations::{close_slot, end_insert, end_vacuum, read_slot, release_slot, step_slot};
 use crate::slot::{SEATS, Slot, free_slots, give_up, kind, set_slot, slot_at};
 use crate::stat::stat_of;
-use spg_base::{Memory, Origin, Row, Same, SeatNo, Stamp, Stat};
+use crate::sweeping::{sweep_slot, tell_sweeps};
+use crate::vacuums::Vacuums;
+use crate::waiting::{scan_seat, vacuum_seat};
+use spg_base::{Memory, Origin, Row, RowSet, Same, SeatNo, Stamp, Stat};
 use spg_descend::open_descent;
 use spg_opclass::{OpClass, Query};
 use spg_rows::{Event, Journal, RowState, RowTable, Why};
 use spg_scan::{Closed, ReadOut, Scan};
 use spg_tree::{PageTable, StepRefused, Touched};
+use spg_vacuum::Vacuum;
 use std::alloc::Global;
 use std::marker::Model;
 
 /// An open needs room for its own event and for the events that end what all seats have open.
 const ROOM: u64 = SEATS as u64 + 1;
+
+/// No page has more tuples.
+const MOST_SWEEPS: u64 = 408;
 
 /// An index, what each of 64 seats has open, and the journal of all that was done. A seat has at most
 /// one operation open. The sections of the seats come in any order.
@@ -46,6 +54,11 @@ pub struct State<O: OpClass> {
     rows: RowTable<O>,
     slots: Vec<Slot<O>>,
     journal: Journal<O>,
+    vacuums: Vacuums,
+    /// The deleted rows that are not swept: those deleted before the newest vacuum opened,
+    targets: RowSet,
+    /// and those deleted since.
+    later: RowSet,
     origin: Origin,
 }
 
@@ -74,6 +87,9 @@ impl<O: OpClass> State<O> {
             rows: RowTable::new(alloc),
             slots: free_slots(alloc)?,
             journal: Journal::new(alloc),
+            vacuums: Vacuums::new(alloc),
+            targets: RowSet::new(alloc),
+            later: RowSet::new(alloc),
             origin: Origin {
                 limit,
                 pages: 3,
@@ -96,11 +112,10 @@ impl<O: OpClass> State<O> {
         self.origin
     }
 
-    /// The journal. It is legal, and each closed scan is right. So far it has no sweep.
+    /// The journal. It is legal, and each closed scan and each closed vacuum is right.
     pub fn journal(&self) -> &Journal<O>
         ensures events { result.now.events ≡ self.now.journal }
         ensures right { Right O.meaning self.now.journal }
-        ensures unswept { IsUnswept (past_of self.now) }
     {
         &self.journal
     }
@@ -159,8 +174,23 @@ impl<O: OpClass> State<O> {
         kind(slot_at(&self.slots, seat))
     }
 
+    /// The seat that is waited for until the row may be inserted again: that of the vacuum that swept
+    /// its entry, until this ends; then the lowest one whose scan was open at that end and still is.
+    /// None exactly where nobody is waited for.
+    pub fn held_by(&self, row: Row) -> Option<SeatNo>
+        ensures { result ≡ held_by row (past_of self.now) }
+    {
+        let RowState::Swept { vacuum } = self.rows.state(row) else {
+            return None;
+        };
+        match self.vacuums.end_of(vacuum) {
+            None => vacuum_seat(&self.slots),
+            Some(at) => scan_seat(&self.slots, at),
+        }
+    }
+
     /// Opens an insert. It claims the row. `RowUsed` exactly where the row is claimed, and waits for
-    /// nobody.
+    /// nobody. `RowHeld` exactly where it waits for this seat.
     pub fn open_insert(
         &mut self,
         seat: SeatNo,
@@ -170,9 +200,13 @@ impl<O: OpClass> State<O> {
         requires free { stage_at self.old seat ≡ free }
         ensures ok { OnOk result (OpensInsert O.meaning self.old self.new seat row key) }
         ensures row_used { IsErrOf result OpenRefused.RowUsed ↔ IsUsed (past_of self.old) row }
+        ensures row_held { (by : ℕ) → IsErrOf result (OpenRefused.RowHeld by) ↔ (held_by row (past_of self.old) ≡ Some by) }
         ensures err { OnErr result (self.new ≡ self.old) }
     {
-        if !is_free(self.rows.state(row)) {
+        if let Some(by) = self.held_by(row) {
+            return Err(OpenRefused::RowHeld { by });
+        }
+        if is_used(self.rows.state(row)) {
             return Err(OpenRefused::RowUsed);
         }
         let descent = open_descent(self.alloc, &self.class, row, key.as_ref())?;
@@ -245,6 +279,7 @@ impl<O: OpClass> State<O> {
             return Ok(false);
         }
         self.journal.reserve(ROOM)?;
+        self.later.add(row)?;
         self.rows.kill(row, self.journal.len());
         self.journal.append(Event::Kill { seat, row });
         self.table.set_touched(Touched::new());
@@ -302,6 +337,71 @@ impl<O: OpClass> State<O> {
         Ok(closed)
     }
 
+    /// Opens a vacuum. Its targets are the rows that are deleted by now and not swept. `Open` exactly
+    /// where that seat has a vacuum open.
+    pub fn open_vacuum(&mut self, seat: SeatNo) -> Result<(), VacuumRefused>
+        requires free { stage_at self.old seat ≡ free }
+        ensures ok { OnOk result (OpensVacuum self.old self.new seat) }
+        ensures open { (by : ℕ) → IsErrOf result (VacuumRefused.Open by) ↔ IsSweeping (stage_at self.old by) }
+        ensures err { OnErr result (self.new ≡ self.old) }
+    {
+        if let Some(by) = vacuum_seat(&self.slots) {
+            return Err(VacuumRefused::Open { by });
+        }
+        self.journal.reserve(ROOM)?;
+        self.targets.take_all(&mut self.later)?;
+        let at = self.journal.len();
+        self.vacuums.open(at)?;
+        self.journal.append(Event::OpenVacuum { seat });
+        let vacuum = Vacuum::open(self.alloc, at, Stamp::at(self.table.clock()));
+        set_slot(&mut self.slots, seat, Slot::Vacuum(vacuum));
+        self.table.set_touched(Touched::new());
+        Ok(())
+    }
+
+    /// The next section of a vacuum. `Pending` exactly where it handles the first place of its pending
+    /// list that is not done; `Block` exactly where all of these are done, and it handles the next
+    /// block; `Finished` exactly where there is no next block either, and the vacuum has ended then.
+    /// `Latched` exactly where another seat has latched the block to be handled, and nothing changes.
+    /// The rows that it sweeps are told in the order of the offsets that they had. Redirects become
+    /// placeholders whose stamps are below the opening stamp of the vacuum and of each open scan.
+    pub fn vacuum_step(&mut self, seat: SeatNo) -> Result<VacuumOut, Memory>
+        requires sweeping { IsSweeping (stage_at self.old seat) }
+        ensures ok { IfOk result (λ out. StepsVacuum self.old self.new seat out) }
+        ensures others { OthersHold self.old.table self.new.table seat }
+        ensures within { ChangesHeld self.old.table self.new.table seat }
+        ensures grows { Grows self.old.table self.new.table }
+        ensures err { OnErr result (self.new ≡ self.old) }
+    {
+        self.journal.reserve(MOST_SWEEPS + ROOM)?;
+        let stepped = sweep_slot(
+            self.alloc,
+            &mut self.table,
+            &mut self.slots,
+            &self.targets,
+            seat,
+        )?;
+        if let VacuumOut::Latched { .. } = stepped.out {
+            return Ok(stepped.out);
+        }
+        if let VacuumOut::Finished { swept } = stepped.out {
+            self.vacuums.end(self.journal.len());
+            self.journal.append(Event::CloseVacuum { seat, swept });
+            set_slot(&mut self.slots, seat, Slot::Free);
+            return Ok(stepped.out);
+        }
+        tell_sweeps(
+            &mut self.journal,
+            &mut self.rows,
+            &mut self.targets,
+            seat,
+            stepped.opened,
+            stepped.rows.as_slice(),
+        );
+        let _events = self.journal.len();
+        Ok(stepped.out)
+    }
+
     /// Gives up what the seat has open: an insert with this cause, `Full` only where fewer than 4
     /// blocks are left below the limit, `Clock` only where the clock is 2^48 - 1. The seat has nothing
     /// latched then. It takes no memory.
@@ -312,6 +412,7 @@ impl<O: OpClass> State<O> {
     {
         let slot = set_slot(&mut self.slots, seat, Slot::Free);
         release_slot(&mut self.table, &mut self.rows, &slot, seat);
+        end_vacuum(&mut self.vacuums, &slot, self.journal.len());
         self.journal.append(give_up(&slot, seat, why));
         self.table.set_touched(Touched::new());
     }
@@ -334,12 +435,13 @@ fn has_ended(out: &InsertOut) -> bool
     matches!(out, InsertOut::Put)
 }
 
-fn is_free(state: RowState) -> bool
-    ensures { IsTrue result ↔ (state ≡ row_state.Free) }
+/// Whether an insert of the row is open, or its entry is there.
+fn is_used(state: RowState) -> bool
+    ensures { result ≡ is_used state }
 {
     match state {
-        RowState::Free => true,
-        _ => false,
+        RowState::Claimed | RowState::Live | RowState::Killed { .. } => true,
+        RowState::Free | RowState::Swept { .. } => false,
     }
 }
 

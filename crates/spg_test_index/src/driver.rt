@@ -62,7 +62,7 @@ fn begin<O: OpClass>(
             log.push(b'U')?;
             return Ok(());
         }
-        Err(OpenRefused::Memory) => return Err(Memory),
+        Err(OpenRefused::RowHeld { .. } | OpenRefused::Memory) => return Err(Memory),
     }
     for _ in 0..sections {
         if ends(state, log)? {
@@ -130,7 +130,7 @@ pub(crate) fn find<O: Tried>(
             OpenKind::Scan { held } => {
                 state.scan_read(SeatNo::first(), held - 1)?;
             }
-            OpenKind::Nothing | OpenKind::Insert => return Err(Memory),
+            OpenKind::Nothing | OpenKind::Insert | OpenKind::Vacuum => return Err(Memory),
         }
     }
     Err(Memory)

@@ -2,6 +2,8 @@
 #![tactic(auto)]
 
 #[cfg(test)]
+mod lives;
+#[cfg(test)]
 mod replay;
 #[cfg(test)]
 mod turns;

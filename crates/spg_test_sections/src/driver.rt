@@ -37,7 +37,7 @@ pub(crate) fn begin<O: OpClass>(
 {
     match state.open_insert(SeatNo::first(), row, key) {
         Ok(()) => {}
-        Err(OpenRefused::RowUsed | OpenRefused::Memory) => return Err(Memory),
+        Err(_) => return Err(Memory),
     }
     for _ in 0..sections {
         if ends(state)? {

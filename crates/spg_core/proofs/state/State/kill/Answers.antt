@@ -11,7 +11,7 @@ use Rattle.spg_core.specs.Stage as stages
 use Rattle.spg_core.specs.Seen.{untouched}
 use Rattle.spg_core.specs.Kept.{IsState}
 use Rattle.spg_core.proofs.Slots.{stage_is, past_is, table_is, seen_as}
-use Rattle.spg_core.proofs.Steps.{with_fields, kept_with, on_err}
+use Rattle.spg_core.proofs.Steps.{with_all, with_fields, kept_with, kept_later}
 use Rattle.spg_core.proofs.Opens.{kills, killed_seen}
 use Rattle.spg_core.proofs.state.State.kill.Goals as goal
 
@@ -19,19 +19,16 @@ pub returns-then-not-is_live-clause-ok : goal.returns-then-not-is_live-clause-ok
 returns-then-not-is_live-clause-ok g c =
     let s = c.self.inside in
     let past = past_is s c.args.self.now c.self.view_is 0 in
-    (λ live. false≢true (sym c.if-not-is_live.true ∙ c.is_live.ensures.1 (c.state.ensures ∙ c.self.invariant.kept.tells.states c.args.row ∙ sym (ap (state_of c.args.row) past) ∙ live)), refl)
+    (λ live. false≢true (sym c.if-not-is_live.true ∙ c.is_live.ensures.1 (c.state.ensures ∙ c.self.invariant.tells.states c.args.row ∙ sym (ap (state_of c.args.row) past) ∙ live)), refl)
 
 pub kill-requires : goal.kill-requires
 kill-requires g c = sym c.state.ensures ∙ c.is_live.ensures.0 c.if-not-is_live.false
 
-pub invariant_of-self : goal.invariant_of-self
-invariant_of-self g c = kept_with g.O.OpClass.meaning c.self.inside c.self.invariant c.self.inside.rows c.reserve.new.self refl c.reserve.ensures.events c.reserve.ensures.room
-
-pub returns-in_err-reserve-clause-err : goal.returns-in_err-reserve-clause-err
-returns-in_err-reserve-clause-err g c =
+pub invariant_of-self-in_err-add : goal.invariant_of-self-in_err-add
+invariant_of-self-in_err-add g c =
+    let m = g.O.OpClass.meaning in
     let s = c.self.inside in
-    let e = ap (λ j. seen_as j (map stage_of s.slots.items) s.table s.origin) c.reserve.ensures.events ∙ c.self.view_is in
-    on_err c.from_residual.result e
+    kept_later m (with_fields m s s.table s.rows s.slots c.reserve.new.self) (kept_with m s c.self.invariant s.rows c.reserve.new.self refl c.reserve.ensures.events c.reserve.ensures.room) c.add.new.self c.in_err-add.ensures.err
 
 pub invariant_of-self-2 : goal.invariant_of-self-2
 invariant_of-self-2 g c =
@@ -47,8 +44,8 @@ invariant_of-self-2 g c =
     let states = subst (λ n. SetsState s.rows c.kill.new.self row (row_state.Killed n)) at c.kill.ensures.state in
     let full = c.in_ok-reserve.ensures.ok in
     let spare = c.append.ensures.spare in
-    subst (λ (t : Table). IsState m (with_fields m s t c.kill.new.self s.slots c.append.new.self)) (sym (c.set_touched.ensures ∙ ap (λ ts. with_touched s.table ts) c.new.ensures))
-    (kills m s I seat row c.kill.new.self c.append.new.self was live events states c.kill.ensures.key (omega arith))
+    subst (λ (t : Table). IsState m (with_all m s t c.kill.new.self s.slots c.append.new.self s.vacuums s.targets c.add.new.self)) (sym (c.set_touched.ensures ∙ ap (λ ts. with_touched s.table ts) c.new.ensures))
+    (kills m s I seat row c.kill.new.self c.append.new.self was live events states c.kill.ensures.key c.add.new.self c.in_ok-add.ensures.ok (omega arith))
 
 pub returns-clause-ok : goal.returns-clause-ok
 returns-clause-ok g c =
