@@ -58,6 +58,17 @@ fn keeps_lists_and_sets(rt: HostRuntime) -> Result<(), Fail> {
     rows.add(one)?;
     assert_eq!(rt; rows.has(one), true);
     assert_eq!(rt; rows.has(Row::at(1, 2)), false);
+    let mut more = RowSet::new(rt.alloc());
+    more.add(Row::at(1, 2))?;
+    more.add(Row::at(1, 3))?;
+    rows.take_all(&mut more)?;
+    rows.remove(Row::at(1, 3));
+    let both = (Row::at(1, 2), Row::at(1, 3));
+    assert_eq!(rt;
+        (rows.has(one), rows.has(both.0), rows.has(both.1)),
+        (true, true, false)
+    );
+    assert_eq!(rt; more.has(both.0) || more.has(both.1), false);
     Ok(())
 }
 

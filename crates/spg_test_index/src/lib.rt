@@ -14,3 +14,7 @@ mod driver;
 mod held;
 #[cfg(test)]
 mod latches;
+#[cfg(test)]
+mod seats;
+#[cfg(test)]
+mod vacuums;

@@ -23,6 +23,8 @@ pub(crate) struct Known {
     last: Vec<Option<usize>>,
     scans: Vec<Option<u64>>,
     vacuums: Vec<Vacuuming>,
+    /// How often a row was inserted again that was swept.
+    again: u32,
 }
 
 impl Known {
@@ -36,6 +38,7 @@ impl Known {
             last,
             scans,
             vacuums: Vec::new(alloc),
+            again: 0,
         })
     }
 
@@ -81,6 +84,9 @@ impl Known {
     fn opens(&mut self, row: Row, key: Option<Point>) -> Result<bool, Memory> {
         if !self.may_open(row) {
             return Ok(false);
+        }
+        if self.last_of(row).is_some_and(|life| life.swept.is_some()) {
+            self.again = self.again.saturating_add(1);
         }
         let index = self.lives.len();
         self.lives.push(Life {
@@ -184,10 +190,8 @@ impl Known {
         vacuum.ended = Some(at);
         let (opened, count) = (vacuum.opened, vacuum.swept);
         count == swept
-            && self
-                .lives
-                .iter()
-                .all(|life| life.swept.is_some() || life.killed.is_none_or(|at| opened <= at))
+            && self.lives.iter().all(|life| life.swept.is_some()
+                || life.killed.is_none_or(|at| opened <= at))
     }
 
     /// The seat's scan or vacuum is given up.
@@ -241,12 +245,12 @@ impl Known {
     }
 }
 
-/// How many lives there were of rows, vacuums and rows that these swept.
+/// How many vacuums there were, how many rows these swept, and how many of them were inserted again.
 #[derive(Clone, Copy, Debug)]
 pub(crate) struct Replayed {
-    pub(crate) lives: usize,
     pub(crate) vacuums: usize,
     pub(crate) swept: u64,
+    pub(crate) again: u32,
 }
 
 /// What came of the events of a journal. None where one does not fit those before it.
@@ -264,8 +268,8 @@ pub(crate) fn replay(alloc: Global, journal: &Journal<Quad>) -> Result<Option<Re
         swept = swept.saturating_add(vacuum.swept);
     }
     Ok(Some(Replayed {
-        lives: known.lives.len(),
         vacuums: known.vacuums.len(),
         swept,
+        again: known.again,
     }))
 }

@@ -1,5 +1,5 @@
-//! 64 seats do the sections of inserts, deletions and scans in an order that a seed gives, and the
-//! journal that comes of it is replayed over a plain list of rows.
+//! 64 seats do the sections of inserts, deletions, scans and vacuums in an order that a seed gives, and
+//! the journal that comes of it is replayed over a plain list of lives.
 
 ghost use Rattle.std.specs.Prelude.{◌≡◌, ◌<◌};
 ghost use Rattle.spg_core.specs.Stage.{free, IsInserting, IsSweeping};
@@ -18,7 +18,7 @@ use std::alloc::Global;
 use std::test::Fail;
 
 /// How many turns an order has. In a turn one seat does up to eight sections.
-const TURNS: u32 = 1_500;
+const TURNS: u32 = 2_000;
 
 /// Numbers that follow from a seed.
 #[derive(Drop)]
@@ -48,7 +48,7 @@ impl Draw {
     }
 }
 
-/// How often seats met one another, and who was met last.
+/// How often seats met one another, who was met last, and how many rows were deleted.
 #[derive(Drop)]
 struct Met {
     last: Option<SeatNo>,
@@ -86,7 +86,7 @@ fn query_in(alloc: Global, draw: &mut Draw) -> Result<Query<Quad>, Memory> {
     }
 }
 
-/// A seat with nothing open opens an insert or a scan, or deletes a row.
+/// A seat with nothing open opens an insert, a scan or a vacuum, or deletes a row.
 fn begin(
     alloc: Global,
     state: &mut State<Quad>,
@@ -243,8 +243,9 @@ fn take_turn(
     Ok(())
 }
 
-/// Each closed scan gave each row once that it must give, and none that it may not give, though seats
-/// met each other's latches and the index was restructured under them.
+/// Each closed scan gave each row once that it must give, and none that it may not give; each closed
+/// vacuum swept all rows that were deleted before it opened, and no other; and no row was used again
+/// before its time, though seats met each other's latches and the index was restructured under them.
 #[test]
 fn keeps_the_journal_right_over_many_seats(rt: HostRuntime) -> Result<(), Fail> {
     for seed in [7] {
@@ -261,9 +262,14 @@ fn keeps_the_journal_right_over_many_seats(rt: HostRuntime) -> Result<(), Fail> 
             take_turn(rt.alloc(), &mut state, &mut draw, &mut met)?;
         }
         let replayed = replay(rt.alloc(), state.journal())?;
-        println!(rt; "{replayed:?}")?;
-        println!(rt; "{} {} {} {}", met.restarted, met.latched, met.killed, met.held)?;
-        assert_eq!(rt; replayed.is_some(), true);
+        let done = replayed.is_some_and(|done| done.vacuums > 40
+            && done.swept > 200
+            && done.again > 50);
+        assert_eq!(rt; done, true);
+        assert_eq!(rt;
+            met.restarted > 100 && met.latched > 100 && met.killed > 100 && met.held > 20,
+            true
+        );
         let stat = state.stat();
         assert_eq!(rt; stat.inner > 1 && stat.redirect > 0, true);
     }

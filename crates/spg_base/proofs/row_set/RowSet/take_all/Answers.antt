@@ -5,10 +5,6 @@ use Rattle.std.specs.BTreeSet.{BTreeSet, contains, MovesPrefix}
 use Rattle.spg_base.specs.Row.{RowAt, row_cmp, same_row}
 use Rattle.spg_base.proofs.row_set.RowSet.take_all.Goals as goal
 
-
-
-
-
 moved : (s t n u : BTreeSet RowAt) → MovesPrefix row_cmp s t n u → (row : RowAt) → (contains row_cmp n row || contains row_cmp u row) ≡ (contains row_cmp s row || contains row_cmp t row)
 moved s t n u (xs, parts, (union, ordered)) row =
     let test : RowAt → Bool = same_row row in
