@@ -6,7 +6,7 @@ use Rattle.spg_rows.specs.declared.event.Event.{Event}
 use Rattle.spg_rows.specs.History.{History, Opened, nothing, inserting, seat_of, open_of}
 use Rattle.spg_tree.specs.Table.{latch_at}
 use Rattle.spg_seats.specs.Slots.{LatchesAre, stage_holds}
-use Rattle.spg_core.specs.Stage.{Stage, free, descending, reading, IsStageOf}
+use Rattle.spg_core.specs.Stage.{Stage, free, descending, reading, sweeping, IsStageOf}
 use Rattle.spg_core.specs.Seen.{Seen, stage_at, past_of}
 use Rattle.spg_app.specs.Run.{IsAlone}
 
@@ -31,6 +31,7 @@ module _ {O Key Recon Cond : Type 0} where
   holds_nothing free block is = refl
   holds_nothing (descending key d) block is = let clash : nothing ≡ inserting d.row key = is in (cc)
   holds_nothing (reading s) block is = refl
+  holds_nothing (sweeping v) block is = refl
 
   -- a block is latched by no other seat
   pub first_latches : (seen : Seen O Key Recon Cond) (block by : ℕ) → IsAlone seen.journal → LatchesAre seen.table seen.stages → IsStageOf (open_of by (past_of seen)) (stage_at seen by) → latch_at seen.table block ≡ Some by → by ≡ 0

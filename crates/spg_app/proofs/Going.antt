@@ -4,7 +4,7 @@ use Rattle.spg_base.specs.Row.{RowAt}
 use Rattle.spg_opclass.specs.Meaning.{Meaning}
 use Rattle.spg_forest.specs.Walk.{weight_of}
 use Rattle.spg_rows.specs.declared.event.Event.{Event}
-use Rattle.spg_core.specs.Stage.{Stage, free, descending, reading}
+use Rattle.spg_core.specs.Stage.{Stage, free, descending, reading, sweeping}
 use Rattle.spg_core.specs.Seen.{Seen, stage_at, past_of}
 use Rattle.spg_core.specs.Sections.{IsHeavyFor, IsHeavy}
 use Rattle.spg_core.specs.Through.{IsInsertOf, StillInserts}
@@ -16,6 +16,7 @@ module _ {O Key Recon Cond : Type 0} (m : Meaning Key Recon Cond) where
   heavy seen free row key is was = absurd is
   heavy seen (descending k d) row key is (a, b) = subst (λ (x : Option Key). 8160 < weight_of m (is_none x) (opened_keys (past_of seen))) a is
   heavy seen (reading s) row key is was = absurd is
+  heavy seen (sweeping v) row key is was = absurd is
 
   pub outgrown : (s0 s1 : Seen O Key Recon Cond) (seat : ℕ) → StillInserts s0 s1 seat → IsHeavy m s1 seat → HasOutgrown m s0 seat
   outgrown s0 s1 seat G is = λ row key was.

@@ -17,7 +17,7 @@ use Rattle.spg_rows.specs.Rows.{is_claimed}
 use Rattle.spg_rows.specs.Told.{IsUsed}
 use Rattle.spg_tree.specs.Table.{Table, sheets_of}
 use Rattle.spg_scan.specs.declared.walk.Closed.{Closed}
-use Rattle.spg_core.specs.Stage.{Stage, free, descending, reading, given_up, IsInserting}
+use Rattle.spg_core.specs.Stage.{Stage, free, descending, reading, sweeping, given_up, IsInserting}
 use Rattle.spg_core.specs.Seen.{Seen, stage_at}
 use Rattle.spg_core.specs.Stepping.{IsNearLimit, Grows}
 use Rattle.spg_core.specs.Sections.{OpensInsert, KillsRow, OpensScan, ClosesScan, GivesUp}
@@ -91,6 +91,7 @@ module _ {O Key Recon Cond : Type 0} (m : Meaning Key Recon Cond) (speech : Spee
   drops seat row key cause free is = absurd is
   drops seat row key cause (descending k d) (a, b) = ap (λ (x : RowAt). Drop seat x cause) b
   drops seat row key cause (reading s) is = absurd is
+  drops seat row key cause (sweeping v) is = absurd is
 
   module _ (s0 s1 : Seen O Key Recon Cond) (seat : ℕ) (row : RowAt) (k : Option Key) (opens : OpensInsert m s0 s1 seat row k) where
     opened_grows : Grows s0.table s1.table
@@ -110,6 +111,7 @@ module _ {O Key Recon Cond : Type 0} (m : Meaning Key Recon Cond) (speech : Spee
         go free is = is
         go (descending key d) is = tt
         go (reading s) is = is
+        go (sweeping v) is = is
 
     pub not_free : (s2 : Seen O Key Recon Cond) → StillInserts s1 s2 seat → stage_at s2 seat ≡ free → ⊥
     not_free s2 goes is = subst (λ (s : Stage O Key Recon Cond). IsInsertOf row k s) is (goes.insert row k inserts)

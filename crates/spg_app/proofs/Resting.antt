@@ -15,7 +15,7 @@ use Rattle.spg_scan.specs.Rest.{to_meet}
 use Rattle.spg_scan.specs.declared.walk.ReadOut.{ReadOut}
 use Rattle.spg_scan.specs.declared.walk.ReadOut.TheVariants.{Read, Latched}
 use Rattle.spg_scan.proofs.RestLaws.{opens_at_rest, reads_at_rest}
-use Rattle.spg_core.specs.Stage.{Stage, free, descending, reading, IsRead}
+use Rattle.spg_core.specs.Stage.{Stage, free, descending, reading, sweeping, IsRead}
 use Rattle.spg_core.specs.Seen.{Seen, stage_at}
 use Rattle.spg_core.specs.Sections.{ReadsFor, ReadsItem, HasMet, OpensScan}
 use Rattle.spg_app.specs.Walks.{IsToldWalk}
@@ -37,6 +37,7 @@ module _ {O Key Recon Cond : Type 0} (m : Meaning Key Recon Cond) where
   reads_of : (s1 s2 : Seen O Key Recon Cond) (seat item : ℕ) (out : ReadOut) (stage : Stage O Key Recon Cond) → stage_at s1 seat ≡ stage → Shape m (sheets_of s1.table) → ReadsFor m s1 s2 seat item out stage → ReadsOn m s1 s2 seat
   reads_of s1 s2 seat item out free at H is = absurd is
   reads_of s1 s2 seat item out (descending key d) at H is = absurd is
+  reads_of s1 s2 seat item out (sweeping v) at H is = absurd is
   reads_of s1 s2 seat item out (reading s) at H (z, table, states, read, new, stage) = record {
     journal = ap (λ x. x.journal) new;
     origin = ap (λ x. x.origin) new;
@@ -68,6 +69,7 @@ module _ {O Key Recon Cond : Type 0} (m : Meaning Key Recon Cond) where
   pub told : (S : Sheets) (query : Query O Key Recon Cond) (met : ℕ) (stage : Stage O Key Recon Cond) → IsRestingScan m S query stage → IsRead stage → HasMet stage met → IsToldWalk m S query met
   told S query met free rests read has = absurd rests
   told S query met (descending key d) rests read has = absurd rests
+  told S query met (sweeping v) rests read has = absurd rests
   told S query met (reading s) (asked, few, rest) read has =
       let (k, w, e) = rest.walk 0 (subst (λ (items : List (Item Recon)). Met (down_of m) (followed m s.query) (spots S) (to_meet m s.query items) 0) (sym read) Met.done) in
       let none : s.met ≡ s.met + 0 = omega arith in

@@ -8,7 +8,7 @@ use Rattle.spg_forest.specs.Walk.{weight_of}
 use Rattle.spg_tree.specs.Table.{sheets_of}
 use Rattle.spg_scan.specs.Scanning.{counted}
 use Rattle.spg_scan.specs.Rest.{IsAtRest}
-use Rattle.spg_core.specs.Stage.{Stage, free, descending, reading, IsRead}
+use Rattle.spg_core.specs.Stage.{Stage, free, descending, reading, sweeping, IsRead}
 use Rattle.spg_core.specs.Stepping.{SamePages}
 use Rattle.spg_core.specs.Through.{IsInsertOf}
 use Rattle.spg_core.specs.Seen.{Seen, stage_at, past_of}
@@ -23,12 +23,14 @@ abbrev pub IsScanning : {O Key Recon Cond : Type 0} → Stage O Key Recon Cond �
 IsScanning free = ⊥
 IsScanning (descending key d) = ⊥
 IsScanning (reading s) = ⊤
+IsScanning (sweeping v) = ⊥
 
 -- a scan of this query over pages at rest
 abbrev pub IsRestingScan : {O Key Recon Cond : Type 0} → Meaning Key Recon Cond → Sheets → Query O Key Recon Cond → Stage O Key Recon Cond → Type 0
 IsRestingScan m S query free = ⊥
 IsRestingScan m S query (descending key d) = ⊥
 IsRestingScan m S query (reading s) = (s.query ≡ query) × (counted s.met ≡ s.met) × IsAtRest m S s
+IsRestingScan m S query (sweeping v) = ⊥
 
 -- no event was written since, the pages are as they were, and a scan over pages at rest still is one
 pub record ReadsOn {O Key Recon Cond : Type 0} (m : Meaning Key Recon Cond) (old new : Seen O Key Recon Cond) (seat : ℕ) : Type 0 where

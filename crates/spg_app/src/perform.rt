@@ -106,6 +106,8 @@ fn insert<O: Spoken>(state: &mut State<O>, row: Row, key: &Option<AnyKey>) -> Re
     match state.open_insert(seat, row, found) {
         Ok(()) => {}
         Err(OpenRefused::RowUsed) => return Ok(recorded(state, from, Outcome::RowUsed)),
+        // Without a vacuum no row waits.
+        Err(OpenRefused::RowHeld { .. }) => return Err(Memory),
         Err(OpenRefused::Memory) => return Err(Memory),
     }
     match put(state, seat) {
@@ -180,7 +182,7 @@ fn held<O: Spoken>(state: &State<O>, seat: SeatNo) -> usize
 {
     match state.open_of(seat) {
         OpenKind::Scan { held } => held,
-        OpenKind::Nothing | OpenKind::Insert => 0,
+        OpenKind::Nothing | OpenKind::Insert | OpenKind::Vacuum => 0,
     }
 }
 
