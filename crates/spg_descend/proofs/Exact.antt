@@ -20,6 +20,7 @@ use Rattle.spg_chain.specs.Taken.{emptied}
 use Rattle.spg_chain.proofs.Taking.{dead_within, emptied_head}
 use Rattle.spg_tree.specs.Table.{Table, sheets_of, tuples_at, tuple_at, with_tuples_at, with_link, with_touched}
 use Rattle.spg_tree.specs.Table as table
+use Rattle.spg_tree.proofs.Pages.{tuples_same, tuples_other, pages_same}
 use Rattle.spg_tree.specs.Pick.{Picks}
 use Rattle.spg_tree.specs.Picked.{IsPicked}
 use Rattle.spg_tree.specs.Descents.{Descending, in_nulls}
@@ -32,15 +33,6 @@ use Rattle.spg_descend.proofs.EmptyLaw.{at_empty, picked_ready, IsReady}
 use Rattle.spg_descend.proofs.Picked.{PicksLeaf, picks_leaf, new_at_end}
 
 -- ---- pages with other tuples
-
-pub tuples_same : (t : Table) (b : ℕ) (us : List Tuple) → b < length t.pages → tuples_at (with_tuples_at t b us) b ≡ us
-tuples_same t b us h = ap (λ (s : Sheet). s.tuples) (sheet_same (sheets_of t) b (with_tuples (table.sheet_at t b) us) h)
-
-pub tuples_other : (t : Table) (b : ℕ) (us : List Tuple) (d : ℕ) → (d ≡ b → ⊥) → tuples_at (with_tuples_at t b us) d ≡ tuples_at t d
-tuples_other t b us d n = ap (λ (s : Sheet). s.tuples) (sheet_other (sheets_of t) b (with_tuples (table.sheet_at t b) us) d n)
-
-pub pages_same : (t : Table) (b : ℕ) (us : List Tuple) → length (with_tuples_at t b us).pages ≡ length t.pages
-pages_same t b us = length-set t.pages b (with_tuples (table.sheet_at t b) us)
 
 -- one page has other tuples
 pub exact_page : (t : Table) (b : ℕ) (us : List Tuple) → b < length t.pages → (us ≡ tuples_at t b → ⊥) → IsExact (sheets_of t) (sheets_of (with_touched (with_tuples_at t b us) (b ∷ []))) (b ∷ [])

@@ -22,32 +22,18 @@ use Rattle.spg_page.specs.Kinds.{IsOffset}
 use Rattle.spg_page.proofs.SheetFacts.{free_place_free, free_place_length, weight-replaced, added_fits}
 use Rattle.spg_chain.specs.Chains.{IsChainedPage, BeginsChain}
 use Rattle.spg_chain.proofs.Taking.{takes_laid_out}
-use Rattle.spg_split.specs.Parts.{bare}
+use Rattle.spg_descend.specs.BareNodes.{bare}
 use Rattle.spg_split.specs.Writing.{taken_from}
+use Rattle.spg_descend.proofs.Stages.{Stage, high_spread, kinds_set}
 use Rattle.spg_split.proofs.Emptying.{chain_taken}
-use Rattle.spg_split.proofs.Room.{least_weight}
+use Rattle.spg_chain.proofs.Room.{least_weight}
 use Rattle.spg_split.specs.Placing.{placed, downlinks, HaveRooms}
 use Rattle.spg_split.proofs.Chaining.{ShowsLists, shows_lists, placed_tuple}
-use Rattle.spg_split.proofs.Totals.{placed_fits, total, but_first, placed_spread}
+use Rattle.spg_split.proofs.Totals.{placed_fits, total, placed_spread}
+use Rattle.spg_chain.proofs.ListTotals.{but_first}
 use Rattle.spg_split.proofs.TwoPages.{AddsLists, page_lists}
 
--- S2 shows V, and came from S by writes on these pages
-pub record Stage {Key Recon Cond : Type 0} (m : Meaning Key Recon Cond) (S S2 : Sheets) (V : Place → Spot) : Type 0 where
-  pub shown : IsShown (pages_of S2) V
-  pub changed : AreChanged m S S2
-  pub count : length S2.sheets ≡ length S.sheets
-  pub kinds : (b : ℕ) → ((sheet_at S2 b).inner ≡ (sheet_at S b).inner) × ((sheet_at S2 b).nulls ≡ (sheet_at S b).nulls)
-
-high_spread : (b : ℕ) (ts : List Tuple) → 3 ≤ b → page_spread b ts ≡ spread_on ts
-high_spread b ts h = let e = cond-true (nat_le 3 b) 0 (lives_on ts - 1) (le-leb 3 b h) in omega arith
-
 module _ {Key Recon Cond : Type 0} (m : Meaning Key Recon Cond) (S : Sheets) where
-  kinds_set : (S1 : Sheets) (b : ℕ) (ts : List Tuple) → b < length S1.sheets → (d : ℕ) → ((sheet_at (with_sheet S1 b (with_tuples (sheet_at S1 b) ts)) d).inner ≡ (sheet_at S1 d).inner) × ((sheet_at (with_sheet S1 b (with_tuples (sheet_at S1 b) ts)) d).nulls ≡ (sheet_at S1 d).nulls)
-  kinds_set S1 b ts h d = ⊎_elim
-      (λ e. let q : sheet_at (with_sheet S1 b (with_tuples (sheet_at S1 b) ts)) d ≡ with_tuples (sheet_at S1 b) ts = ap (sheet_at (with_sheet S1 b (with_tuples (sheet_at S1 b) ts))) e ∙ sheet_same S1 b (with_tuples (sheet_at S1 b) ts) h in
-      (ap (λ (s : Sheet). s.inner) q ∙ ap (λ i. (sheet_at S1 i).inner) (sym e), ap (λ (s : Sheet). s.nulls) q ∙ ap (λ i. (sheet_at S1 i).nulls) (sym e)))
-      (λ n. let q = sheet_other S1 b (with_tuples (sheet_at S1 b) ts) d n in (ap (λ (s : Sheet). s.inner) q, ap (λ (s : Sheet). s.nulls) q)) (cases_eq d b)
-
   -- lists put on a page
   pub record ListsStage (S1 : Sheets) (V : Place → Spot) (b : ℕ) (L : ℕ → List Leaf) (k n : ℕ) : Type 0 where
     pub spots : Place → Spot
@@ -85,9 +71,6 @@ module _ {Key Recon Cond : Type 0} (m : Meaning Key Recon Cond) (S : Sheets) whe
           (λ (j, l, i, a, e). inr (subst (λ (t : Tuple). MayStand m (with_sheet S1 b (with_tuples (sheet_at S1 b) (placed (sheet_at S1 b).tuples L k n))) (place b o) t) (sym e)
           (let (p, q) = kinds_set S1 b us there1 b in let (r, s) = G.kinds b in
           may_leaf m (with_sheet S1 b (with_tuples (sheet_at S1 b) (placed (sheet_at S1 b).tuples L k n))) (place b o) l i (p ∙ r ∙ leaf) (subst (λ (x : Bool). IsRestOf m x l.rest) (sym (q ∙ s)) (rests j l a))))) (placed_tuple (sheet_at S1 b).tuples L k n o)
-
-  pub begin_stage : (V : Place → Spot) → ArePages m S → IsShown (pages_of S) V → Stage m S S V
-  begin_stage V A H = record { shown = H; changed = changed_none m S A; count = refl; kinds = λ b. (refl, refl) }
 
   put_kinds : (S1 : Sheets) (V : Place → Spot) (x : Place) (t : Tuple) → Stage m S S1 V → x.block < length S1.sheets → (d : ℕ) → ((sheet_at (put S1 x t) d).inner ≡ (sheet_at S d).inner) × ((sheet_at (put S1 x t) d).nulls ≡ (sheet_at S d).nulls)
   put_kinds S1 V x t G h d = let (a, c) = kinds_set S1 x.block (with_tuple (sheet_at S1 x.block).tuples x.offset t) h d in let (e, f) = G.kinds d in (a ∙ e, c ∙ f)

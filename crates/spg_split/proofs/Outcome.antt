@@ -11,10 +11,6 @@ use Rattle.spg_split.specs.declared.split.SplitOut.{SplitOut}
 use Rattle.spg_split.specs.Below.{IsChainSplit, SplitsWithout, MakesBelow}
 use Rattle.spg_split.specs.Ways.{IsChainWay, NotesChain}
 
-pub if_ok_then : {A E : Type 0} (r : Result A E) (P Q : A → Type 0) → ((a : A) → P a → Q a) → IfOk r P → IfOk r Q
-if_ok_then (Ok a) P Q h p = h a p
-if_ok_then (Err b) P Q h p = tt
-
 -- what the insert notes goes with what was done
 pub chain_split : {Key Recon Cond : Type 0} (m : Meaning Key Recon Cond) (t t2 : Table) (d d2 : Descending Recon) (z : Place) (way : Parted) (out : SplitOut) → IsChainWay m t t2 d z way → MakesBelow t t2 d.parent z → NotesChain d d2 z way out → IsChainSplit m t t2 d d2 out
 chain_split m t t2 d d2 z With out W M (e, f) = subst (λ (o : SplitOut). IsChainSplit m t t2 d d2 o) (sym e) (z, M, W, f)

@@ -15,11 +15,7 @@ use Rattle.spg_split.specs.Shrinks.{Shrinks}
 use Rattle.spg_split.specs.declared.split.SplitOut.{SplitOut}
 use Rattle.spg_split.specs.declared.split.SplitOut.TheVariants.{Put, LeftOut}
 use Rattle.spg_split.specs.Splits.{split_cost}
-
--- the node of the tuple above leads to z
-abbrev pub IsLedTo : Table → Option (Place × ℕ) → Place → Type 0
-IsLedTo t None z = ⊥
-IsLedTo t (Some (p, i)) z = IsLink t p i z
+pub use Rattle.spg_descend.specs.Below.{IsLedTo}
 
 -- the one inner tuple that is made is that at z, on the block of the tuple above or on one of the next parity
 abbrev pub MakesBelow : Table → Table → Option (Place × ℕ) → Place → Type 0

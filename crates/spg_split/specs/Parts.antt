@@ -17,15 +17,9 @@ use Rattle.spg_split.specs.declared.parts.Parts.{Parts}
 use Rattle.spg_split.specs.declared.put.Parted.{Parted}
 use Rattle.spg_split.specs.declared.put.Parted.TheVariants.{With, Without}
 use Rattle.spg_split.specs.Nodes.{IsOnlyNode}
-use Rattle.spg_split.specs.Placing.{taken_by, placed, downlinks, inner_root, leaves_with, leaves_in}
-
--- a downlink for each label, which leads nowhere yet
-abbrev pub bare : ℕ → List (Option Place)
-bare n = replicate n None
-
--- a node for each label, which leads nowhere
-abbrev pub nodes_of : List ℤ → List Node
-nodes_of labels = map (λ (l : ℤ). record { label = l; link = None }) labels
+use Rattle.spg_split.specs.Placing.{taken_by, placed, downlinks, inner_root, leaves_with}
+use Rattle.spg_chain.specs.Listed.{leaves_in}
+pub use Rattle.spg_descend.specs.BareNodes.{bare}
 
 -- the tuples that a division of these rows makes
 pub record ArePartsOf (rows : List RowAt) (d : Division) (p : Parts) : Type 0 where
