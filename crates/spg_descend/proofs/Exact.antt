@@ -1,16 +1,16 @@
 -- A put names exactly the blocks that it writes.
-use Rattle.std.proofs.Common.{◌≡◌, ℕ, zero, suc, ◌+◌, ◌≤◌, ◌<◌, List, [], ◌∷◌, ⊎_elim, Option, Some, None, get_or, get_or-set_same, set, length, length-set, refl, sym, ap, ◌∙◌, subst, inl, arith}
+use Rattle.std.proofs.Common.{◌≡◌, ℕ, zero, suc, ◌+◌, ◌≤◌, ◌<◌, List, [], ◌∷◌, ⊎_elim, Option, Some, None, get_or, get_or-set_same, set, length, refl, sym, ap, ◌∙◌, subst, inl, arith}
 use Rattle.spg_opclass.specs.Meaning.{Meaning}
 use Rattle.spg_forest.specs.View.{Place, Leaf}
 use Rattle.spg_forest.specs.Spot.{Frame}
 use Rattle.spg_forest.specs.Tuples.{Tuple, Inner, Live, Dead, Redirect, Placeholder, put_on}
 use Rattle.spg_forest.specs.Pages.{place, tuple_on, with_tuple}
-use Rattle.spg_forest.specs.Sheets.{Sheet, free_place, size_of, links, linked, with_tuples}
+use Rattle.spg_forest.specs.Sheets.{free_place, size_of, links, linked}
 use Rattle.spg_forest.specs.Shape.{Shape}
 use Rattle.spg_forest.specs.Edits.{added}
 use Rattle.spg_forest.specs.Exact.{IsExact}
 use Rattle.spg_forest.proofs.Chain.{put_on_same}
-use Rattle.spg_forest.proofs.Edits.{sheet_same, sheet_other, tuple_on-with}
+use Rattle.spg_forest.proofs.Edits.{tuple_on-with}
 use Rattle.spg_forest.proofs.Exact.{differs, exact_one, exact_two}
 use Rattle.spg_page.specs.Kinds.{IsOffset}
 use Rattle.spg_page.proofs.SheetFacts.{free_place_free, free_place_length}
@@ -18,8 +18,7 @@ use Rattle.spg_chain.proofs.Laid.{with_tuple_at, added_behind}
 use Rattle.spg_chain.specs.Chains.{IsChainedPage, BeginsChain, chain_members, offsets_of}
 use Rattle.spg_chain.specs.Taken.{emptied}
 use Rattle.spg_chain.proofs.Taking.{dead_within, emptied_head}
-use Rattle.spg_tree.specs.Table.{Table, sheets_of, tuples_at, tuple_at, with_tuples_at, with_link, with_touched}
-use Rattle.spg_tree.specs.Table as table
+use Rattle.spg_tree.specs.Table.{Table, sheets_of, tuples_at, tuple_at, with_tuples_at, with_touched}
 use Rattle.spg_tree.proofs.Pages.{tuples_same, tuples_other, pages_same}
 use Rattle.spg_tree.specs.Pick.{Picks}
 use Rattle.spg_tree.specs.Picked.{IsPicked}

@@ -1,8 +1,7 @@
 -- The pages once a chain has gone to another page, and the law of that.
 use Rattle.std.proofs.Common.{◌≡◌, ℕ, suc, ◌+◌, ◌-◌, ◌*◌, ◌≤◌, ◌<◌, Bool, false, List, [], ◌∷◌, ⊎_elim, Option, Some, None, get_or, set, length, length-set, refl, sym, ap, ◌∙◌, subst, inl, inr, arith}
 use mathlib.Core.Path.{fun_ext}
-use Rattle.std.specs.Prelude.{nat_le}
-use Rattle.std.proofs.lemmas.Bool.{cases_eq, cond-true, le-leb}
+use Rattle.std.proofs.lemmas.Bool.{cases_eq}
 use Rattle.std.proofs.lemmas.List.{get_or-set_same, get_or-set_other}
 use Rattle.spg_opclass.specs.Meaning.{Meaning}
 use Rattle.spg_opclass.specs.Laws.{padded_length}
@@ -13,7 +12,7 @@ use Rattle.spg_forest.specs.Pages.{place, tuple_on, with_tuple, moved, IsShown}
 use Rattle.spg_forest.specs.Sheets.{Sheet, Sheets, sheet_at, with_tuples, pages_of, weight, size_of, free_place}
 use Rattle.spg_forest.specs.Shape.{Shape, spots, AreNodes, IsKindOf, IsRestOf}
 use Rattle.spg_forest.specs.Section.{Adds, IsWithin, Cost}
-use Rattle.spg_forest.specs.Walk.{page_spread, spread_on, spread_at, lives_on, is_live}
+use Rattle.spg_forest.specs.Walk.{spread_on, spread_at, is_live}
 use Rattle.spg_forest.specs.Edits.{with_sheet, tuple_of, put, CanPut, MayStand, AreChanged, spot_of}
 use Rattle.spg_forest.specs.Changes.{moved_to, IsMovable, Becomes}
 use Rattle.spg_forest.specs.Puts.{IsComing}

@@ -4,13 +4,11 @@ use Rattle.std.specs.List.{range_with_len}
 use Rattle.spg_opclass.specs.Meaning.{longer}
 use Rattle.spg_forest.specs.View.{Place}
 use Rattle.spg_forest.specs.Tuples.{Tuple, Inner, Redirect}
-use Rattle.spg_forest.specs.Pages.{tuple_on, with_tuple}
 use Rattle.spg_forest.specs.Sheets.{size_of, links}
-use Rattle.spg_page.specs.Changes.{free_of}
 use Rattle.spg_page.specs.Kinds.{IsOffset}
 use Rattle.spg_page.specs.Reads.{frame_in}
 use Rattle.spg_page.specs.declared.tuple.PageKind.TheVariants as kinds
-use Rattle.spg_tree.specs.Table.{Table, tuples_at, tuple_at, with_tuples_at, with_link, with_clock, with_touched}
+use Rattle.spg_tree.specs.Table.{Table, tuples_at, tuple_at, with_link, with_clock, with_touched}
 use Rattle.spg_tree.specs.Descents.{Descending, in_nulls}
 use Rattle.spg_tree.specs.Pick.{Picks}
 use Rattle.spg_tree.specs.Picked.{IsPicked, want_of}

@@ -1,20 +1,19 @@
 -- The pages while a chain below a root is divided: what each write shows, and what it costs.
 use Rattle.std.proofs.Common.{◌≡◌, ℕ, zero, suc, ◌+◌, ◌-◌, ◌≤◌, ◌<◌, Bool, true, false, List, ◌⊎◌, ⊎_elim, Option, Some, None, get_or, length, length-set, refl, sym, ap, ◌∙◌, subst, inl, inr, arith}
-use Rattle.std.specs.Prelude.{nat_le}
-use Rattle.std.proofs.lemmas.Bool.{cases_eq, cond-true, le-leb}
+use Rattle.std.proofs.lemmas.Bool.{cases_eq}
 use Rattle.spg_opclass.specs.Meaning.{Meaning}
 use Rattle.spg_forest.specs.View.{Place, Leaf}
 use Rattle.spg_forest.specs.Spot.{Frame, Spot, Branch, Bucket, Forward, IsIn, put_at}
 use Rattle.spg_forest.specs.Tuples.{Tuple, Inner, Live, Redirect, Placeholder}
-use Rattle.spg_forest.specs.Pages.{place, tuple_on, with_tuple, IsShown}
-use Rattle.spg_forest.specs.Sheets.{Sheet, Sheets, sheet_at, with_tuples, pages_of, size_of, free_place}
-use Rattle.spg_forest.specs.Shape.{ArePages, IsTupleOf, IsRestOf, AreNodes}
-use Rattle.spg_forest.specs.Walk.{spread, page_spread, spread_on, spread_at, lives_on, is_live}
-use Rattle.spg_forest.specs.Edits.{with_sheet, tuple_of, put, CanPut, MayStand, AreChanged, spot_of}
+use Rattle.spg_forest.specs.Pages.{place, tuple_on, with_tuple}
+use Rattle.spg_forest.specs.Sheets.{Sheets, sheet_at, with_tuples, size_of, free_place}
+use Rattle.spg_forest.specs.Shape.{IsTupleOf, IsRestOf, AreNodes}
+use Rattle.spg_forest.specs.Walk.{spread, spread_at, is_live}
+use Rattle.spg_forest.specs.Edits.{with_sheet, tuple_of, put, CanPut, MayStand, spot_of}
 use Rattle.spg_forest.proofs.Blocks.{with_block}
 use Rattle.spg_forest.proofs.ChainWrites.{block_shown}
-use Rattle.spg_forest.proofs.Edits.{sheet_laid, sheet_same, sheet_other, sheet_shown, write_shown}
-use Rattle.spg_forest.proofs.Stock.{changed_none, changed_page, changed_put, spread_set, spread_put}
+use Rattle.spg_forest.proofs.Edits.{sheet_laid, sheet_shown, write_shown}
+use Rattle.spg_forest.proofs.Stock.{changed_page, changed_put, spread_set, spread_put}
 use Rattle.spg_forest.proofs.Puts.{may_leaf}
 use Rattle.spg_forest.proofs.Writes.{inner_at}
 use Rattle.spg_page.specs.Changes.{room_of}

@@ -1,18 +1,14 @@
 -- What a page shows once lists of leaves were added to it.
-use Rattle.std.proofs.Common.{◌≡◌, ℕ, zero, suc, ◌+◌, ◌<◌, List, [], ◌∷◌, ◌++◌, append_assoc, append-nil, length, length-append, ◌⊎◌, ⊎_elim, Some, None, get_or, slice_get, refl, sym, ap, ap₂, ◌∙◌, subst, inl, inr, arith}
+use Rattle.std.proofs.Common.{◌≡◌, ℕ, zero, suc, ◌+◌, ◌<◌, List, [], ◌∷◌, length, ◌⊎◌, ⊎_elim, Some, None, get_or, slice_get, refl, sym, ap, ◌∙◌, subst, inl, inr, arith}
 use Rattle.std.proofs.lemmas.Bool.{cases_eq}
 use Rattle.spg_forest.specs.View.{Place, Leaf}
 use Rattle.spg_forest.specs.Spot.{Spot, Bucket, Nothing, IsIn}
-use Rattle.spg_forest.specs.Tuples.{Tuple, Live, Placeholder, IsLaidOut, IsAmong, AreFree, put_on, first_of, with_chain}
+use Rattle.spg_forest.specs.Tuples.{Tuple, Live, IsLaidOut, put_on}
 use Rattle.spg_forest.specs.Pages.{place, tuple_on}
 use Rattle.spg_forest.specs.Sheets.{free_place}
-use Rattle.spg_forest.specs.Edits.{added}
 use Rattle.spg_forest.proofs.Chain.{put_on_same, put_on_other}
-use Rattle.spg_forest.proofs.Chains.{with_chain_laid_out, with_chain_other}
-use Rattle.spg_forest.proofs.ChainWrites.{with_chain_push}
 use Rattle.spg_forest.proofs.Front.{nothing_at}
 use Rattle.spg_page.proofs.SheetFacts.{free_place_free}
-use Rattle.spg_chain.proofs.Laid.{added_alone, added_behind}
 use Rattle.spg_split.specs.Placing.{head_of, downlink, placed, downlinks}
 use Rattle.spg_chain.specs.Listed.{chained}
 use Rattle.spg_chain.proofs.Listing.{list_laid, list_tuple}

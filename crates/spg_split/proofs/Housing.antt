@@ -1,17 +1,12 @@
 -- What is known of the pages that were picked for a division below a root.
-use Rattle.std.proofs.Common.{◌≡◌, ℕ, ◌+◌, ◌≤◌, ◌<◌, ◌&&◌, nat_le, Bool, true, false, List, [], ◌⊎◌, ⊎_elim, Option, Some, length, length-set, refl, sym, ap, ◌∙◌, subst, inl, inr, arith}
-use Rattle.std.specs.Prelude.{if◌then◌else◌}
-use Rattle.std.proofs.lemmas.Bool.{cases_eq, cases_lt, leb-true, leb-false}
-use Rattle.std.proofs.lemmas.List.{get_or_past}
+use Rattle.std.proofs.Common.{◌≡◌, ℕ, ◌+◌, ◌≤◌, ◌<◌, ◌&&◌, nat_le, Bool, true, false, List, [], ◌⊎◌, Some, length, refl, sym, ap, ◌∙◌, subst, inl, inr, arith}
+use Rattle.std.proofs.lemmas.Bool.{leb-true, leb-false}
 use Rattle.spg_forest.specs.Tuples.{Tuple}
-use Rattle.spg_forest.specs.Sheets.{Sheet, blank}
+use Rattle.spg_forest.specs.Sheets.{Sheet}
 use Rattle.spg_forest.specs.Edits.{IsPicked as IsPickedIn}
-use Rattle.spg_forest.proofs.Edits.{sheet_same}
 use Rattle.spg_page.specs.Changes.{room_of}
 use Rattle.spg_tree.specs.Table.{Table, sheets_of, sheet_at, tuples_at, latch_at}
 use Rattle.spg_tree.specs.declared.want.Want.{Want}
-use Rattle.spg_tree.specs.Pick.{Picks, first_from, has_parity, fresh}
-use Rattle.spg_tree.specs.Picked.{IsPicked}
 use Rattle.spg_tree.specs.Two.{after_first}
 use Rattle.spg_descend.proofs.Picked.{picks_leaf}
 use Rattle.spg_tree.proofs.PickedPages.{picks_page, held}

@@ -1,5 +1,5 @@
 -- A fact of an outcome from another.
-use Rattle.std.specs.Prelude.{true, false, Result, Ok, Err, IfOk}
+use Rattle.std.specs.Prelude.{true, false}
 use Rattle.std.proofs.Common.{sym, subst, inl, inr}
 use Rattle.spg_opclass.specs.Meaning.{Meaning}
 use Rattle.spg_forest.specs.View.{Place}

@@ -1,26 +1,18 @@
 -- Lists of leaves, read and made one after another.
-use Rattle.std.proofs.Common.{◌≡◌, ℕ, zero, suc, ◌+◌, ◌<◌, List, [], ◌∷◌, ◌++◌, length, take, get_or, refl, sym, ap, ap₂, ◌∙◌, arith}
+use Rattle.std.proofs.Common.{◌≡◌, ℕ, suc, ◌+◌, ◌<◌, List, [], ◌∷◌, ◌++◌, length, take, get_or, refl, sym, ap, ap₂, ◌∙◌, arith}
 use Rattle.std.proofs.lemmas.List.{take_more, length-take-le, map_more}
 use Rattle.std.proofs.Math.Seq.{take-length}
-use Rattle.std.specs.List.{AllByRecursion}
-use Rattle.std.specs.Prelude.{IfSome, ℤ, None}
 use Rattle.spg_forest.specs.Divisions.{rests_of}
 use Rattle.spg_page.specs.Kinds.{IsLive}
-use Rattle.spg_page.specs.Told.{labels_of, links_of}
-use Rattle.spg_page.specs.declared.tuple.Node.{Node}
-use Rattle.spg_descend.specs.BareNodes.{nodes_of, bare}
 use Rattle.spg_base.specs.Row.{RowAt}
 use Rattle.spg_forest.specs.View.{Leaf}
 use Rattle.spg_forest.specs.Tuples.{Tuple, Live, Placeholder}
 use Rattle.spg_forest.specs.Pages.{tuple_on, all_live}
 use Rattle.spg_forest.specs.Links.{leaves_on}
-use Rattle.spg_forest.specs.Sheets.{weight, size_of}
 use Rattle.spg_page.specs.Reads.{no_leaf, leaf_in}
-use Rattle.spg_page.proofs.SheetFacts.{weight-append}
 use Rattle.spg_descend.proofs.Rooms.{all_live-append}
 use Rattle.spg_split.specs.Dividing.{AreAllLive, rows_of}
 use Rattle.spg_split.specs.Placing.{leaves_with}
-use Rattle.spg_chain.specs.Listed.{leaves_in}
 use Rattle.spg_chain.proofs.LiveLists.{length-all_live, all_live_at}
 
 -- of a page of leaf tuples alone, the tuple at an offset

@@ -1,24 +1,16 @@
 -- Sums over the lists of all nodes.
-use Rattle.std.proofs.Common.{◌≡◌, ℕ, zero, suc, ◌+◌, ◌-◌, ◌*◌, ◌≤◌, ◌<◌, List, [], ◌∷◌, ⊎_elim, Option, Some, None, length, take, get_or, nat_eq, refl, sym, ap, ◌∙◌, arith}
+use Rattle.std.proofs.Common.{◌≡◌, ℕ, zero, suc, ◌+◌, ◌-◌, ◌*◌, ◌≤◌, ◌<◌, List, [], ◌∷◌, ⊎_elim, None, length, take, get_or, nat_eq, refl, sym, ap, ◌∙◌, arith}
 use Rattle.std.proofs.lemmas.Bool.{cases_eq, cases_lt, cond-true, cond-false, eq-eqb, ne_eqb}
 use Rattle.spg_forest.specs.View.{Leaf}
-use Rattle.spg_forest.specs.Tuples.{Tuple, Live, put_on, next_of}
-use Rattle.spg_forest.specs.Walk.{spread_on, spread_at, lives_on}
-use Rattle.spg_forest.proofs.Stock.{spread_with}
-use Rattle.spg_forest.proofs.Chain.{put_on_same}
-use Rattle.spg_page.proofs.SheetFacts.{free_place_free, free_place_length}
-use Rattle.spg_chain.proofs.Laid.{head_there, added_behind, with_tuple_at}
-use Rattle.spg_forest.specs.Pages.{all_live, tuple_on, with_tuple}
-use Rattle.std.specs.Prelude.{min}
-use Rattle.spg_forest.specs.Sheets.{weight, gaps, size_of, free_place, relinked}
-use Rattle.spg_forest.specs.Edits.{added}
+use Rattle.spg_forest.specs.Tuples.{Tuple, Live}
+use Rattle.spg_forest.specs.Walk.{spread_on, lives_on}
+use Rattle.spg_forest.specs.Pages.{all_live}
+use Rattle.spg_forest.specs.Sheets.{weight, gaps, size_of}
 use Rattle.spg_page.specs.Changes.{room_of}
 use Rattle.spg_page.specs.Reads.{leaf_in}
-use Rattle.spg_page.specs.Told.{number_of}
-use Rattle.spg_chain.specs.Added.{IsLeafIn}
 use Rattle.spg_split.specs.Placing.{taken_by, placed, HaveRooms}
 use Rattle.spg_chain.specs.Listed.{leaves_in, chained}
-use Rattle.spg_chain.proofs.Room.{Change, added_change, added_live, least_weight}
+use Rattle.spg_chain.proofs.Room.{least_weight}
 use Rattle.spg_chain.proofs.LiveLists.{leaves_in_live}
 use Rattle.spg_chain.proofs.ListTotals.{bytes, count, chain_takes, chain_room, but_first, list_spread, list_fits}
 

@@ -4,9 +4,9 @@ use Rattle.std.proofs.lemmas.Bool.{cases_eq}
 use Rattle.spg_forest.specs.View.{Place, Leaf}
 use Rattle.spg_forest.specs.Tuples.{Tuple, Inner, Placeholder, put_on}
 use Rattle.spg_forest.specs.Pages.{place, tuple_on, with_tuple}
-use Rattle.spg_forest.specs.Sheets.{Sheet, free_place, links, with_tuples}
+use Rattle.spg_forest.specs.Sheets.{free_place, links}
 use Rattle.spg_forest.proofs.Chain.{put_on_other}
-use Rattle.spg_forest.proofs.Edits.{sheet_same, sheet_other, tuple_on-with}
+use Rattle.spg_forest.proofs.Edits.{tuple_on-with}
 use Rattle.spg_forest.proofs.Writes.{with_tuple_longer}
 use Rattle.spg_page.specs.Changes.{added}
 use Rattle.spg_page.specs.Kinds.{IsOffset}
@@ -14,7 +14,7 @@ use Rattle.spg_page.specs.Reads.{frame_in}
 use Rattle.spg_page.proofs.SheetFacts.{free_place_free, free_place_length}
 use Rattle.spg_chain.specs.Chains.{IsChainedPage, BeginsChain}
 use Rattle.spg_chain.proofs.Laid.{with_tuple_at, with_tuple_there}
-use Rattle.spg_tree.specs.Table.{Table, sheets_of, tuples_at, tuple_at, with_tuples_at, with_link, with_clock}
+use Rattle.spg_tree.specs.Table.{Table, tuples_at, tuple_at, with_link, with_clock}
 use Rattle.spg_tree.proofs.Pages.{tuples_same, tuples_other, pages_same}
 use Rattle.spg_descend.specs.BareNodes.{bare}
 use Rattle.spg_split.specs.Placing.{downlinks}

@@ -9,7 +9,6 @@ use Rattle.spg_tree.specs.Descents.{Descending, placed, risen}
 use Rattle.spg_tree.specs.declared.stand.Stand.TheVariants.{At}
 use Rattle.spg_descend.specs.Carried.{IsCarried}
 use Rattle.spg_descend.specs.Follows.{IsAtInner, tuple_place}
-use Rattle.spg_descend.specs.Below.{IsLink}
 use Rattle.spg_descend.specs.Makes.{MakesOne, IsNextTo}
 use Rattle.spg_split.specs.Shrinks.{Shrinks}
 use Rattle.spg_split.specs.declared.split.SplitOut.{SplitOut}

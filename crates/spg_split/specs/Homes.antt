@@ -1,5 +1,5 @@
 -- The pages to which the tuples of a division below a root go.
-use Rattle.std.specs.Prelude.{◌≡◌, ℕ, ◌+◌, ◌-◌, ◌%◌, ◌==◌, ◌||◌, ◌&&◌, nat_le, if◌then◌else◌, Bool, true, false, List, [], ◌∷◌, ◌++◌, Some, None}
+use Rattle.std.specs.Prelude.{◌≡◌, ℕ, ◌+◌, ◌-◌, ◌%◌, ◌&&◌, nat_le, Bool, true, false, List, [], ◌∷◌, ◌++◌, Some, None}
 use Rattle.std.specs.List.{range_with_len}
 use Rattle.spg_page.specs.Changes.{room_of}
 use Rattle.spg_page.specs.declared.tuple.PageKind.TheVariants as kinds

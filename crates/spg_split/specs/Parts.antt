@@ -1,11 +1,10 @@
 -- The tuples of a division, and the table once they stand.
-use Rattle.std.specs.Prelude.{◌≡◌, ℕ, ◌-◌, ◌≤◌, ◌<◌, Bool, List, [], ◌∷◌, Option, None, is_some, ℤ, length, map, replicate, take, slice_index}
+use Rattle.std.specs.Prelude.{◌≡◌, ℕ, ◌-◌, ◌≤◌, ◌<◌, Bool, List, [], ◌∷◌, Option, None, is_some, length, take, slice_index}
 use Rattle.spg_base.specs.Row.{RowAt}
-use Rattle.spg_forest.specs.View.{Place, Leaf}
+use Rattle.spg_forest.specs.View.{Leaf}
 use Rattle.spg_forest.specs.Tuples.{Tuple, Inner}
 use Rattle.spg_forest.specs.Pages.{all_live}
 use Rattle.spg_forest.specs.Sheets.{weight}
-use Rattle.spg_page.specs.declared.tuple.Node.{Node}
 use Rattle.spg_page.specs.Reads.{frame_in}
 use Rattle.spg_page.specs.declared.tuple.PageKind.TheVariants as kinds
 use Rattle.spg_tree.specs.Table.{Table, sheet_at, tuples_at, with_sheet, with_tuples_at, with_touched}

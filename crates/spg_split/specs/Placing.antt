@@ -1,12 +1,10 @@
 -- Lists of leaves added to a page, each as a chain, and what a root page becomes.
-use Rattle.std.specs.Prelude.{ℕ, zero, suc, ◌≤◌, Bool, true, List, [], ◌∷◌, Option, Some, None, length, cond, nat_eq}
+use Rattle.std.specs.Prelude.{ℕ, zero, suc, Bool, true, List, [], ◌∷◌, Option, Some, None, cond, nat_eq}
 use Rattle.spg_base.specs.Row.{RowAt}
 use Rattle.spg_forest.specs.View.{Place, Leaf}
 use Rattle.spg_forest.specs.Tuples.{Tuple, Inner}
-use Rattle.spg_forest.specs.Pages.{place, all_live}
-use Rattle.spg_forest.specs.Sheets.{Sheet, free_place, weight}
-use Rattle.spg_forest.specs.Edits.{added}
-use Rattle.spg_page.specs.Changes.{room_of}
+use Rattle.spg_forest.specs.Pages.{place}
+use Rattle.spg_forest.specs.Sheets.{Sheet, free_place}
 use Rattle.spg_page.specs.Reads.{leaf_in, frame_in}
 use Rattle.spg_chain.specs.Listed.{chained, HaveRoom}
 

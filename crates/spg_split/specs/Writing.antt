@@ -1,10 +1,10 @@
 -- The table once a chain below a root is divided.
-use Rattle.std.specs.Prelude.{◌≡◌, ℕ, suc, ◌^◌, ◌+◌, ◌-◌, ◌≤◌, ◌<◌, List, ◌++◌, Option, Some, length}
+use Rattle.std.specs.Prelude.{◌≡◌, ℕ, ◌^◌, ◌+◌, ◌-◌, ◌≤◌, ◌<◌, List, ◌++◌, Option, Some, length}
 use Rattle.spg_forest.specs.View.{Place, Leaf}
 use Rattle.spg_forest.specs.Tuples.{Tuple, Inner, Redirect}
-use Rattle.spg_forest.specs.Pages.{place, with_tuple}
-use Rattle.spg_forest.specs.Sheets.{free_place, size_of, links}
-use Rattle.spg_page.specs.Changes.{added, room_of}
+use Rattle.spg_forest.specs.Pages.{with_tuple}
+use Rattle.spg_forest.specs.Sheets.{size_of, links}
+use Rattle.spg_page.specs.Changes.{room_of}
 use Rattle.spg_page.specs.Kinds.{IsOffset}
 use Rattle.spg_page.specs.Reads.{frame_in}
 use Rattle.spg_chain.specs.Chains.{IsChainedPage, BeginsChain, chain_members, offsets_of}
