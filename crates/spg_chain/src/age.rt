@@ -7,7 +7,7 @@ ghost use Rattle.spg_page.specs.Changes.{trimmed};
 ghost use Rattle.spg_cover.specs.Swept.{aged};
 ghost use Rattle.spg_chain.specs.Ages.{is_old, is_placeholder};
 
-use crate::rewrite::put_placeholder_at;
+use crate::take::put_placeholder;
 use spg_base::{Offset, Stamp};
 use spg_page::{Page, TupleKind};
 
@@ -28,7 +28,7 @@ pub fn age_page(page: &mut Page, horizon: Stamp) -> u16
     for index in 0..page.count() {
         let offset = Offset(index + 1);
         if is_old_at(page, offset, horizon) {
-            put_placeholder_at(page, offset);
+            put_placeholder(page, offset);
         }
     }
     page.trim_end()

@@ -2,7 +2,7 @@ ghost use Rattle.std.specs.Prelude.{◌≡◌, ◌+◌, ◌<◌, ◌≤◌, ℕ,
 ghost use Rattle.std.specs.BTreeSet.{contains};
 ghost use Rattle.spg_base.specs.Row.{row_cmp};
 ghost use Rattle.spg_forest.specs.Pages.{tuple_on, with_tuple};
-ghost use Rattle.spg_forest.specs.Tuples.{Live, Dead, Placeholder, IsAmong};
+ghost use Rattle.spg_forest.specs.Tuples.{Live, Dead, IsAmong};
 ghost use Rattle.spg_forest.specs.Sheets.{size_of, with_tuples};
 ghost use Rattle.spg_page.specs.Kinds.{IsOffset, IsLive};
 ghost use Rattle.spg_page.specs.Changes.{free_of};
@@ -11,18 +11,10 @@ ghost use Rattle.spg_page.specs.Told.{number_of};
 ghost use Rattle.spg_cover.specs.Swept.{emptied};
 ghost use Rattle.spg_chain.specs.Sweeps.{IsChainList, renewed, stays};
 
+use crate::take::put_placeholder;
 use spg_base::{Bytes, Memory, Offset, RowSet};
 use spg_page::{LeafTuple, Page, Tuple, TupleBytes};
 use std::alloc::Global;
-
-/// Puts a placeholder in the place of the tuple at an offset, which has at least as many bytes.
-pub(crate) fn put_placeholder_at(page: &mut Page, offset: Offset)
-    requires at { IsOffset page.old.tuples offset }
-    requires room { 16 ≤ size_of (tuple_on page.old.tuples offset) }
-    ensures { page.new ≡ with_tuples page.old (with_tuple page.old.tuples offset Placeholder) }
-{
-    page.replace(offset, &TupleBytes::placeholder());
-}
 
 /// Puts the leaf that stands on the old page at one offset on the page at another, with a next offset.
 fn put_leaf_at(
@@ -64,7 +56,7 @@ fn clear(page: &mut Page, offsets: &[Offset])
     for index in 0..offsets.len() {
         let offset = offsets[index];
         let _size = page.size_at(offset);
-        put_placeholder_at(page, offset);
+        put_placeholder(page, offset);
     }
 }
 

@@ -1,16 +1,16 @@
 -- A put names exactly the blocks that it writes.
-use Rattle.std.proofs.Common.{◌≡◌, ℕ, zero, suc, ◌+◌, ◌≤◌, ◌<◌, List, [], ◌∷◌, ⊎_elim, Option, Some, None, get_or, get_or-set_same, set, length, length-set, refl, sym, ap, ◌∙◌, subst, inl, arith}
+use Rattle.std.proofs.Common.{◌≡◌, ℕ, zero, suc, ◌+◌, ◌≤◌, ◌<◌, List, [], ◌∷◌, ⊎_elim, Option, Some, None, get_or, get_or-set_same, set, length, refl, sym, ap, ◌∙◌, subst, inl, arith}
 use Rattle.spg_opclass.specs.Meaning.{Meaning}
 use Rattle.spg_forest.specs.View.{Place, Leaf}
 use Rattle.spg_forest.specs.Spot.{Frame}
 use Rattle.spg_forest.specs.Tuples.{Tuple, Inner, Live, Dead, Redirect, Placeholder, put_on}
 use Rattle.spg_forest.specs.Pages.{place, tuple_on, with_tuple}
-use Rattle.spg_forest.specs.Sheets.{Sheet, free_place, size_of, links, linked, with_tuples}
+use Rattle.spg_forest.specs.Sheets.{free_place, size_of, links, linked}
 use Rattle.spg_forest.specs.Shape.{Shape}
 use Rattle.spg_forest.specs.Edits.{added}
 use Rattle.spg_forest.specs.Exact.{IsExact}
 use Rattle.spg_forest.proofs.Chain.{put_on_same}
-use Rattle.spg_forest.proofs.Edits.{sheet_same, sheet_other, tuple_on-with}
+use Rattle.spg_forest.proofs.Edits.{tuple_on-with}
 use Rattle.spg_forest.proofs.Exact.{differs, exact_one, exact_two}
 use Rattle.spg_page.specs.Kinds.{IsOffset}
 use Rattle.spg_page.proofs.SheetFacts.{free_place_free, free_place_length}
@@ -18,8 +18,8 @@ use Rattle.spg_chain.proofs.Laid.{with_tuple_at, added_behind}
 use Rattle.spg_chain.specs.Chains.{IsChainedPage, BeginsChain, chain_members, offsets_of}
 use Rattle.spg_chain.specs.Taken.{emptied}
 use Rattle.spg_chain.proofs.Taking.{dead_within, emptied_head}
-use Rattle.spg_tree.specs.Table.{Table, sheets_of, tuples_at, tuple_at, with_tuples_at, with_link, with_touched}
-use Rattle.spg_tree.specs.Table as table
+use Rattle.spg_tree.specs.Table.{Table, sheets_of, tuples_at, tuple_at, with_tuples_at, with_touched}
+use Rattle.spg_tree.proofs.Pages.{tuples_same, tuples_other, pages_same}
 use Rattle.spg_tree.specs.Pick.{Picks}
 use Rattle.spg_tree.specs.Picked.{IsPicked}
 use Rattle.spg_tree.specs.Descents.{Descending, in_nulls}
@@ -32,15 +32,6 @@ use Rattle.spg_descend.proofs.EmptyLaw.{at_empty, picked_ready, IsReady}
 use Rattle.spg_descend.proofs.Picked.{PicksLeaf, picks_leaf, new_at_end}
 
 -- ---- pages with other tuples
-
-pub tuples_same : (t : Table) (b : ℕ) (us : List Tuple) → b < length t.pages → tuples_at (with_tuples_at t b us) b ≡ us
-tuples_same t b us h = ap (λ (s : Sheet). s.tuples) (sheet_same (sheets_of t) b (with_tuples (table.sheet_at t b) us) h)
-
-pub tuples_other : (t : Table) (b : ℕ) (us : List Tuple) (d : ℕ) → (d ≡ b → ⊥) → tuples_at (with_tuples_at t b us) d ≡ tuples_at t d
-tuples_other t b us d n = ap (λ (s : Sheet). s.tuples) (sheet_other (sheets_of t) b (with_tuples (table.sheet_at t b) us) d n)
-
-pub pages_same : (t : Table) (b : ℕ) (us : List Tuple) → length (with_tuples_at t b us).pages ≡ length t.pages
-pages_same t b us = length-set t.pages b (with_tuples (table.sheet_at t b) us)
 
 -- one page has other tuples
 pub exact_page : (t : Table) (b : ℕ) (us : List Tuple) → b < length t.pages → (us ≡ tuples_at t b → ⊥) → IsExact (sheets_of t) (sheets_of (with_touched (with_tuples_at t b us) (b ∷ []))) (b ∷ [])

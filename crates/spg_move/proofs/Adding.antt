@@ -8,10 +8,10 @@ use Rattle.spg_forest.specs.Edits.{added}
 use Rattle.spg_page.specs.Changes.{room_of}
 use Rattle.spg_page.specs.Reads.{leaf_in}
 use Rattle.spg_chain.specs.Added.{IsLeafIn}
-use Rattle.spg_split.specs.Placing.{chained, leaves_in, HaveRoom}
+use Rattle.spg_chain.specs.Listed.{chained, leaves_in, HaveRoom}
 use Rattle.spg_move.specs.Moving.{with_new}
-use Rattle.spg_split.proofs.Reading.{unlinked_at}
-use Rattle.spg_split.proofs.Room.{first_room, rest_room, added_change, added_live}
+use Rattle.spg_chain.proofs.LiveLists.{unlinked_at}
+use Rattle.spg_chain.proofs.Room.{first_room, rest_room, added_change, added_live}
 
 -- the leaves ls were to be added to the page p behind the offset `first`; the leaves `rest` are still to be added to the page q behind `last`
 pub record IsAdding (p : Sheet) (first : ℕ) (ls : List Leaf) (q : Sheet) (last : ℕ) (rest : List Leaf) : Type 0 where

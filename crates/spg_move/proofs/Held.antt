@@ -13,8 +13,8 @@ use Rattle.spg_descend.specs.Follows.{tuple_place}
 use Rattle.spg_descend.specs.Held.{IsNoOthers, TouchesFree, IsFreeHome}
 use Rattle.spg_descend.specs.Leaves.{stand_block, parent_block, is_held}
 use Rattle.spg_descend.proofs.Held.{MayTouch, picked_free, may_at, may_above, may_free, all_none, all_more, all_both, all_either, all_new, touches, touches_one}
-use Rattle.spg_split.specs.Homes.{another}
-use Rattle.spg_move.proofs.Picks.{left_among, right_among, range_among, another_cases}
+use Rattle.spg_tree.specs.Another.{another}
+use Rattle.spg_tree.proofs.Among.{left_among, right_among, range_among, another_cases}
 use Rattle.spg_move.specs.Answers.{IsInnerOf}
 use Rattle.spg_move.specs.Splitting.{lower_want, fits_beside, split_touched, IsHome, IsParted}
 use Rattle.spg_move.specs.Widening.{node_want, blocks_shifted, widened_table, IsShifted}

@@ -3,7 +3,6 @@ pub mod Adding
 pub mod Leaving
 pub mod MoveLaw
 pub mod Standing
-pub mod Picks
 pub mod SplitHomes
 pub mod SplitPages
 pub mod SplitLaw

@@ -1,8 +1,7 @@
 -- The pages once a chain has gone to another page, and the law of that.
 use Rattle.std.proofs.Common.{◌≡◌, ℕ, suc, ◌+◌, ◌-◌, ◌*◌, ◌≤◌, ◌<◌, Bool, false, List, [], ◌∷◌, ⊎_elim, Option, Some, None, get_or, set, length, length-set, refl, sym, ap, ◌∙◌, subst, inl, inr, arith}
 use mathlib.Core.Path.{fun_ext}
-use Rattle.std.specs.Prelude.{nat_le}
-use Rattle.std.proofs.lemmas.Bool.{cases_eq, cond-true, le-leb}
+use Rattle.std.proofs.lemmas.Bool.{cases_eq}
 use Rattle.std.proofs.lemmas.List.{get_or-set_same, get_or-set_other}
 use Rattle.spg_opclass.specs.Meaning.{Meaning}
 use Rattle.spg_opclass.specs.Laws.{padded_length}
@@ -13,7 +12,7 @@ use Rattle.spg_forest.specs.Pages.{place, tuple_on, with_tuple, moved, IsShown}
 use Rattle.spg_forest.specs.Sheets.{Sheet, Sheets, sheet_at, with_tuples, pages_of, weight, size_of, free_place}
 use Rattle.spg_forest.specs.Shape.{Shape, spots, AreNodes, IsKindOf, IsRestOf}
 use Rattle.spg_forest.specs.Section.{Adds, IsWithin, Cost}
-use Rattle.spg_forest.specs.Walk.{page_spread, spread_on, spread_at, lives_on, is_live}
+use Rattle.spg_forest.specs.Walk.{spread_on, spread_at, is_live}
 use Rattle.spg_forest.specs.Edits.{with_sheet, tuple_of, put, CanPut, MayStand, AreChanged, spot_of}
 use Rattle.spg_forest.specs.Changes.{moved_to, IsMovable, Becomes}
 use Rattle.spg_forest.specs.Puts.{IsComing}
@@ -30,9 +29,10 @@ use Rattle.spg_forest.proofs.Writes.{inner_at}
 use Rattle.spg_page.proofs.SheetFacts.{free_place_free}
 use Rattle.spg_chain.proofs.Shown.{laid_chained, shown_begins}
 use Rattle.spg_chain.proofs.Taking.{takes_laid_out}
-use Rattle.spg_split.specs.Placing.{chained, HaveRoom}
-use Rattle.spg_split.proofs.Chaining.{list_laid, list_tuple}
-use Rattle.spg_split.proofs.Totals.{list_spread, placed_fits}
+use Rattle.spg_chain.specs.Listed.{chained, HaveRoom}
+use Rattle.spg_descend.proofs.Stages.{high_spread}
+use Rattle.spg_chain.proofs.Listing.{list_laid, list_tuple}
+use Rattle.spg_chain.proofs.ListTotals.{list_spread, list_fits}
 use Rattle.spg_move.specs.Moving.{with_new, left}
 use Rattle.spg_move.proofs.Leaving.{left_spread, left_weight, left_tuple}
 
@@ -43,9 +43,6 @@ swapped {S} V x y a b n = fun_ext (λ k. ⊎_elim
     (λ m. put_at_other (put_at V x a) y b k m ∙ ⊎_elim
     (λ e. put_at_same V x a k e ∙ sym (put_at_same (put_at V y b) x a k e))
     (λ q. put_at_other V x a k q ∙ sym (put_at_other (put_at V y b) x a k q ∙ put_at_other V y b k m)) (cases_place k x)) (cases_place k y))
-
-high_spread : (b : ℕ) (ts : List Tuple) → 3 ≤ b → page_spread b ts ≡ spread_on ts
-high_spread b ts g = let e = cond-true (nat_le 3 b) 0 (lives_on ts - 1) (le-leb 3 b g) in omega arith
 
 with_new_length : (ls : List Leaf) (new : Leaf) → length (with_new ls new) ≡ suc (length ls)
 with_new_length [] new = refl
@@ -183,7 +180,7 @@ module _ {Key Recon Cond : Type 0} (m : Meaning Key Recon Cond) (S : Sheets) (b 
 
   -- ---- what stands on the pages
   changed_b : AreChanged m S Sb
-  changed_b = changed_page m S S0 b (with_tuples (sheet_at S0 b) us) (kept_later m S H) there refl (placed_fits ts (λ j. vs) 0 1 (H.pages.each b).fits (room, tt))
+  changed_b = changed_page m S S0 b (with_tuples (sheet_at S0 b) us) (kept_later m S H) there refl (list_fits ts vs room)
       (λ o. ⊎_elim (λ e. inl (e, refl)) (λ (l, n, a, e). inr (subst (λ (t : Tuple). MayStand m Sb (place b o) t) (sym e) (leaf_may o l n a))) (list_tuple ts vs o)) (λ k. absurd (omega arith)) (λ k. refl)
     where
       leaf_may : (o : ℕ) (l : Leaf) (n : ℕ) → IsIn l vs → MayStand m Sb (place b o) (Live l n)

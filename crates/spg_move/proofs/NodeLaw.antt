@@ -36,11 +36,12 @@ use Rattle.spg_descend.specs.Makes.{MakesNone}
 use Rattle.spg_descend.specs.Puts.{IsQuiet}
 use Rattle.spg_descend.proofs.Exact.{exact_page, put_differs}
 use Rattle.spg_descend.proofs.PutLaws.{kind_kept}
-use Rattle.spg_split.proofs.ChainPages.{Stage, begin_stage}
+use Rattle.spg_descend.proofs.Stages.{Stage, begin_stage}
 use Rattle.spg_descend.specs.Answers.{IsAnswered}
 use Rattle.spg_move.specs.Answers.{IsInnerOf}
 use Rattle.spg_move.specs.Nodes.{node_cost, Widens, IsNodeAdded}
-use Rattle.spg_move.specs.Widening.{widened, widened_table, FitsInPlace}
+use Rattle.spg_move.specs.Widening.{widened, widened_table}
+use Rattle.spg_tree.specs.Writes.{FitsInPlace}
 use Rattle.spg_move.proofs.NodePages.{inner_stage}
 use Rattle.spg_move.proofs.NodeStanding as standing
 

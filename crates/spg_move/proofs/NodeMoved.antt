@@ -34,20 +34,19 @@ use Rattle.spg_tree.specs.Picked.{IsPicked}
 use Rattle.spg_tree.specs.Descents.{Descending, in_nulls, placed, with_node}
 use Rattle.spg_tree.specs.declared.stand.Stand.{Stand}
 use Rattle.spg_tree.specs.declared.stand.Stand.TheVariants.{Start, Root, At, Empty}
-use Rattle.spg_descend.specs.Below.{IsLink, IsTicked}
+use Rattle.spg_descend.specs.Below.{IsLink, IsTicked, IsLedTo}
 use Rattle.spg_descend.specs.Carried.{carried, IsCarried}
 use Rattle.spg_descend.specs.Follows.{IsAtInner, tuple_place, link_of}
 use Rattle.spg_descend.specs.Makes.{MakesOne}
 use Rattle.spg_descend.proofs.Makes.{makes_same}
-use Rattle.spg_split.specs.Below.{IsLedTo}
-use Rattle.spg_split.specs.Homes.{another}
-use Rattle.spg_split.specs.Writing.{new_place}
-use Rattle.spg_split.proofs.BlocksTouched.{another_is, another_once}
+use Rattle.spg_tree.specs.Another.{another}
+use Rattle.spg_tree.specs.Writes.{new_place}
+use Rattle.spg_tree.proofs.Among.{another_is, another_once}
 use Rattle.spg_descend.specs.Answers.{IsAnswered}
 use Rattle.spg_move.specs.Answers.{IsInnerOf}
 use Rattle.spg_move.specs.Nodes.{node_cost, FitsWider, Widens, IsNodeAdded}
 use Rattle.spg_move.specs.Widening.{widened, shifted_table, blocks_shifted, node_want, IsHung, IsShifted, IsShiftedAt, IsShiftedFrom}
-use Rattle.spg_move.proofs.Picks.{PicksPage, picks_page}
+use Rattle.spg_tree.proofs.PickedPages.{PicksPage, picks_page}
 use Rattle.spg_move.proofs.NodePicks.{shifted_few, IsAway, away}
 use Rattle.spg_move.proofs.NodeShift.{CanShift, S2, shifts, x_now, y_now, p_now, leads_now, count_now, kinds_now, table_is, makes_one}
 use Rattle.spg_move.proofs.NodeStanding as standing

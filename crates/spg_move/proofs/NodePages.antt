@@ -14,7 +14,7 @@ use Rattle.spg_forest.proofs.Joins.{put_inner, put_nulls}
 use Rattle.spg_forest.proofs.Plain.{IsPlain}
 use Rattle.spg_forest.proofs.Stock.{changed_put, spread_put}
 use Rattle.spg_forest.proofs.Writes.{inner_at}
-use Rattle.spg_split.proofs.ChainPages.{Stage}
+use Rattle.spg_descend.proofs.Stages.{Stage}
 
 module _ {Key Recon Cond : Type 0} (m : Meaning Key Recon Cond) (S : Sheets) where
   -- the pages at another moment

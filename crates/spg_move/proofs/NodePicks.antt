@@ -4,9 +4,9 @@ use Rattle.std.specs.List.{range_with_len}
 use Rattle.std.proofs.lemmas.Bool.{cases_lt}
 use Rattle.std.proofs.lemmas.List.FromFn.{length-range_with_len}
 use Rattle.spg_forest.specs.Tuples.{IsAmong}
-use Rattle.spg_split.specs.Homes.{another}
+use Rattle.spg_tree.specs.Another.{another}
 use Rattle.spg_move.specs.Widening.{blocks_shifted}
-use Rattle.spg_move.proofs.Picks.{left_among, right_among, range_among, another_few, another_cases}
+use Rattle.spg_tree.proofs.Among.{left_among, right_among, range_among, another_few, another_cases}
 
 pub shifted_few : (o a b before now : ℕ) → now ≤ before + 3 → length (blocks_shifted o a b before now) ≤ 8
 shifted_few o a b before now le =

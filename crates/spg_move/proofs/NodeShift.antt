@@ -30,8 +30,8 @@ use Rattle.spg_page.proofs.SheetFacts.{added_fits, free_place_free}
 use Rattle.spg_tree.specs.Table.{Table, sheets_of, tuples_at, tuple_at, with_touched}
 use Rattle.spg_tree.specs.Table as table
 use Rattle.spg_descend.specs.Makes.{MakesOne}
-use Rattle.spg_split.proofs.ChainPages.{Stage}
-use Rattle.spg_split.specs.Writing.{new_place}
+use Rattle.spg_descend.proofs.Stages.{Stage}
+use Rattle.spg_tree.specs.Writes.{new_place}
 use Rattle.spg_move.specs.Widening.{shifted_table, IsHung}
 use Rattle.spg_move.proofs.NodePages.{timed_stage, put_stage, inner_stage, may_inner}
 use Rattle.spg_move.proofs.NodeWrites as writes

@@ -38,7 +38,8 @@ use Rattle.spg_descend.proofs.FollowLaw.{is_within, fit_here}
 use Rattle.spg_descend.specs.Answers.{IsAnswered}
 use Rattle.spg_move.specs.Answers.{IsInnerOf}
 use Rattle.spg_move.specs.Nodes.{FitsWider}
-use Rattle.spg_move.specs.Widening.{widened, FitsInPlace, IsHung}
+use Rattle.spg_move.specs.Widening.{widened, IsHung}
+use Rattle.spg_tree.specs.Writes.{FitsInPlace}
 use Rattle.spg_move.proofs.SplitStanding.{inner_is}
 
 pub at_inner : (t : Table) (nulls : Bool) (st : Stand) (pa : Option (Place × ℕ)) → IsInnerOf t nulls st pa → IsAtInner t st

@@ -10,8 +10,8 @@ use Rattle.spg_page.specs.Changes.{added}
 use Rattle.spg_page.specs.Kinds.{IsOffset}
 use Rattle.spg_page.proofs.SheetFacts.{free_place_free, free_place_length}
 use Rattle.spg_tree.specs.Table.{Table, sheets_of, sheet_at, tuples_at, tuple_at}
-use Rattle.spg_split.specs.Writing.{new_place, added_table}
-use Rattle.spg_move.specs.Widening.{put_table, left_table, IsHung}
+use Rattle.spg_tree.specs.Writes.{new_place, added_table, put_table}
+use Rattle.spg_move.specs.Widening.{left_table, IsHung}
 
 -- where nothing stands no node is
 no_node : (u : Tuple) (i : ℕ) → i < length (links u) → u ≡ Placeholder → ⊥

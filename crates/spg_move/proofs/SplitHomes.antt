@@ -14,11 +14,11 @@ use Rattle.spg_page.specs.Changes.{room_of}
 use Rattle.spg_page.specs.Kinds.{IsOffset, IsInner}
 use Rattle.spg_page.proofs.SheetFacts.{weight-replaced, gaps-replaced}
 use Rattle.spg_tree.specs.Table.{Table, sheets_of, sheet_at, tuples_at, latch_at}
-use Rattle.spg_split.specs.Homes.{another}
-use Rattle.spg_split.proofs.Housing.{held}
-use Rattle.spg_split.proofs.Written.{tuples_same, tuples_other}
+use Rattle.spg_tree.specs.Another.{another}
+use Rattle.spg_tree.proofs.PickedPages.{held, picks_page}
+use Rattle.spg_tree.proofs.Pages.{tuples_same, tuples_other}
 use Rattle.spg_move.specs.Splitting.{upper_table, fits_beside, lower_want, IsHome, GoesTo, split_touched, MayPart}
-use Rattle.spg_move.proofs.Picks.{picks_page, left_among, right_among, range_among, another_few, another_cases}
+use Rattle.spg_tree.proofs.Among.{left_among, right_among, range_among, another_few, another_cases}
 
 inner_gap : (t : Tuple) → IsInner t → gap t ≡ 0
 inner_gap (Inner w ns) e = refl

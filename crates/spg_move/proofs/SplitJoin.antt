@@ -39,9 +39,9 @@ use Rattle.spg_descend.specs.Makes.{MakesOne}
 use Rattle.spg_descend.proofs.Makes.{makes_same}
 use Rattle.spg_descend.proofs.NotFull.{picks_not_full}
 use Rattle.spg_descend.specs.Puts.{IsQuiet}
-use Rattle.spg_split.specs.Homes.{another}
-use Rattle.spg_split.specs.Parts.{bare}
-use Rattle.spg_split.proofs.BlocksTouched.{another_is, another_once}
+use Rattle.spg_tree.specs.Another.{another}
+use Rattle.spg_descend.specs.BareNodes.{bare}
+use Rattle.spg_tree.proofs.Among.{another_is, another_once}
 use Rattle.spg_descend.specs.Answers.{IsAnswered}
 use Rattle.spg_move.specs.Answers.{IsInnerOf}
 use Rattle.spg_move.specs.Splits.{PartsTuple, split_cost, lower_want_at, fits_beside_at}

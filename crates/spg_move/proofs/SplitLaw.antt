@@ -26,7 +26,7 @@ use Rattle.spg_page.specs.Changes.{room_of}
 use Rattle.spg_page.specs.Kinds.{IsInner}
 use Rattle.spg_page.proofs.SheetFacts.{free_place_free, free_place_length, added_fits}
 use Rattle.spg_tree.specs.Table.{Table, sheets_of, tuples_at, tuple_at}
-use Rattle.spg_split.specs.Parts.{bare}
+use Rattle.spg_descend.specs.BareNodes.{bare}
 use Rattle.spg_move.specs.Splitting.{upper_table, parted_table}
 
 -- of two writes at one place the second stands, also where another place is written between them

@@ -14,7 +14,7 @@ use Rattle.spg_page.specs.Changes.{room_of}
 use Rattle.spg_page.specs.Kinds.{IsInner}
 use Rattle.spg_page.proofs.SheetFacts.{free_place_free, free_place_length}
 use Rattle.spg_tree.specs.Table.{Table, sheets_of, sheet_at, tuples_at, tuple_at}
-use Rattle.spg_split.specs.Writing.{added_table}
+use Rattle.spg_tree.specs.Writes.{added_table}
 use Rattle.spg_move.specs.Splitting.{upper_table, fits_beside, MayPart}
 use Rattle.spg_move.proofs.SplitHomes.{upper_inner, room_is}
 

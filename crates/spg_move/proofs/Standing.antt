@@ -43,11 +43,11 @@ use Rattle.spg_descend.proofs.Makes.{makes_same, makes_none_at, makes_linked}
 use Rattle.spg_descend.proofs.Exact.{link_differs, taken_differs}
 use Rattle.spg_descend.proofs.Picked.{PicksLeaf, picks_leaf, new_at_end}
 use Rattle.spg_descend.proofs.PutLaws.{bucket_tuple, kind_kept}
-use Rattle.spg_split.specs.Placing.{chained, leaves_in, HaveRoom}
-use Rattle.spg_split.proofs.Chaining.{list_tuple}
-use Rattle.spg_split.proofs.Reading.{leaves_in_live, length-all_live}
-use Rattle.spg_split.proofs.Totals.{chained_differs}
-use Rattle.spg_split.proofs.Written.{tuples_same, tuples_other, pages_same}
+use Rattle.spg_chain.specs.Listed.{chained, leaves_in, HaveRoom}
+use Rattle.spg_chain.proofs.Listing.{list_tuple}
+use Rattle.spg_chain.proofs.LiveLists.{leaves_in_live, length-all_live}
+use Rattle.spg_chain.proofs.ListTotals.{chained_differs}
+use Rattle.spg_tree.proofs.Pages.{tuples_same, tuples_other, pages_same}
 use Rattle.spg_move.specs.Moves.{MovesCarried, carried_want, move_cost}
 use Rattle.spg_move.specs.Moving.{with_new, chain_leaves, chain_want, left, moved_table}
 use Rattle.spg_move.proofs.Leaving.{chain_leaf, left_tuple, linked as linked_there}

@@ -10,7 +10,7 @@ use Rattle.spg_chain.specs.Taken.{emptied}
 use Rattle.spg_tree.specs.Table.{Table, tuples_at, with_tuples_at, with_link, with_clock, with_touched}
 use Rattle.spg_tree.specs.Picked.{want_of}
 use Rattle.spg_tree.specs.declared.want.Want.{Want}
-use Rattle.spg_split.specs.Placing.{chained}
+use Rattle.spg_chain.specs.Listed.{chained}
 
 -- the leaves of a chain with a new one behind the first
 abbrev pub with_new : List Leaf → Leaf → List Leaf

@@ -11,14 +11,14 @@ use Rattle.spg_tree.specs.Table.{Table, sheets_of, tuples_at, tuple_at}
 use Rattle.spg_tree.specs.declared.want.Want.{Want}
 use Rattle.spg_tree.specs.Descents.{Descending, in_nulls, placed, with_node}
 use Rattle.spg_tree.specs.declared.stand.Stand.TheVariants.{At}
-use Rattle.spg_descend.specs.Below.{IsTicked}
+use Rattle.spg_descend.specs.Below.{IsTicked, IsLedTo}
 use Rattle.spg_descend.specs.Carried.{IsCarried}
 use Rattle.spg_descend.specs.Follows.{IsAtInner, tuple_place, link_of}
 use Rattle.spg_descend.specs.Makes.{MakesNone, MakesOne}
 use Rattle.spg_descend.specs.Puts.{IsQuiet}
-use Rattle.spg_split.specs.Below.{IsLedTo}
 use Rattle.spg_move.specs.Answers.{IsInnerOf}
-use Rattle.spg_move.specs.Widening.{widened, FitsInPlace, node_want}
+use Rattle.spg_move.specs.Widening.{widened, node_want}
+use Rattle.spg_tree.specs.Writes.{FitsInPlace}
 
 -- at most three pages, one tick, and no more spread
 abbrev pub node_cost : Cost

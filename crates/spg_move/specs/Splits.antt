@@ -13,7 +13,7 @@ use Rattle.spg_descend.specs.Carried.{IsCarried}
 use Rattle.spg_descend.specs.Follows.{IsAtInner, tuple_place, link_of}
 use Rattle.spg_descend.specs.Makes.{MakesOne, IsNextTo}
 use Rattle.spg_descend.specs.Puts.{IsQuiet}
-use Rattle.spg_split.specs.Parts.{bare}
+use Rattle.spg_descend.specs.BareNodes.{bare}
 use Rattle.spg_move.specs.Answers.{IsInnerOf}
 use Rattle.spg_move.specs.Splitting.{lower_want, fits_beside}
 

@@ -13,9 +13,9 @@ use Rattle.spg_tree.specs.Table.{Table, sheet_at, tuples_at, tuple_at, with_tupl
 use Rattle.spg_tree.specs.Pick.{Picks}
 use Rattle.spg_tree.specs.Picked.{IsPicked, want_of}
 use Rattle.spg_tree.specs.declared.want.Want.{Want}
-use Rattle.spg_split.specs.Homes.{another}
-use Rattle.spg_split.specs.Parts.{bare}
-use Rattle.spg_split.specs.Writing.{new_place, added_table}
+use Rattle.spg_tree.specs.Another.{another}
+use Rattle.spg_descend.specs.BareNodes.{bare}
+use Rattle.spg_tree.specs.Writes.{new_place, added_table}
 
 -- the upper tuple stands in the place of the old one
 abbrev pub upper_table : Table → Place → Tuple → Table

@@ -4,33 +4,23 @@ use Rattle.std.specs.List.{range_with_len}
 use Rattle.spg_opclass.specs.Meaning.{longer}
 use Rattle.spg_forest.specs.View.{Place}
 use Rattle.spg_forest.specs.Tuples.{Tuple, Inner, Redirect}
-use Rattle.spg_forest.specs.Pages.{tuple_on, with_tuple}
 use Rattle.spg_forest.specs.Sheets.{size_of, links}
-use Rattle.spg_page.specs.Changes.{free_of}
 use Rattle.spg_page.specs.Kinds.{IsOffset}
 use Rattle.spg_page.specs.Reads.{frame_in}
 use Rattle.spg_page.specs.declared.tuple.PageKind.TheVariants as kinds
-use Rattle.spg_tree.specs.Table.{Table, tuples_at, tuple_at, with_tuples_at, with_link, with_clock, with_touched}
+use Rattle.spg_tree.specs.Table.{Table, tuples_at, tuple_at, with_link, with_clock, with_touched}
 use Rattle.spg_tree.specs.Descents.{Descending, in_nulls}
 use Rattle.spg_tree.specs.Pick.{Picks}
 use Rattle.spg_tree.specs.Picked.{IsPicked, want_of}
 use Rattle.spg_tree.specs.declared.stand.Stand.{Stand}
 use Rattle.spg_tree.specs.declared.stand.Stand.TheVariants.{At}
 use Rattle.spg_tree.specs.declared.want.Want.{Want}
-use Rattle.spg_split.specs.Homes.{another}
-use Rattle.spg_split.specs.Writing.{new_place, added_table}
+use Rattle.spg_tree.specs.Another.{another}
+use Rattle.spg_tree.specs.Writes.{new_place, added_table, put_table}
 
 -- an inner tuple with one more node, which leads nowhere
 abbrev pub widened : Tuple → ℕ → ℤ → Tuple
 widened u at label = Inner (longer (frame_in u) at label) (insert (links u) at None)
-
--- a tuple fits in the place of the one at an offset
-abbrev pub FitsInPlace : List Tuple → ℕ → Tuple → Type 0
-FitsInPlace ts o u = size_of u ≤ size_of (tuple_on ts o) + free_of ts
-
--- the table once a tuple has taken the place of that at x
-abbrev pub put_table : Table → Place → Tuple → Table
-put_table t x u = with_tuples_at t x.block (with_tuple (tuples_at t x.block) x.offset u)
 
 abbrev pub widened_table : Table → Place → Tuple → Table
 widened_table t x u = with_touched (put_table t x u) (x.block ∷ [])

@@ -15,9 +15,9 @@ ghost use Rattle.spg_descend.specs.Makes.{MakesNone};
 ghost use Rattle.spg_move.specs.Moves.{MovesCarried, carried_want};
 ghost use Rattle.spg_move.specs.Tables.{MovesTable};
 
-use crate::leaves::{bytes_of, leaf_tuple};
 use crate::moving::{chain_tuples, write_chain};
 use spg_base::{Memory, Place, SeatNo};
+use spg_chain::{bytes_of, leaf_tuple};
 use spg_opclass::OpClass;
 use spg_tree::{Descent, PageTable, Stand, StepRefused, Want};
 use std::alloc::Global;

@@ -3,7 +3,6 @@
 #![tactic(auto)]
 
 mod chain;
-mod leaves;
 mod moving;
 mod node;
 mod node_tuple;
@@ -11,7 +10,6 @@ mod node_write;
 mod split;
 mod split_pages;
 mod split_tuples;
-mod writes;
 
 pub use chain::move_chain;
 pub use node::add_node;

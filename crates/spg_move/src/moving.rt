@@ -7,12 +7,11 @@ ghost use Rattle.spg_page.specs.Reads.{leaf_in};
 ghost use Rattle.spg_chain.specs.Added.{IsLeafIn};
 ghost use Rattle.spg_chain.specs.Chains.{IsChainedPage, BeginsChain};
 ghost use Rattle.spg_tree.specs.Table.{tuples_at, tuple_at, with_tuples_at};
-ghost use Rattle.spg_split.specs.Placing.{chained, leaves_in, HaveRoom};
+ghost use Rattle.spg_chain.specs.Listed.{chained, leaves_in, HaveRoom};
 ghost use Rattle.spg_move.specs.Moving.{with_new, chain_leaves, left, moved_table};
 
-use crate::leaves::leaf_tuple;
 use spg_base::{Block, List, Memory, Offset, Place, Stamp};
-use spg_chain::{add_to_chain, take_chain, walk_chain};
+use spg_chain::{add_to_chain, leaf_tuple, take_chain, walk_chain};
 use spg_page::{Page, TupleBytes};
 use spg_tree::{PageTable, Touched};
 use std::alloc::Global;

@@ -15,7 +15,8 @@ ghost use Rattle.spg_descend.specs.Answers.{IsAnswered};
 ghost use Rattle.spg_move.specs.Answers.{IsInnerOf};
 ghost use Rattle.spg_move.specs.Nodes.{IsNodeAdded, FitsWider, wider_want};
 ghost use Rattle.spg_move.specs.Tables.{NodeTable};
-ghost use Rattle.spg_move.specs.Widening.{FitsInPlace, node_want, IsShiftedFrom};
+ghost use Rattle.spg_move.specs.Widening.{node_want, IsShiftedFrom};
+ghost use Rattle.spg_tree.specs.Writes.{FitsInPlace};
 
 use crate::node_tuple::longer_tuple;
 use crate::node_write::{fits_in_place, shift, widen_here};

@@ -5,10 +5,9 @@ ghost use Rattle.spg_page.specs.Kinds.{IsOffset};
 ghost use Rattle.spg_tree.specs.Table.{tuples_at, IsSound};
 ghost use Rattle.spg_tree.specs.Pick.{IsFull};
 ghost use Rattle.spg_tree.specs.declared.stand.StepRefused.TheVariants.{IndexFull, ClockFull};
-ghost use Rattle.spg_split.specs.Writing.{new_place};
-ghost use Rattle.spg_move.specs.Widening.{FitsInPlace, widened_table, shifted_table, blocks_shifted, node_want, IsHung, IsShifted};
+ghost use Rattle.spg_tree.specs.Writes.{new_place, FitsInPlace};
+ghost use Rattle.spg_move.specs.Widening.{widened_table, shifted_table, blocks_shifted, node_want, IsHung, IsShifted};
 
-use crate::writes::{add_on, push_another, put_at};
 use spg_base::{Block, Offset, Place, SeatNo, Stamp, parity};
 use spg_page::{Page, TupleBytes};
 use spg_tree::{PageTable, StepRefused, Touched, Want};
@@ -31,7 +30,7 @@ pub(crate) fn widen_here(table: &mut PageTable, at: &Place, longer: &TupleBytes)
 {
     let mut touched = Touched::new();
     touched.push(at.block);
-    put_at(table, at, longer);
+    table.put_at(at, longer);
     table.set_touched(touched);
 }
 
@@ -53,10 +52,10 @@ fn write_shifted(
     ensures at { result ≡ new_place table.old block }
     ensures table { table.new ≡ shifted_table table.old block at.now parent.now node longer.now }
 {
-    let offset = add_on(table, block, longer);
+    let offset = table.add_on(block, longer);
     let stamp = Stamp::at(table.clock());
     let redirect = TupleBytes::redirect(Place { block, offset }, stamp);
-    put_at(table, at, &redirect);
+    table.put_at(at, &redirect);
     table.relink(*parent, node, Some(Place { block, offset }));
     table.raise_clock();
     Place { block, offset }
@@ -70,8 +69,8 @@ fn touched_by(old: Block, above: Block, picked: Block, before: u32, now: u32) ->
 {
     let mut touched = Touched::new();
     touched.push(old);
-    push_another(&mut touched, above, old, before);
-    push_another(&mut touched, picked, above, before);
+    touched.push_another(above, old, before);
+    touched.push_another(picked, above, before);
     touched.push_range(before, now);
     touched
 }

@@ -7,7 +7,6 @@ ghost use Rattle.spg_tree.specs.declared.stand.StepRefused.TheVariants.{IndexFul
 ghost use Rattle.spg_move.specs.Splitting as splits;
 ghost use Rattle.spg_move.specs.Splitting.{upper_table, parted_table, lower_want, split_touched, GoesTo, MayPart, IsParted};
 
-use crate::writes::{add_on, push_another, put_at};
 use spg_base::{Block, Place, SeatNo, parity};
 use spg_page::TupleBytes;
 use spg_tree::{PageTable, StepRefused, Touched, Want};
@@ -65,8 +64,8 @@ fn write_parts(
     requires room { size_of lower.now + 4 ≤ room_of (tuples_at (upper_table table.old at upper.now) home) 1 }
     ensures { table.new ≡ parted_table table.old at child home upper.now lower.now }
 {
-    put_at(table, &at, upper);
-    let offset = add_on(table, home, lower);
+    table.put_at(&at, upper);
+    let offset = table.add_on(home, lower);
     let to = Place {
         block: home,
         offset,
@@ -82,7 +81,7 @@ fn touched_by(block: Block, home: Block, before: u32, now: u32) -> Touched
 {
     let mut touched = Touched::new();
     touched.push(block);
-    push_another(&mut touched, home, block, before);
+    touched.push_another(home, block, before);
     touched.push_range(before, now);
     touched
 }

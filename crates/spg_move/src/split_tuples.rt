@@ -6,25 +6,12 @@ ghost use Rattle.spg_forest.specs.Pages.{tuple_on};
 ghost use Rattle.spg_forest.specs.Sheets.{links};
 ghost use Rattle.spg_page.specs.Kinds.{IsOffset, IsInner};
 ghost use Rattle.spg_page.specs.Reads.{frame_in};
-ghost use Rattle.spg_split.specs.Parts.{bare, nodes_of};
+ghost use Rattle.spg_descend.specs.BareNodes.{bare, nodes_of};
 
 use spg_base::{Bytes, Labels, Memory, Offset};
-use spg_page::{InnerTuple, Node, Nodes, Page, Tuple, TupleBytes};
+use spg_descend::bare_nodes;
+use spg_page::{InnerTuple, Page, Tuple, TupleBytes};
 use std::alloc::Global;
-
-/// A node for each label, which leads nowhere.
-fn bare_nodes(alloc: Global, labels: &[i16]) -> Result<Nodes, Memory>
-    ensures { IfOk result (λ nodes. nodes ≡ nodes_of labels.now) }
-{
-    let mut nodes = Nodes::new(alloc);
-    for label in labels {
-        nodes.push(Node {
-            label: *label,
-            link: None,
-        })?;
-    }
-    Ok(nodes)
-}
 
 /// The upper tuple of a split, with downlinks that lead nowhere.
 pub(crate) fn upper_tuple(

@@ -30,7 +30,7 @@ use Rattle.spg_split.specs.Parts.{ArePartsOf, IsWay}
 use Rattle.spg_split.specs.Placing.{leaves_with}
 use Rattle.spg_split.specs.Planning.{IsWayOf}
 use Rattle.spg_split.specs.Ways.{IsSplitWay, IsChainWay, Notes, NotesChain}
-use Rattle.spg_split.proofs.Reading.{length-all_live}
+use Rattle.spg_chain.proofs.LiveLists.{length-all_live}
 use Rattle.spg_split.proofs.Taken.{with_length}
 
 -- the bytes of the parts at a root

@@ -24,12 +24,14 @@ use Rattle.spg_tree.specs.Table.{Table, sheets_of, tuples_at, tuple_at}
 use Rattle.spg_tree.specs.declared.want.Want.{Want}
 use Rattle.spg_split.specs.declared.homes.Homes.{Homes}
 use Rattle.spg_split.specs.Homes.{AreHomes}
-use Rattle.spg_split.specs.Placing.{chained, placed}
+use Rattle.spg_split.specs.Placing.{placed}
+use Rattle.spg_chain.specs.Listed.{chained}
 use Rattle.spg_split.specs.Writing.{taken_from, parted_table, MayPart}
-use Rattle.spg_split.proofs.Room.{added_live}
-use Rattle.spg_split.proofs.Totals.{total, count, placed_differs}
+use Rattle.spg_chain.proofs.Room.{added_live}
+use Rattle.spg_split.proofs.Totals.{total, placed_differs}
+use Rattle.spg_chain.proofs.ListTotals.{count}
 use Rattle.spg_split.proofs.Written as written
-use Rattle.spg_split.proofs.Written.{tuples_same, tuples_other}
+use Rattle.spg_tree.proofs.Pages.{tuples_same, tuples_other, pages_same}
 
 -- ---- a redirect stays where it is while leaves are put
 
@@ -96,7 +98,7 @@ module _ (t u : Table) (x p : Place) (i q c : ℕ) (inner : Tuple) (L : ℕ → 
   lz = with_tuple (tuples_at t3 q) z.offset (Inner (frame_in (tuple_at t3 z)) ds)
 
   pub count_T : length T.pages ≡ length u.pages
-  count_T = written.pages_same t4 p.block lp ∙ written.count4 u x p i q c inner L k n M
+  count_T = pages_same t4 p.block lp ∙ written.count4 u x p i q c inner L k n M
 
   -- the tuple above
   p_here : tuples_at T p.block ≡ lp

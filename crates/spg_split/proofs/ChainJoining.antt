@@ -1,10 +1,9 @@
 -- The division of a chain, joined to the law: with the leaf of the insert and without it.
 use Rattle.std.proofs.Common.{◌≡◌, ℕ, suc, ◌+◌, ◌-◌, ◌≤◌, ◌<◌, ◌^◌, Bool, true, false, List, [], ◌∷◌, ◌++◌, ⊎_elim, Option, Some, None, is_none, is_some, get_or, slice_index, set, length, take, refl, sym, ap, ◌∙◌, subst, inl, inr, arith}
 use mathlib.Core.Path.{fun_ext}
-use Rattle.std.proofs.Math.Seq.{take-length}
+use Rattle.std.proofs.Math.Seq.{take-length, get_or-append_right}
 use Rattle.std.proofs.lemmas.Bool.{cases_lt}
 use Rattle.std.proofs.lemmas.List.{get_or-take, length-take-le, get_or_append_left}
-use Rattle.std.proofs.Math.Seq.{get_or-append_right}
 use Rattle.spg_base.specs.Row.{RowAt}
 use Rattle.spg_opclass.specs.Meaning.{Meaning}
 use Rattle.spg_opclass.specs.Laws.{CodeLaw}
@@ -38,7 +37,7 @@ use Rattle.spg_tree.specs.declared.stand.Stand.TheVariants.{At}
 use Rattle.spg_descend.specs.Carried.{carried, IsCarried}
 use Rattle.spg_descend.specs.Follows.{tuple_place, IsAtInner, link_of}
 use Rattle.spg_descend.specs.Rules.{MayMove}
-use Rattle.spg_descend.specs.Below.{IsAtChain, IsTicked}
+use Rattle.spg_descend.specs.Below.{IsAtChain, IsTicked, IsLedTo}
 use Rattle.spg_descend.specs.Makes.{MakesOne, IsNextTo}
 use Rattle.spg_split.specs.declared.division.Division.{Division}
 use Rattle.spg_split.specs.declared.parts.Parts.{Parts}
@@ -47,7 +46,7 @@ use Rattle.spg_split.specs.declared.plan.Plan.{Plan}
 use Rattle.spg_split.specs.declared.homes.Homes.{Homes}
 use Rattle.spg_split.specs.declared.part.Parting.{Parting}
 use Rattle.spg_split.specs.Splits.{split_cost}
-use Rattle.spg_split.specs.Below.{SplitsWith, SplitsWithout, IsLedTo, MakesBelow}
+use Rattle.spg_split.specs.Below.{SplitsWith, SplitsWithout, MakesBelow}
 use Rattle.spg_split.specs.Ways.{IsChainWay}
 use Rattle.spg_split.specs.Planning.{IsPlanOf, IsWayOf, from_node, bytes_away, left_at}
 use Rattle.spg_split.specs.Nodes.{IsOnlyNode}
@@ -56,10 +55,13 @@ use Rattle.spg_split.specs.declared.put.Parted.TheVariants.{With, Without}
 use Rattle.spg_split.specs.Dividing.{IsDivided, division_of, rows_of}
 use Rattle.spg_split.specs.Causes.{IsCauseOf, tuples_divided, leaves_below, chain_bytes}
 use Rattle.spg_split.specs.Homes.{blocks_touched}
-use Rattle.spg_split.specs.Placing.{taken_by, leaves_with, leaves_in, downlinks}
-use Rattle.spg_split.specs.Parts.{ArePartsOf, AreReady, bare}
+use Rattle.spg_split.specs.Placing.{taken_by, leaves_with, downlinks}
+use Rattle.spg_chain.specs.Listed.{leaves_in}
+use Rattle.spg_split.specs.Parts.{ArePartsOf, AreReady}
+use Rattle.spg_descend.specs.BareNodes.{bare}
 use Rattle.spg_split.specs.Parting.{MayDivide, IsParted, put_by}
-use Rattle.spg_split.specs.Writing.{new_place, parted_table, MayPart}
+use Rattle.spg_split.specs.Writing.{parted_table, MayPart}
+use Rattle.spg_tree.specs.Writes.{new_place}
 use Rattle.spg_split.proofs.Makes.{chain_makes, homes_next}
 use Rattle.spg_split.proofs.Housing.{IsHoused}
 use Rattle.spg_split.proofs.Deciding.{homes_housed, may_part, x_same, p_same, put_each}
@@ -70,8 +72,9 @@ use Rattle.spg_split.proofs.Plans.{from_lighter, length-leaves_in}
 use Rattle.spg_split.proofs.Shrinking.{LeadsToLists, shrinks}
 use Rattle.spg_split.proofs.Standing.{slice_last}
 use Rattle.spg_split.proofs.Taken.{taken_list, taken_node, taken_rest, goes_without}
-use Rattle.spg_split.proofs.Totals.{total, total_split, total_all, count, count_sum, but_first, but_first_one, but_first_two, taken_some}
-use Rattle.spg_split.proofs.Reading.{leaves_in_live}
+use Rattle.spg_split.proofs.Totals.{total, total_split, total_all, count_sum, but_first_one, but_first_two, taken_some}
+use Rattle.spg_chain.proofs.ListTotals.{count, but_first}
+use Rattle.spg_chain.proofs.LiveLists.{leaves_in_live}
 use Rattle.spg_split.proofs.ChainStanding as standing
 use Rattle.spg_split.proofs.ChainLaw as law
 use Rattle.spg_split.proofs.Written as written

@@ -23,14 +23,18 @@ use Rattle.spg_forest.proofs.Writes.{high_spot, inner_at}
 use Rattle.spg_page.specs.Reads.{frame_in}
 use Rattle.spg_page.proofs.SheetFacts.{free_place_free}
 use Rattle.spg_tree.specs.Table.{Table, sheets_of, tuples_at, tuple_at, with_link}
-use Rattle.spg_split.specs.Parts.{bare}
-use Rattle.spg_split.specs.Placing.{head_of, chained, downlink, downlinks, HaveRooms}
-use Rattle.spg_split.specs.Writing.{new_place, parted_table, MayPart}
+use Rattle.spg_descend.specs.BareNodes.{bare}
+use Rattle.spg_split.specs.Placing.{head_of, downlink, downlinks, HaveRooms}
+use Rattle.spg_chain.specs.Listed.{chained}
+use Rattle.spg_split.specs.Writing.{parted_table, MayPart}
+use Rattle.spg_tree.specs.Writes.{new_place}
 use Rattle.spg_split.proofs.Chaining.{downlinks_length}
-use Rattle.spg_split.proofs.Totals.{total, but_first}
+use Rattle.spg_split.proofs.Totals.{total}
+use Rattle.spg_chain.proofs.ListTotals.{but_first}
 use Rattle.spg_split.proofs.Written as written
 use Rattle.spg_split.proofs.TwoPages.{AddsLists, join_lists, cleared_spots, parted_spots, parted_lists}
-use Rattle.spg_split.proofs.ChainPages.{Stage, ListsStage, begin_stage, added_stage, taken_stage, lists_stage, linked_stage}
+use Rattle.spg_split.proofs.ChainPages.{ListsStage, added_stage, taken_stage, lists_stage, linked_stage}
+use Rattle.spg_descend.proofs.Stages.{Stage, begin_stage}
 
 -- each downlink leads to the page of its list
 downlink_block : (b : ℕ) (ts : List Tuple) (L : ℕ → List Leaf) (k n i : ℕ) (y : Place) → get_or (downlinks b ts L k n) i None ≡ Some y → y.block ≡ b

@@ -26,17 +26,19 @@ use Rattle.spg_split.specs.declared.homes.Homes.{Homes}
 use Rattle.spg_split.specs.declared.part.Parting.{Parting}
 use Rattle.spg_split.specs.Planning.{from_node}
 use Rattle.spg_split.specs.Dividing.{IsDivided, rows_of}
-use Rattle.spg_split.specs.Homes.{fits_above, inner_want, rest_want, another}
+use Rattle.spg_split.specs.Homes.{fits_above, inner_want, rest_want}
+use Rattle.spg_tree.specs.Another.{another}
 use Rattle.spg_split.specs.Placing.{taken_by}
 use Rattle.spg_split.specs.Parts.{ArePartsOf, AreReady}
 use Rattle.spg_split.specs.Parting.{MayDivide, IsParted, put_by}
 use Rattle.spg_split.specs.Writing.{parted_table, MayPart}
 use Rattle.spg_split.proofs.Housing.{IsHoused}
 use Rattle.spg_split.proofs.Deciding.{plan_of_put, homes_housed, may_part}
-use Rattle.spg_split.proofs.BlocksTouched.{another_is, another_once}
+use Rattle.spg_tree.proofs.Among.{another_is, another_once}
 use Rattle.spg_split.proofs.ChainExact.{rest_away, count_T, p_written, x_written, q_written, c_written}
 use Rattle.spg_split.proofs.Plans.{total_from, length-leaves_in}
-use Rattle.spg_split.proofs.Totals.{total, count, count_sum}
+use Rattle.spg_split.proofs.Totals.{total, count_sum}
+use Rattle.spg_chain.proofs.ListTotals.{count}
 use Rattle.spg_split.proofs.ChainStanding as standing
 
 module _ {Key Recon Cond : Type 0} (m : Meaning Key Recon Cond) (codes : CodeLaw m) (t : Table) (d : Descending Recon) (x p : Place) (i : ℕ) (H : Shape m (sheets_of t)) (st : d.stand ≡ At x) (pr : d.parent ≡ Some (p, i)) (A : IsAtChain t d)

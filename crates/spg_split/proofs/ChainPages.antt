@@ -1,20 +1,19 @@
 -- The pages while a chain below a root is divided: what each write shows, and what it costs.
 use Rattle.std.proofs.Common.{◌≡◌, ℕ, zero, suc, ◌+◌, ◌-◌, ◌≤◌, ◌<◌, Bool, true, false, List, ◌⊎◌, ⊎_elim, Option, Some, None, get_or, length, length-set, refl, sym, ap, ◌∙◌, subst, inl, inr, arith}
-use Rattle.std.specs.Prelude.{nat_le}
-use Rattle.std.proofs.lemmas.Bool.{cases_eq, cond-true, le-leb}
+use Rattle.std.proofs.lemmas.Bool.{cases_eq}
 use Rattle.spg_opclass.specs.Meaning.{Meaning}
 use Rattle.spg_forest.specs.View.{Place, Leaf}
 use Rattle.spg_forest.specs.Spot.{Frame, Spot, Branch, Bucket, Forward, IsIn, put_at}
 use Rattle.spg_forest.specs.Tuples.{Tuple, Inner, Live, Redirect, Placeholder}
-use Rattle.spg_forest.specs.Pages.{place, tuple_on, with_tuple, IsShown}
-use Rattle.spg_forest.specs.Sheets.{Sheet, Sheets, sheet_at, with_tuples, pages_of, size_of, free_place}
-use Rattle.spg_forest.specs.Shape.{ArePages, IsTupleOf, IsRestOf, AreNodes}
-use Rattle.spg_forest.specs.Walk.{spread, page_spread, spread_on, spread_at, lives_on, is_live}
-use Rattle.spg_forest.specs.Edits.{with_sheet, tuple_of, put, CanPut, MayStand, AreChanged, spot_of}
+use Rattle.spg_forest.specs.Pages.{place, tuple_on, with_tuple}
+use Rattle.spg_forest.specs.Sheets.{Sheets, sheet_at, with_tuples, size_of, free_place}
+use Rattle.spg_forest.specs.Shape.{IsTupleOf, IsRestOf, AreNodes}
+use Rattle.spg_forest.specs.Walk.{spread, spread_at, is_live}
+use Rattle.spg_forest.specs.Edits.{with_sheet, tuple_of, put, CanPut, MayStand, spot_of}
 use Rattle.spg_forest.proofs.Blocks.{with_block}
 use Rattle.spg_forest.proofs.ChainWrites.{block_shown}
-use Rattle.spg_forest.proofs.Edits.{sheet_laid, sheet_same, sheet_other, sheet_shown, write_shown}
-use Rattle.spg_forest.proofs.Stock.{changed_none, changed_page, changed_put, spread_set, spread_put}
+use Rattle.spg_forest.proofs.Edits.{sheet_laid, sheet_shown, write_shown}
+use Rattle.spg_forest.proofs.Stock.{changed_page, changed_put, spread_set, spread_put}
 use Rattle.spg_forest.proofs.Puts.{may_leaf}
 use Rattle.spg_forest.proofs.Writes.{inner_at}
 use Rattle.spg_page.specs.Changes.{room_of}
@@ -22,32 +21,18 @@ use Rattle.spg_page.specs.Kinds.{IsOffset}
 use Rattle.spg_page.proofs.SheetFacts.{free_place_free, free_place_length, weight-replaced, added_fits}
 use Rattle.spg_chain.specs.Chains.{IsChainedPage, BeginsChain}
 use Rattle.spg_chain.proofs.Taking.{takes_laid_out}
-use Rattle.spg_split.specs.Parts.{bare}
+use Rattle.spg_descend.specs.BareNodes.{bare}
 use Rattle.spg_split.specs.Writing.{taken_from}
+use Rattle.spg_descend.proofs.Stages.{Stage, high_spread, kinds_set}
 use Rattle.spg_split.proofs.Emptying.{chain_taken}
-use Rattle.spg_split.proofs.Room.{least_weight}
+use Rattle.spg_chain.proofs.Room.{least_weight}
 use Rattle.spg_split.specs.Placing.{placed, downlinks, HaveRooms}
 use Rattle.spg_split.proofs.Chaining.{ShowsLists, shows_lists, placed_tuple}
-use Rattle.spg_split.proofs.Totals.{placed_fits, total, but_first, placed_spread}
+use Rattle.spg_split.proofs.Totals.{placed_fits, total, placed_spread}
+use Rattle.spg_chain.proofs.ListTotals.{but_first}
 use Rattle.spg_split.proofs.TwoPages.{AddsLists, page_lists}
 
--- S2 shows V, and came from S by writes on these pages
-pub record Stage {Key Recon Cond : Type 0} (m : Meaning Key Recon Cond) (S S2 : Sheets) (V : Place → Spot) : Type 0 where
-  pub shown : IsShown (pages_of S2) V
-  pub changed : AreChanged m S S2
-  pub count : length S2.sheets ≡ length S.sheets
-  pub kinds : (b : ℕ) → ((sheet_at S2 b).inner ≡ (sheet_at S b).inner) × ((sheet_at S2 b).nulls ≡ (sheet_at S b).nulls)
-
-high_spread : (b : ℕ) (ts : List Tuple) → 3 ≤ b → page_spread b ts ≡ spread_on ts
-high_spread b ts h = let e = cond-true (nat_le 3 b) 0 (lives_on ts - 1) (le-leb 3 b h) in omega arith
-
 module _ {Key Recon Cond : Type 0} (m : Meaning Key Recon Cond) (S : Sheets) where
-  kinds_set : (S1 : Sheets) (b : ℕ) (ts : List Tuple) → b < length S1.sheets → (d : ℕ) → ((sheet_at (with_sheet S1 b (with_tuples (sheet_at S1 b) ts)) d).inner ≡ (sheet_at S1 d).inner) × ((sheet_at (with_sheet S1 b (with_tuples (sheet_at S1 b) ts)) d).nulls ≡ (sheet_at S1 d).nulls)
-  kinds_set S1 b ts h d = ⊎_elim
-      (λ e. let q : sheet_at (with_sheet S1 b (with_tuples (sheet_at S1 b) ts)) d ≡ with_tuples (sheet_at S1 b) ts = ap (sheet_at (with_sheet S1 b (with_tuples (sheet_at S1 b) ts))) e ∙ sheet_same S1 b (with_tuples (sheet_at S1 b) ts) h in
-      (ap (λ (s : Sheet). s.inner) q ∙ ap (λ i. (sheet_at S1 i).inner) (sym e), ap (λ (s : Sheet). s.nulls) q ∙ ap (λ i. (sheet_at S1 i).nulls) (sym e)))
-      (λ n. let q = sheet_other S1 b (with_tuples (sheet_at S1 b) ts) d n in (ap (λ (s : Sheet). s.inner) q, ap (λ (s : Sheet). s.nulls) q)) (cases_eq d b)
-
   -- lists put on a page
   pub record ListsStage (S1 : Sheets) (V : Place → Spot) (b : ℕ) (L : ℕ → List Leaf) (k n : ℕ) : Type 0 where
     pub spots : Place → Spot
@@ -85,9 +70,6 @@ module _ {Key Recon Cond : Type 0} (m : Meaning Key Recon Cond) (S : Sheets) whe
           (λ (j, l, i, a, e). inr (subst (λ (t : Tuple). MayStand m (with_sheet S1 b (with_tuples (sheet_at S1 b) (placed (sheet_at S1 b).tuples L k n))) (place b o) t) (sym e)
           (let (p, q) = kinds_set S1 b us there1 b in let (r, s) = G.kinds b in
           may_leaf m (with_sheet S1 b (with_tuples (sheet_at S1 b) (placed (sheet_at S1 b).tuples L k n))) (place b o) l i (p ∙ r ∙ leaf) (subst (λ (x : Bool). IsRestOf m x l.rest) (sym (q ∙ s)) (rests j l a))))) (placed_tuple (sheet_at S1 b).tuples L k n o)
-
-  pub begin_stage : (V : Place → Spot) → ArePages m S → IsShown (pages_of S) V → Stage m S S V
-  begin_stage V A H = record { shown = H; changed = changed_none m S A; count = refl; kinds = λ b. (refl, refl) }
 
   put_kinds : (S1 : Sheets) (V : Place → Spot) (x : Place) (t : Tuple) → Stage m S S1 V → x.block < length S1.sheets → (d : ℕ) → ((sheet_at (put S1 x t) d).inner ≡ (sheet_at S d).inner) × ((sheet_at (put S1 x t) d).nulls ≡ (sheet_at S d).nulls)
   put_kinds S1 V x t G h d = let (a, c) = kinds_set S1 x.block (with_tuple (sheet_at S1 x.block).tuples x.offset t) h d in let (e, f) = G.kinds d in (a ∙ e, c ∙ f)

@@ -35,12 +35,14 @@ use Rattle.spg_descend.specs.Below.{IsChainBelow, IsAtChain, IsLink}
 use Rattle.spg_split.specs.declared.division.Division.{Division}
 use Rattle.spg_split.specs.declared.parts.Parts.{Parts}
 use Rattle.spg_split.specs.Dividing.{GiveKeys, IsDivided, rows_of}
-use Rattle.spg_split.specs.Placing.{leaves_with, leaves_in}
-use Rattle.spg_split.specs.Parts.{ArePartsOf, AreReady, bare}
+use Rattle.spg_split.specs.Placing.{leaves_with}
+use Rattle.spg_chain.specs.Listed.{leaves_in}
+use Rattle.spg_split.specs.Parts.{ArePartsOf, AreReady}
+use Rattle.spg_descend.specs.BareNodes.{bare}
 use Rattle.spg_split.specs.Parting.{MayDivide}
 use Rattle.spg_split.proofs.Emptying.{chain_emptied, gaps_least}
-use Rattle.spg_split.proofs.Reading.{leaves_in_live, length-all_live}
-use Rattle.spg_split.proofs.Room.{least_weight}
+use Rattle.spg_chain.proofs.LiveLists.{leaves_in_live, length-all_live}
+use Rattle.spg_chain.proofs.Room.{least_weight}
 use Rattle.spg_split.proofs.Standing.{rest_fits, tuple_fits, two_fit, give_from, in_cases, no_repeat, slice_first}
 use Rattle.spg_split.proofs.Taken.{with_length, without_last, lighter}
 

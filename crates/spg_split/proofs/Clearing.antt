@@ -1,28 +1,24 @@
 -- A root leaf page on its way to an inner page.
 use Rattle.std.proofs.Common.{◌≡◌, ℕ, zero, suc, ◌+◌, ◌-◌, ◌≤◌, ◌<◌, List, [], ◌∷◌, ◌++◌, Option, Some, None, IfSome, length, length-append, set, take, get_or, slice_get, nat_le, refl, sym, ap, ap₂, ◌∙◌, subst, arith}
 use Rattle.std.proofs.lemmas.Bool.{cond-false, lt-leb}
-use Rattle.std.proofs.lemmas.List.{length-replicate}
+use Rattle.std.proofs.lemmas.List.{length-replicate, take_more, length-take-le}
 use Rattle.std.proofs.lemmas.Option.{slice_get-get_or}
-use Rattle.spg_forest.specs.Tuples.{put_on}
-use Rattle.spg_forest.specs.Sheets.{links as links_of}
+use Rattle.spg_forest.specs.Tuples.{put_on, Tuple, Inner, Live, Placeholder}
+use Rattle.spg_forest.specs.Sheets.{links as links_of, Sheet, with_tuples, linked}
 use Rattle.spg_forest.proofs.Chain.{put_on_same}
 use Rattle.spg_forest.proofs.Edits.{tuple_on-with}
 use Rattle.spg_forest.proofs.Writes.{with_tuple_longer}
 use Rattle.spg_chain.proofs.Laid.{with_tuple_again}
-use Rattle.spg_page.specs.Reads.{frame_in}
+use Rattle.spg_page.specs.Reads.{frame_in, no_leaf}
 use Rattle.std.specs.List.{remove}
-use Rattle.std.proofs.lemmas.List.{take_more, length-take-le}
 use Rattle.std.proofs.Math.Seq.{set-append_seam}
 use Rattle.spg_forest.specs.View.{Place}
-use Rattle.spg_forest.specs.Tuples.{Tuple, Inner, Live, Placeholder}
 use Rattle.spg_forest.specs.Pages.{tuple_on, with_tuple}
 use Rattle.spg_forest.specs.Spot.{Frame}
-use Rattle.spg_forest.specs.Sheets.{Sheet, with_tuples, linked}
 use Rattle.spg_page.specs.Kinds.{IsOffset, IsLive}
-use Rattle.spg_page.specs.Reads.{no_leaf}
 use Rattle.spg_forest.specs.Links.{leaves_on}
 use Rattle.spg_split.specs.Dividing.{AreAllLive}
-use Rattle.spg_split.specs.Parts.{bare}
+use Rattle.spg_descend.specs.BareNodes.{bare}
 use Rattle.spg_split.proofs.Reading.{live_at}
 
 -- the last of the first k tuples

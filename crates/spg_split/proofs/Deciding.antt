@@ -17,15 +17,18 @@ use Rattle.spg_split.specs.declared.plan.Left.{Left}
 use Rattle.spg_split.specs.declared.plan.Plan.{Plan}
 use Rattle.spg_split.specs.declared.homes.Homes.{Homes}
 use Rattle.spg_split.specs.Parts.{AreReady}
-use Rattle.spg_split.specs.Placing.{taken_by, placed, leaves_in, HaveRooms}
+use Rattle.spg_split.specs.Placing.{taken_by, placed, HaveRooms}
+use Rattle.spg_chain.specs.Listed.{leaves_in}
 use Rattle.spg_split.specs.Planning.{from_node, IsPlanOf, IsPlan, IsLeft}
 use Rattle.spg_split.specs.Homes.{PicksHomes}
 use Rattle.spg_split.specs.Parting.{MayDivide, put_by}
-use Rattle.spg_split.specs.Writing.{new_place, taken_from, added_table, cleared_table, lists_table, MayPart}
+use Rattle.spg_split.specs.Writing.{taken_from, cleared_table, lists_table, MayPart}
+use Rattle.spg_tree.specs.Writes.{new_place, added_table}
 use Rattle.spg_split.proofs.Plans.{stay_rooms, stay_few, rest_rooms}
 use Rattle.spg_split.proofs.Totals.{take_live, placed_fits}
-use Rattle.spg_split.proofs.Housing.{IsHoused, held, housed}
-use Rattle.spg_split.proofs.Written.{tuples_same, tuples_other, pages_same}
+use Rattle.spg_split.proofs.Housing.{IsHoused, housed}
+use Rattle.spg_tree.proofs.PickedPages.{held}
+use Rattle.spg_tree.proofs.Pages.{tuples_same, tuples_other, pages_same}
 
 pub from_few : (k : ℕ) (ts : List Tuple) (nodes : List ℕ) → length (from_node k ts nodes) ≤ length ts
 from_few k [] nodes = omega arith

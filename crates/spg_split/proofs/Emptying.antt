@@ -21,7 +21,7 @@ use Rattle.spg_chain.proofs.Taking.{AreWithin, live_within, emptied-length, empt
 use Rattle.std.proofs.lemmas.List.{length-map}
 use Rattle.spg_split.specs.Planning.{IsLeft}
 use Rattle.spg_split.specs.Writing.{taken_from}
-use Rattle.spg_split.proofs.Room.{least_weight}
+use Rattle.spg_chain.proofs.Room.{least_weight}
 
 behind : (T : ℕ → Tuple) (o : ℕ) → IsHead T o → (k : ℕ) (y : Leaf) (os : List ℕ) (ls : List Leaf) → T k ≡ Live y (first_of os) → IsChainOf T os ls → IsChainOf (put_on T o Placeholder) os ls
 behind T o d k y [] [] e c = tt

@@ -26,7 +26,8 @@ use Rattle.spg_split.specs.declared.put.Parted.TheVariants.{With, Without}
 use Rattle.spg_split.specs.Causes.{tuples_divided, leaves_below, chain_bytes}
 use Rattle.spg_split.specs.Dividing.{IsDivided, division_of, rows_of}
 use Rattle.spg_split.specs.Fulls.{those_put, gone, size_gone, AreFull, AreHomesFull, IsChainFull, IsChainFullAt, IsFullBelow, IsPartingFull, IsPuttingFull, IsRootFull}
-use Rattle.spg_split.specs.Parts.{ArePartsOf, IsWay, bare, going, lists_want}
+use Rattle.spg_split.specs.Parts.{ArePartsOf, IsWay, going, lists_want}
+use Rattle.spg_descend.specs.BareNodes.{bare}
 use Rattle.spg_split.specs.Placing.{leaves_with}
 use Rattle.spg_split.specs.Planning.{IsLeft, IsPlan, IsPlanOf, bytes_away, from_node, left_at}
 use Rattle.spg_split.specs.Homes.{AreHomes, fits_above, inner_want, rest_want}

@@ -12,9 +12,10 @@ use Rattle.spg_chain.specs.Added.{IsLeafIn}
 use Rattle.spg_split.specs.declared.placing.Ends.{Ends}
 use Rattle.spg_split.specs.Ends.{last_of, head_or}
 use Rattle.spg_forest.specs.Pages.{all_live}
-use Rattle.spg_split.specs.Placing.{taken_by, chained, head_of, HaveRoom, leaves_in}
-use Rattle.spg_split.proofs.Reading.{unlinked_at}
-use Rattle.spg_split.proofs.Room.{first_room, rest_room, added_change, added_live}
+use Rattle.spg_split.specs.Placing.{taken_by, head_of}
+use Rattle.spg_chain.specs.Listed.{chained, HaveRoom, leaves_in}
+use Rattle.spg_chain.proofs.LiveLists.{unlinked_at}
+use Rattle.spg_chain.proofs.Room.{first_room, rest_room, added_change, added_live}
 
 -- the leaves ls were to be put on the page p; the leaves `rest` are still to be put on the page q
 pub record IsGrowing (p : Sheet) (ls : List Leaf) (q : Sheet) (ends : Option Ends) (rest : List Leaf) : Type 0 where

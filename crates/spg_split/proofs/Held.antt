@@ -1,6 +1,5 @@
 -- A division touches no block that another seat has latched.
 use Rattle.std.proofs.Common.{◌≡◌, ℕ, ◌+◌, ◌-◌, ◌<◌, ◌≤◌, ◌||◌, nat_eq, nat_le, Bool, true, false, List, [], ◌∷◌, ◌++◌, Some, ◌⊎◌, ⊎_elim, length, ap, ◌∙◌, subst, sym, inl, inr, arith}
-use Rattle.std.specs.Prelude.{Result, Ok, Err, IfOk, OnOk}
 use Rattle.std.specs.List.{range_with_len}
 use Rattle.spg_forest.specs.View.{Place}
 use Rattle.spg_forest.specs.Tuples.{Tuple, IsAmong}
@@ -15,24 +14,15 @@ use Rattle.spg_split.specs.declared.parts.Parts.{Parts}
 use Rattle.spg_split.specs.declared.part.Parting.{Parting}
 use Rattle.spg_split.specs.declared.plan.ListSize.{ListSize}
 use Rattle.spg_split.specs.declared.homes.Homes.{Homes}
-use Rattle.spg_split.specs.Homes.{AreHomes, fits_above, inner_want, rest_want, another, blocks_touched}
+use Rattle.spg_split.specs.Homes.{AreHomes, fits_above, inner_want, rest_want, blocks_touched}
+use Rattle.spg_tree.specs.Another.{another}
 use Rattle.spg_split.specs.Parts.{PutsLists, lists_want}
 use Rattle.spg_split.specs.Parting.{IsParted}
 use Rattle.spg_split.specs.Ways.{NotesChain}
 use Rattle.spg_split.specs.declared.put.Parted.{Parted}
 use Rattle.spg_split.specs.declared.put.Parted.TheVariants.{With, Without}
 use Rattle.spg_split.specs.declared.split.SplitOut.{SplitOut}
-use Rattle.spg_split.proofs.BlocksTouched.{left_among, right_among, range_among, another_cases}
-
--- a fact of each good outcome
-pub on_ok_then : {A E : Type 0} (r : Result A E) (P : A → Type 0) (Q : Type 0) → ((a : A) → P a → Q) → IfOk r P → OnOk r Q
-on_ok_then (Ok a) P Q h p = h a p
-on_ok_then (Err b) P Q h p = tt
-
--- a fact of each good outcome from two
-pub on_ok_both : {A E : Type 0} (r : Result A E) (P1 P2 : A → Type 0) (Q : Type 0) → ((a : A) → P1 a → P2 a → Q) → IfOk r P1 → IfOk r P2 → OnOk r Q
-on_ok_both (Ok a) P1 P2 Q h p q = h a p q
-on_ok_both (Err b) P1 P2 Q h p q = tt
+use Rattle.spg_tree.proofs.Among.{left_among, right_among, range_among, another_cases}
 
 -- a division at a root
 pub root_held : {Recon : Type 0} (t t2 : Table) (d : Descending Recon) (root seat : ℕ) (p : Parts) (leaves : List Tuple) → d.stand ≡ Root root → PutsLists t t2 root seat p leaves → TouchesFree t t2 d seat

@@ -1,58 +1,18 @@
 -- What is known of the pages that were picked for a division below a root.
-use Rattle.std.proofs.Common.{◌≡◌, ℕ, ◌+◌, ◌≤◌, ◌<◌, ◌&&◌, nat_le, Bool, true, false, List, [], ◌⊎◌, ⊎_elim, Option, Some, length, length-set, refl, sym, ap, ◌∙◌, subst, inl, inr, arith}
-use Rattle.std.specs.Prelude.{if◌then◌else◌}
-use Rattle.std.proofs.lemmas.Bool.{cases_eq, cases_lt, leb-true, leb-false}
-use Rattle.std.proofs.lemmas.List.{get_or_past}
+use Rattle.std.proofs.Common.{◌≡◌, ℕ, ◌+◌, ◌≤◌, ◌<◌, ◌&&◌, nat_le, Bool, true, false, List, [], ◌⊎◌, Some, length, refl, sym, ap, ◌∙◌, subst, inl, inr, arith}
+use Rattle.std.proofs.lemmas.Bool.{leb-true, leb-false}
 use Rattle.spg_forest.specs.Tuples.{Tuple}
-use Rattle.spg_forest.specs.Sheets.{Sheet, blank}
+use Rattle.spg_forest.specs.Sheets.{Sheet}
 use Rattle.spg_forest.specs.Edits.{IsPicked as IsPickedIn}
-use Rattle.spg_forest.proofs.Edits.{sheet_same}
 use Rattle.spg_page.specs.Changes.{room_of}
 use Rattle.spg_tree.specs.Table.{Table, sheets_of, sheet_at, tuples_at, latch_at}
 use Rattle.spg_tree.specs.declared.want.Want.{Want}
-use Rattle.spg_tree.specs.Pick.{Picks, first_from, has_parity, fresh}
-use Rattle.spg_tree.specs.Picked.{IsPicked}
 use Rattle.spg_tree.specs.Two.{after_first}
 use Rattle.spg_descend.proofs.Picked.{picks_leaf}
+use Rattle.spg_tree.proofs.PickedPages.{picks_page, held}
 use Rattle.spg_split.specs.declared.plan.ListSize.{ListSize}
 use Rattle.spg_split.specs.declared.homes.Homes.{Homes}
 use Rattle.spg_split.specs.Homes.{AreHomes, PicksHomes, fits_above, inner_want, rest_want}
-
-past_none : (t : Table) (c : ℕ) → length t.pages ≤ c → sheet_at t c ≡ blank false
-past_none t c h = get_or_past t.pages c (blank false) h
-
-first_past : (n : ℕ) (p : Option ℕ) → n ≤ first_from n p
-first_past n p = go (has_parity p n) (has_parity p (n + 1))
-  where
-    go : (a b : Bool) → n ≤ (if a then n else (if b then n + 1 else n + 2))
-    go true b = omega arith
-    go false true = omega arith
-    go false false = omega arith
-
--- a pick of any page
-record PicksAny (t t1 : Table) (b : ℕ) : Type 0 where
-  pages : IsPickedIn (sheets_of t) (sheets_of t1)
-  others : (c : ℕ) → (c ≡ b → ⊥) → (c < length t.pages) ⊎ (length t1.pages ≤ c) → sheet_at t1 c ≡ sheet_at t c
-
-picks_any : (t t1 : Table) (w : Want) (b : ℕ) → 3 ≤ length t.pages → IsPicked t w b t1 → Picks t w b t1 → PicksAny t t1 b
-picks_any t t1 w b roots P Q = record {
-  pages = record { clock = P.clock; count = P.least; same = λ c. ⊎_elim (λ e. subst (λ i. Same i) (sym e) (here Q)) (λ n. ⊎_elim (λ h. inl (P.others c h n)) (λ h. behind c h) (cases_lt c (length t.pages))) (cases_eq c b) };
-  others = λ c n k. ⊎_elim (λ h. P.others c h n) (λ h. let m = P.least in past_none t1 c h ∙ sym (past_none t c (omega arith))) k;
-}
-  where
-    Same : ℕ → Type 0
-    Same c = (sheet_at t1 c ≡ sheet_at t c) ⊎ ((3 ≤ c) × (tuples_at t c ≡ []) × (tuples_at t1 c ≡ []))
-
-    behind : (c : ℕ) → length t.pages ≤ c → Same c
-    behind c h = let e : tuples_at t c ≡ [] = ap (λ (s : Sheet). s.tuples) (past_none t c h) in inr (omega arith, e, P.tuples c ∙ e)
-
-    here : Picks t w b t1 → Same b
-    here (inl R) = inl (ap (λ (z : Table). sheet_at z b) R.same)
-    here (inr (inl V)) =
-        let k = ap (λ (z : Table). length z.pages) V.after ∙ length-set t.pages b (fresh w) in
-        let e : tuples_at t1 b ≡ [] = ap (λ (z : Table). tuples_at z b) V.after ∙ ap (λ (s : Sheet). s.tuples) (sheet_same (sheets_of t) b (fresh w) (let a = P.there in omega arith)) in
-        inr (P.from, sym (P.tuples b) ∙ e, e)
-    here (inr (inr N)) = let e = N.block in let f = first_past (length t.pages) w.parity in behind b (omega arith)
 
 picked_twice : (t t1 t2 : Table) → IsPickedIn (sheets_of t) (sheets_of t1) → IsPickedIn (sheets_of t1) (sheets_of t2) → IsPickedIn (sheets_of t) (sheets_of t2)
 picked_twice t t1 t2 A B = record { clock = B.clock ∙ A.clock; count = let a = A.count in let b = B.count in omega arith; same = λ b. go b (A.same b) (B.same b) }
@@ -66,10 +26,6 @@ picked_twice t t1 t2 A B = record { clock = B.clock ∙ A.clock; count = let a =
 
 picked_none : (t : Table) → IsPickedIn (sheets_of t) (sheets_of t)
 picked_none t = record { clock = refl; count = omega arith; same = λ b. inl refl }
-
--- a page with a tuple is as it was
-pub held : (t t2 : Table) (c : ℕ) → IsPickedIn (sheets_of t) (sheets_of t2) → (tuples_at t c ≡ [] → ⊥) → sheet_at t2 c ≡ sheet_at t c
-held t t2 c A n = ⊎_elim (λ e. e) (λ (g, e, f). absurd (n e)) (A.same c)
 
 and_both : (a b : Bool) → a && b ≡ true → (a ≡ true) × (b ≡ true)
 and_both true b e = (refl, e)
@@ -137,7 +93,7 @@ module _ (t : Table) (b p need seat : ℕ) (rest : ListSize) (roots : 3 ≤ leng
   housed_by true true t2 h ex ey (hi, Q, P) =
       let (f, r) = and_both (nat_le 3 p) (nat_le need (room_of (tuples_at t p) 1)) ex in
       let pf = leb-true 3 p f in let pr = leb-true need (room_of (tuples_at t p) 1) r in
-      let A = picks_any t t2 v h.rest roots P Q in
+      let A = picks_page t t2 v h.rest roots P Q in
       let B = picks_leaf t t2 v h.rest roots refl P Q in
       let e : sheet_at t2 h.inner ≡ sheet_at t p = ap (sheet_at t2) hi ∙ held t t2 p A.pages p_some in
       record {
@@ -163,7 +119,7 @@ module _ (t : Table) (b p need seat : ℕ) (rest : ListSize) (roots : 3 ≤ leng
       }
   housed_by false false t2 h ex ey (hr, Q, P) =
       let n = leb-false 1 rest.tuples ey in
-      let A = picks_any t t2 w h.inner roots P Q in
+      let A = picks_page t t2 w h.inner roots P Q in
       let e : sheet_at t2 h.rest ≡ sheet_at t b = ap (sheet_at t2) hr ∙ held t t2 b A.pages b_some in
       record {
         pages = A.pages;
@@ -191,8 +147,8 @@ module _ (t : Table) (b p need seat : ℕ) (rest : ListSize) (roots : 3 ≤ leng
       let n = leb-true 1 rest.tuples ey in
       let more1 = P1.least in
       let roots1 : 3 ≤ length P.between.pages = omega arith in
-      let A1 = picks_any t P.between w h.inner roots P1 P.first_picks in
-      let A2 = picks_any P.between t2 (after_first v h.inner) h.rest roots1 P2 P.second_picks in
+      let A1 = picks_page t P.between w h.inner roots P1 P.first_picks in
+      let A2 = picks_page P.between t2 (after_first v h.inner) h.rest roots1 P2 P.second_picks in
       let B = picks_leaf P.between t2 (after_first v h.inner) h.rest roots1 refl P2 P.second_picks in
       let e : sheet_at t2 h.inner ≡ sheet_at P.between h.inner = A2.others h.inner P.apart (inl P1.there) in
       record {

@@ -14,13 +14,12 @@ use Rattle.spg_forest.specs.Pages.{place, tuple_on, all_live, IsFresh, IsShown}
 use Rattle.spg_forest.specs.Links.{leaves_on}
 use Rattle.spg_forest.specs.Classes.{class_of, HasEntry}
 use Rattle.spg_forest.specs.Fit.{FitAt}
-use Rattle.spg_forest.specs.Sheets.{Sheet, Sheets, sheet_at, weight, size_of, pages_of, links}
+use Rattle.spg_forest.specs.Sheets.{Sheet, Sheets, sheet_at, weight, size_of, pages_of, links, with_tuples}
 use Rattle.spg_forest.specs.Shape.{Shape, spots, IsTupleOf, IsRestOf}
 use Rattle.spg_forest.specs.Section.{Adds, Leaves}
 use Rattle.spg_forest.specs.Walk.{page_spread, lives_on}
 use Rattle.spg_forest.specs.Divisions.{EachGoes, list_of, rests_of}
 use Rattle.spg_forest.specs.Edits.{with_sheet}
-use Rattle.spg_forest.specs.Sheets.{with_tuples}
 use Rattle.spg_forest.specs.Changes.{AreDivided, HasLists, Becomes}
 use Rattle.spg_forest.proofs.Changes.{divides_here, divides_here_without}
 use Rattle.spg_forest.proofs.Divisions.{divided_with, divided_from, in_list}
@@ -51,11 +50,13 @@ use Rattle.spg_split.specs.Splits.{split_cost, IsCalm, PartsWith, PartsWithout}
 use Rattle.spg_split.specs.Ways.{IsSplitWay}
 use Rattle.spg_split.specs.Nodes.{IsOnlyNode}
 use Rattle.spg_split.specs.Dividing.{IsDivided, rows_of}
-use Rattle.spg_split.specs.Placing.{taken_by, placed, downlinks, leaves_with, leaves_in, HaveRooms}
+use Rattle.spg_split.specs.Placing.{taken_by, placed, downlinks, leaves_with, HaveRooms}
+use Rattle.spg_chain.specs.Listed.{leaves_in}
 use Rattle.spg_split.specs.Parts.{ArePartsOf, AreReady, PutsLists, lists_want, IsWay, going}
-use Rattle.spg_split.proofs.Reading.{leaves_in_live, length-all_live}
+use Rattle.spg_chain.proofs.LiveLists.{leaves_in_live, length-all_live}
 use Rattle.spg_split.proofs.Taken.{taken_list, taken_node, taken_rest, goes_without}
-use Rattle.spg_split.proofs.Totals.{total, but_first, count, count_sum, total_all, lists_room, placed_spread, root_spread, but_first_one, but_first_two, taken_some}
+use Rattle.spg_split.proofs.Totals.{total, count_sum, total_all, lists_room, placed_spread, root_spread, but_first_one, but_first_two, taken_some}
+use Rattle.spg_chain.proofs.ListTotals.{but_first, count}
 use Rattle.spg_split.specs.Shrinks.{leaf_number, Shrinks}
 use Rattle.spg_split.proofs.Chaining.{downlink_there, downlink_none, downlinks_length}
 use Rattle.spg_split.proofs.Makes.{root_makes}

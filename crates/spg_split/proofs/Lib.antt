@@ -1,4 +1,3 @@
-pub mod Room
 pub mod Growing
 pub mod Reading
 pub mod Lists

@@ -5,7 +5,8 @@ use Rattle.std.proofs.Math.Seq.{drop-length}
 use Rattle.spg_forest.specs.View.{Place, Leaf}
 use Rattle.spg_forest.specs.Tuples.{Tuple}
 use Rattle.spg_forest.specs.Sheets.{Sheet, with_tuples}
-use Rattle.spg_split.specs.Placing.{chained, head_of, downlink, placed, downlinks, HaveRoom, HaveRooms}
+use Rattle.spg_split.specs.Placing.{head_of, downlink, placed, downlinks, HaveRooms}
+use Rattle.spg_chain.specs.Listed.{chained, HaveRoom}
 
 -- the lists L of the nodes from a on and below n were to be put on the page p; those from node k on are still to be put on the page q
 pub record IsPlacing (p : Sheet) (L : ℕ → List Leaf) (a n b : ℕ) (old : List (Option Place)) (q : Sheet) (to : List (Option Place)) (k : ℕ) : Type 0 where

@@ -21,7 +21,8 @@ use Rattle.spg_split.specs.declared.homes.Homes.{Homes}
 use Rattle.spg_split.specs.Homes.{AreHomes, PicksHomes, fits_above, inner_want, rest_want}
 use Rattle.spg_split.specs.Parts.{PutsLists}
 use Rattle.spg_split.specs.Placing.{placed, downlinks, taken_by, inner_root}
-use Rattle.spg_split.specs.Writing.{new_place, added_table, taken_from, lists_table, linked_table, both_tables, both_links, cleared_table, parted_table, MayPart}
+use Rattle.spg_split.specs.Writing.{taken_from, lists_table, linked_table, both_tables, both_links, cleared_table, parted_table, MayPart}
+use Rattle.spg_tree.specs.Writes.{new_place, added_table}
 use Rattle.spg_split.proofs.Chaining.{placed_tuple}
 use Rattle.spg_split.proofs.Written as written
 

@@ -1,5 +1,5 @@
 -- A fact of an outcome from another.
-use Rattle.std.specs.Prelude.{true, false, Result, Ok, Err, IfOk}
+use Rattle.std.specs.Prelude.{true, false}
 use Rattle.std.proofs.Common.{sym, subst, inl, inr}
 use Rattle.spg_opclass.specs.Meaning.{Meaning}
 use Rattle.spg_forest.specs.View.{Place}
@@ -10,10 +10,6 @@ use Rattle.spg_split.specs.declared.put.Parted.TheVariants.{With, Without}
 use Rattle.spg_split.specs.declared.split.SplitOut.{SplitOut}
 use Rattle.spg_split.specs.Below.{IsChainSplit, SplitsWithout, MakesBelow}
 use Rattle.spg_split.specs.Ways.{IsChainWay, NotesChain}
-
-pub if_ok_then : {A E : Type 0} (r : Result A E) (P Q : A → Type 0) → ((a : A) → P a → Q a) → IfOk r P → IfOk r Q
-if_ok_then (Ok a) P Q h p = h a p
-if_ok_then (Err b) P Q h p = tt
 
 -- what the insert notes goes with what was done
 pub chain_split : {Key Recon Cond : Type 0} (m : Meaning Key Recon Cond) (t t2 : Table) (d d2 : Descending Recon) (z : Place) (way : Parted) (out : SplitOut) → IsChainWay m t t2 d z way → MakesBelow t t2 d.parent z → NotesChain d d2 z way out → IsChainSplit m t t2 d d2 out

@@ -8,9 +8,11 @@ use Rattle.spg_forest.specs.Sheets.{weight, gaps, size_of}
 use Rattle.spg_page.specs.Changes.{free_of, room_of}
 use Rattle.spg_page.specs.Reads.{leaf_in}
 use Rattle.spg_split.specs.declared.plan.Left.{Left}
-use Rattle.spg_split.specs.Placing.{taken_by, leaves_in, chained, HaveRooms}
+use Rattle.spg_split.specs.Placing.{taken_by, HaveRooms}
+use Rattle.spg_chain.specs.Listed.{leaves_in, chained}
 use Rattle.spg_split.specs.Planning.{size_of_list, room_left, less, staying, from_node}
-use Rattle.spg_split.proofs.Totals.{chain_takes, total, IsSum, total_none, total_in, total_past, bytes, count, bytes_sum, count_sum, have_rooms}
+use Rattle.spg_split.proofs.Totals.{total, IsSum, total_none, total_in, total_past, bytes_sum, count_sum, have_rooms}
+use Rattle.spg_chain.proofs.ListTotals.{chain_takes, bytes, count}
 
 -- the lists that stay have room one after another
 pub stay_rooms : (ts : List Tuple) (L : ℕ → List Leaf) (l : Left) (k n : ℕ) → weight ts ≤ 8160 → l.free ≡ free_of ts → l.gaps ≡ gaps ts → HaveRooms ts L k (staying L l k n)

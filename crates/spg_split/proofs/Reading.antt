@@ -1,34 +1,19 @@
 -- Lists of leaves, read and made one after another.
-use Rattle.std.proofs.Common.{◌≡◌, ℕ, zero, suc, ◌+◌, ◌<◌, List, [], ◌∷◌, ◌++◌, length, take, get_or, refl, sym, ap, ap₂, ◌∙◌, arith}
+use Rattle.std.proofs.Common.{◌≡◌, ℕ, suc, ◌+◌, ◌<◌, List, [], ◌∷◌, ◌++◌, length, take, get_or, refl, sym, ap, ap₂, ◌∙◌, arith}
 use Rattle.std.proofs.lemmas.List.{take_more, length-take-le, map_more}
 use Rattle.std.proofs.Math.Seq.{take-length}
-use Rattle.std.specs.List.{AllByRecursion}
-use Rattle.std.specs.Prelude.{IfSome, ℤ, None}
 use Rattle.spg_forest.specs.Divisions.{rests_of}
 use Rattle.spg_page.specs.Kinds.{IsLive}
-use Rattle.spg_page.specs.Told.{labels_of, links_of}
-use Rattle.spg_page.specs.declared.tuple.Node.{Node}
-use Rattle.spg_split.specs.Parts.{nodes_of, bare}
 use Rattle.spg_base.specs.Row.{RowAt}
 use Rattle.spg_forest.specs.View.{Leaf}
 use Rattle.spg_forest.specs.Tuples.{Tuple, Live, Placeholder}
 use Rattle.spg_forest.specs.Pages.{tuple_on, all_live}
 use Rattle.spg_forest.specs.Links.{leaves_on}
-use Rattle.spg_forest.specs.Sheets.{weight, size_of}
 use Rattle.spg_page.specs.Reads.{no_leaf, leaf_in}
-use Rattle.spg_page.proofs.SheetFacts.{weight-append}
 use Rattle.spg_descend.proofs.Rooms.{all_live-append}
 use Rattle.spg_split.specs.Dividing.{AreAllLive, rows_of}
-use Rattle.spg_split.specs.Placing.{leaves_with, leaves_in}
-
-pub length-all_live : (ls : List Leaf) → length (all_live ls) ≡ length ls
-length-all_live [] = refl
-length-all_live (l ∷ ls) = ap suc (length-all_live ls)
-
-pub all_live_at : (ls : List Leaf) (k : ℕ) (d : Leaf) → k < length ls → get_or (all_live ls) k Placeholder ≡ Live (get_or ls k d) 0
-all_live_at [] k d h = absurd (omega arith)
-all_live_at (l ∷ ls) zero d h = refl
-all_live_at (l ∷ ls) (suc k) d h = all_live_at ls k d (omega arith)
+use Rattle.spg_split.specs.Placing.{leaves_with}
+use Rattle.spg_chain.proofs.LiveLists.{length-all_live, all_live_at}
 
 -- of a page of leaf tuples alone, the tuple at an offset
 pub live_at : (ts : List Tuple) (k : ℕ) → AreAllLive ts → k < length ts → (length ts ≡ length (leaves_on ts)) × (tuple_on ts (suc k) ≡ Live (get_or (leaves_on ts) k no_leaf) 0)
@@ -39,14 +24,6 @@ live_at ts k e h =
 pub leaves_of_live : (ls : List Leaf) → leaves_on (all_live ls) ≡ ls
 leaves_of_live [] = refl
 leaves_of_live (l ∷ ls) = ap (λ zs. l ∷ zs) (leaves_of_live ls)
-
-pub leaves_in_live : (ls : List Leaf) → leaves_in (all_live ls) ≡ ls
-leaves_in_live [] = refl
-leaves_in_live (l ∷ ls) = ap (λ zs. l ∷ zs) (leaves_in_live ls)
-
--- one tuple more
-pub weight_more : (ts : List Tuple) (k : ℕ) (d : Tuple) → k < length ts → weight (take (k + 1) ts) ≡ weight (take k ts) + (size_of (get_or ts k d) + 4)
-weight_more ts k d h = let a = ap weight (take_more ts k d h) in let b = weight-append (take k ts) (get_or ts k d ∷ []) in omega arith
 
 -- one leaf more
 leaves_with_push : (rs : List RowAt) (qs : List (List ℕ)) (r : RowAt) (q : List ℕ) → length rs ≡ length qs → leaves_with (rs ++ r ∷ []) (qs ++ q ∷ []) ≡ leaves_with rs qs ++ record { row = r; rest = q } ∷ []
@@ -60,15 +37,6 @@ pub leaves_more : (rs : List RowAt) (qs : List (List ℕ)) (k : ℕ) (d : RowAt)
 leaves_more rs qs k d a b =
     let n = length-take-le k rs (omega arith) in let m = length-take-le k qs (omega arith) in
     ap all_live (ap₂ leaves_with (take_more rs k d a) (take_more qs k [] b) ∙ leaves_with_push (take k rs) (take k qs) (get_or rs k d) (get_or qs k []) (omega arith)) ∙ all_live-append (leaves_with (take k rs) (take k qs)) (record { row = get_or rs k d; rest = get_or qs k [] })
-
--- each of the leaf tuples has no link
-pub unlinked_at : (ts : List Tuple) (k : ℕ) (d : Tuple) → ts ≡ all_live (leaves_in ts) → k < length ts → get_or ts k d ≡ Live (leaf_in (get_or ts k d)) 0
-unlinked_at ts k d e h = rw e (go (leaves_in ts) k (let n = ap length e in omega arith))
-  where
-    go : (ls : List Leaf) (k : ℕ) → k < length (all_live ls) → get_or (all_live ls) k d ≡ Live (leaf_in (get_or (all_live ls) k d)) 0
-    go [] k h = absurd (omega arith)
-    go (l ∷ ls) zero h = refl
-    go (l ∷ ls) (suc k) h = go ls k (omega arith)
 
 -- one leaf more is read
 pub rows_more : (ts : List Tuple) (k : ℕ) → AreAllLive ts → k < length ts → rows_of (take (k + 1) (leaves_on ts)) ≡ rows_of (take k (leaves_on ts)) ++ (leaf_in (tuple_on ts (k + 1))).row ∷ []
@@ -91,20 +59,3 @@ live_there ts k e h = let (n, a) = live_at ts k e h in let s : k + 1 ≡ suc k =
 -- all are read
 pub all_read : (ts : List Tuple) (k : ℕ) → AreAllLive ts → k ≡ length ts → take k (leaves_on ts) ≡ leaves_on ts
 all_read ts k e h = let n : length ts ≡ length (leaves_on ts) = ap length e ∙ length-all_live (leaves_on ts) in let q : k ≡ length (leaves_on ts) = omega arith in ap (λ i. take i (leaves_on ts)) q ∙ take-length (leaves_on ts)
-
--- the nodes of an inner tuple that leads nowhere
-pub bare_labels : (ls : List ℤ) → labels_of (nodes_of ls) ≡ ls
-bare_labels [] = refl
-bare_labels (l ∷ ls) = ap (λ zs. l ∷ zs) (bare_labels ls)
-
-pub bare_links : (ls : List ℤ) → links_of (nodes_of ls) ≡ bare (length ls)
-bare_links [] = refl
-bare_links (l ∷ ls) = ap (λ zs. None ∷ zs) (bare_links ls)
-
-pub bare_length : (ls : List ℤ) → length (nodes_of ls) ≡ length ls
-bare_length [] = refl
-bare_length (l ∷ ls) = ap suc (bare_length ls)
-
-pub bare_all : (ls : List ℤ) → AllByRecursion (λ (n : Node). IfSome n.link (λ to. (0 < to.block) × (0 < to.offset))) (nodes_of ls)
-bare_all [] = tt
-bare_all (l ∷ ls) = (tt, bare_all ls)

@@ -21,8 +21,9 @@ use Rattle.spg_split.specs.Dividing.{AreAllLive}
 use Rattle.spg_split.specs.Parts.{AreReady, PutsLists, divided_table, lists_want, going}
 use Rattle.spg_split.specs.Placing.{taken_by, placed, downlinks, inner_root}
 use Rattle.spg_split.proofs.Plans.{length-leaves_in}
-use Rattle.spg_split.proofs.Totals.{total, total_all, count, count_sum, placed_differs}
-use Rattle.spg_split.proofs.Written.{tuples_same, pages_same}
+use Rattle.spg_split.proofs.Totals.{total, total_all, count_sum, placed_differs}
+use Rattle.spg_chain.proofs.ListTotals.{count}
+use Rattle.spg_tree.proofs.Pages.{tuples_same, pages_same}
 
 -- a page of leaf tuples alone has no inner tuple
 no_inner : (ls : List Leaf) (f : Frame) (gs : List (Option Place)) → Inner f gs ∷ [] ≡ all_live ls → ⊥

@@ -9,11 +9,12 @@ use Rattle.spg_forest.specs.Tuples.{Tuple, Placeholder}
 use Rattle.spg_forest.specs.Pages.{all_live}
 use Rattle.spg_forest.specs.Sheets.{weight, size_of}
 use Rattle.spg_split.specs.declared.plan.ListSize.{ListSize}
-use Rattle.spg_split.specs.Placing.{taken_by, leaves_in}
+use Rattle.spg_split.specs.Placing.{taken_by}
+use Rattle.spg_chain.specs.Listed.{leaves_in}
 use Rattle.spg_split.specs.declared.plan.Left.{Left}
 use Rattle.spg_split.specs.Planning.{size_of_list, from_node, room_left, less, left_after, staying}
 use Rattle.spg_split.proofs.Growing.{taken_first, passed_first}
-use Rattle.spg_split.proofs.Reading.{unlinked_at}
+use Rattle.spg_chain.proofs.LiveLists.{unlinked_at}
 
 -- of a list, the tuples and bytes that the size counts, and those of the leaf tuples from one on, are the whole
 pub record IsSizing (j : ℕ) (ts : List Tuple) (nodes : List ℕ) (s : ListSize) (i : ℕ) : Type 0 where

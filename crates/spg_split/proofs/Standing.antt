@@ -29,10 +29,13 @@ use Rattle.spg_split.specs.declared.division.Division.{Division}
 use Rattle.spg_split.specs.declared.parts.Parts.{Parts}
 use Rattle.spg_split.specs.declared.values.Values.{Values}
 use Rattle.spg_split.specs.Dividing.{AreAllLive, AreValues, GiveKeys, IsDivided, rows_of}
-use Rattle.spg_split.specs.Placing.{leaves_with, leaves_in}
-use Rattle.spg_split.specs.Parts.{ArePartsOf, AreReady, bare}
-use Rattle.spg_split.proofs.Reading.{leaves_of_live, leaves_in_live, length-all_live}
-use Rattle.spg_split.proofs.Room.{least_weight}
+use Rattle.spg_split.specs.Placing.{leaves_with}
+use Rattle.spg_chain.specs.Listed.{leaves_in}
+use Rattle.spg_split.specs.Parts.{ArePartsOf, AreReady}
+use Rattle.spg_descend.specs.BareNodes.{bare}
+use Rattle.spg_split.proofs.Reading.{leaves_of_live}
+use Rattle.spg_chain.proofs.LiveLists.{leaves_in_live, length-all_live}
+use Rattle.spg_chain.proofs.Room.{least_weight}
 use Rattle.spg_split.proofs.Taken.{with_length, with_rest, without_last, lighter}
 
 -- sizes of what the class gives

@@ -4,9 +4,9 @@ use Rattle.std.proofs.lemmas.Bool.{cases_eq}
 use Rattle.spg_forest.specs.View.{Place, Leaf}
 use Rattle.spg_forest.specs.Tuples.{Tuple, Inner, Placeholder, put_on}
 use Rattle.spg_forest.specs.Pages.{place, tuple_on, with_tuple}
-use Rattle.spg_forest.specs.Sheets.{Sheet, free_place, links, with_tuples}
+use Rattle.spg_forest.specs.Sheets.{free_place, links}
 use Rattle.spg_forest.proofs.Chain.{put_on_other}
-use Rattle.spg_forest.proofs.Edits.{sheet_same, sheet_other, tuple_on-with}
+use Rattle.spg_forest.proofs.Edits.{tuple_on-with}
 use Rattle.spg_forest.proofs.Writes.{with_tuple_longer}
 use Rattle.spg_page.specs.Changes.{added}
 use Rattle.spg_page.specs.Kinds.{IsOffset}
@@ -14,21 +14,13 @@ use Rattle.spg_page.specs.Reads.{frame_in}
 use Rattle.spg_page.proofs.SheetFacts.{free_place_free, free_place_length}
 use Rattle.spg_chain.specs.Chains.{IsChainedPage, BeginsChain}
 use Rattle.spg_chain.proofs.Laid.{with_tuple_at, with_tuple_there}
-use Rattle.spg_tree.specs.Table.{Table, sheets_of, tuples_at, tuple_at, with_tuples_at, with_link, with_clock}
-use Rattle.spg_tree.specs.Table as table
-use Rattle.spg_split.specs.Parts.{bare}
+use Rattle.spg_tree.specs.Table.{Table, tuples_at, tuple_at, with_link, with_clock}
+use Rattle.spg_tree.proofs.Pages.{tuples_same, tuples_other, pages_same}
+use Rattle.spg_descend.specs.BareNodes.{bare}
 use Rattle.spg_split.specs.Placing.{downlinks}
-use Rattle.spg_split.specs.Writing.{new_place, taken_from, added_table, taken_table, lists_table, linked_table, both_tables, both_links, cleared_table, parted_table, MayPart}
+use Rattle.spg_split.specs.Writing.{taken_from, taken_table, lists_table, linked_table, both_tables, both_links, cleared_table, parted_table, MayPart}
+use Rattle.spg_tree.specs.Writes.{new_place, added_table}
 use Rattle.spg_split.proofs.Chaining.{downlinks_length, downlinks_positive}
-
-pub tuples_same : (t : Table) (b : ℕ) (ts : List Tuple) → b < length t.pages → tuples_at (with_tuples_at t b ts) b ≡ ts
-tuples_same t b ts h = ap (λ (s : Sheet). s.tuples) (sheet_same (sheets_of t) b (with_tuples (table.sheet_at t b) ts) h)
-
-pub tuples_other : (t : Table) (b : ℕ) (ts : List Tuple) (d : ℕ) → (d ≡ b → ⊥) → tuples_at (with_tuples_at t b ts) d ≡ tuples_at t d
-tuples_other t b ts d n = ap (λ (s : Sheet). s.tuples) (sheet_other (sheets_of t) b (with_tuples (table.sheet_at t b) ts) d n)
-
-pub pages_same : (t : Table) (b : ℕ) (ts : List Tuple) → length (with_tuples_at t b ts).pages ≡ length t.pages
-pages_same t b ts = length-set t.pages b (with_tuples (table.sheet_at t b) ts)
 
 -- a tuple at the free place of a page
 pub free_at : (ts : List Tuple) (u : Tuple) → tuple_on (added ts u) ≡ put_on (tuple_on ts) (suc (free_place ts)) u

@@ -9,17 +9,12 @@ use Rattle.spg_tree.specs.Descents.{Descending, placed, risen}
 use Rattle.spg_tree.specs.declared.stand.Stand.TheVariants.{At}
 use Rattle.spg_descend.specs.Carried.{IsCarried}
 use Rattle.spg_descend.specs.Follows.{IsAtInner, tuple_place}
-use Rattle.spg_descend.specs.Below.{IsLink}
 use Rattle.spg_descend.specs.Makes.{MakesOne, IsNextTo}
 use Rattle.spg_split.specs.Shrinks.{Shrinks}
 use Rattle.spg_split.specs.declared.split.SplitOut.{SplitOut}
 use Rattle.spg_split.specs.declared.split.SplitOut.TheVariants.{Put, LeftOut}
 use Rattle.spg_split.specs.Splits.{split_cost}
-
--- the node of the tuple above leads to z
-abbrev pub IsLedTo : Table → Option (Place × ℕ) → Place → Type 0
-IsLedTo t None z = ⊥
-IsLedTo t (Some (p, i)) z = IsLink t p i z
+pub use Rattle.spg_descend.specs.Below.{IsLedTo}
 
 -- the one inner tuple that is made is that at z, on the block of the tuple above or on one of the next parity
 abbrev pub MakesBelow : Table → Table → Option (Place × ℕ) → Place → Type 0

@@ -22,7 +22,8 @@ use Rattle.spg_split.specs.declared.put.Parted.{Parted}
 use Rattle.spg_split.specs.Causes.{tuples_divided, root_bytes, leaves_below, chain_bytes}
 use Rattle.spg_split.specs.Dividing.{division_of}
 use Rattle.spg_split.specs.Homes.{fits_above, inner_want, rest_want}
-use Rattle.spg_split.specs.Parts.{IsWay, bare, going, lists_want}
+use Rattle.spg_split.specs.Parts.{IsWay, going, lists_want}
+use Rattle.spg_descend.specs.BareNodes.{bare}
 use Rattle.spg_split.specs.Placing.{taken_by}
 use Rattle.spg_split.specs.Planning.{IsLeft, IsPlan, from_node, left_at, staying}
 

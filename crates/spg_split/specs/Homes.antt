@@ -1,5 +1,5 @@
 -- The pages to which the tuples of a division below a root go.
-use Rattle.std.specs.Prelude.{◌≡◌, ℕ, ◌+◌, ◌-◌, ◌%◌, ◌==◌, ◌||◌, ◌&&◌, nat_le, if◌then◌else◌, Bool, true, false, List, [], ◌∷◌, ◌++◌, Some, None}
+use Rattle.std.specs.Prelude.{◌≡◌, ℕ, ◌+◌, ◌-◌, ◌%◌, ◌&&◌, nat_le, Bool, true, false, List, [], ◌∷◌, ◌++◌, Some, None}
 use Rattle.std.specs.List.{range_with_len}
 use Rattle.spg_page.specs.Changes.{room_of}
 use Rattle.spg_page.specs.declared.tuple.PageKind.TheVariants as kinds
@@ -10,6 +10,7 @@ use Rattle.spg_tree.specs.Two.{PicksTwo, IsPickedTwo}
 use Rattle.spg_tree.specs.declared.want.Want.{Want}
 use Rattle.spg_split.specs.declared.plan.ListSize.{ListSize}
 use Rattle.spg_split.specs.declared.homes.Homes.{Homes}
+use Rattle.spg_tree.specs.Another.{another}
 
 -- the pick of an inner page for an inner tuple below one on block p, and of a leaf page for lists that leave block b
 abbrev pub inner_want : Bool → ℕ → ℕ → ℕ → Want
@@ -33,10 +34,6 @@ abbrev pub PicksHomes : Table → Table → ℕ → ℕ → ℕ → ListSize →
 PicksHomes t t2 b p need rest seat h =
     let nulls : Bool = (sheet_at t b).nulls in
     AreHomes (fits_above t p need) (nat_le 1 rest.tuples) t t2 b p (inner_want nulls p need seat) (rest_want nulls b rest seat) h
-
--- a block that was there before, where it is not the other one
-abbrev pub another : ℕ → ℕ → ℕ → List ℕ
-another b other end = if b == other || nat_le end b then [] else b ∷ []
 
 -- the blocks that are changed or added, each once
 abbrev pub blocks_touched : ℕ → ℕ → Homes → ℕ → ℕ → List ℕ

@@ -14,7 +14,8 @@ use Rattle.spg_split.specs.declared.part.Parting.{Parting}
 use Rattle.spg_split.specs.Placing.{taken_by}
 use Rattle.spg_split.specs.Planning.{IsLeft, IsPlan, IsWayOf}
 use Rattle.spg_split.specs.Homes.{PicksHomes, blocks_touched}
-use Rattle.spg_split.specs.Writing.{new_place, parted_table}
+use Rattle.spg_split.specs.Writing.{parted_table}
+use Rattle.spg_tree.specs.Writes.{new_place}
 
 -- at x a chain of at least one leaf tuple begins, on a leaf page from 3 on, to which node i of the inner tuple at p leads
 pub record MayDivide (t : Table) (x p : Place) (i : ℕ) : Type 0 where

@@ -1,11 +1,10 @@
 -- The tuples of a division, and the table once they stand.
-use Rattle.std.specs.Prelude.{◌≡◌, ℕ, ◌-◌, ◌≤◌, ◌<◌, Bool, List, [], ◌∷◌, Option, None, is_some, ℤ, length, map, replicate, take, slice_index}
+use Rattle.std.specs.Prelude.{◌≡◌, ℕ, ◌-◌, ◌≤◌, ◌<◌, Bool, List, [], ◌∷◌, Option, None, is_some, length, take, slice_index}
 use Rattle.spg_base.specs.Row.{RowAt}
-use Rattle.spg_forest.specs.View.{Place, Leaf}
+use Rattle.spg_forest.specs.View.{Leaf}
 use Rattle.spg_forest.specs.Tuples.{Tuple, Inner}
 use Rattle.spg_forest.specs.Pages.{all_live}
 use Rattle.spg_forest.specs.Sheets.{weight}
-use Rattle.spg_page.specs.declared.tuple.Node.{Node}
 use Rattle.spg_page.specs.Reads.{frame_in}
 use Rattle.spg_page.specs.declared.tuple.PageKind.TheVariants as kinds
 use Rattle.spg_tree.specs.Table.{Table, sheet_at, tuples_at, with_sheet, with_tuples_at, with_touched}
@@ -17,15 +16,9 @@ use Rattle.spg_split.specs.declared.parts.Parts.{Parts}
 use Rattle.spg_split.specs.declared.put.Parted.{Parted}
 use Rattle.spg_split.specs.declared.put.Parted.TheVariants.{With, Without}
 use Rattle.spg_split.specs.Nodes.{IsOnlyNode}
-use Rattle.spg_split.specs.Placing.{taken_by, placed, downlinks, inner_root, leaves_with, leaves_in}
-
--- a downlink for each label, which leads nowhere yet
-abbrev pub bare : ℕ → List (Option Place)
-bare n = replicate n None
-
--- a node for each label, which leads nowhere
-abbrev pub nodes_of : List ℤ → List Node
-nodes_of labels = map (λ (l : ℤ). record { label = l; link = None }) labels
+use Rattle.spg_split.specs.Placing.{taken_by, placed, downlinks, inner_root, leaves_with}
+use Rattle.spg_chain.specs.Listed.{leaves_in}
+pub use Rattle.spg_descend.specs.BareNodes.{bare}
 
 -- the tuples that a division of these rows makes
 pub record ArePartsOf (rows : List RowAt) (d : Division) (p : Parts) : Type 0 where

@@ -1,13 +1,12 @@
 -- Lists of leaves added to a page, each as a chain, and what a root page becomes.
-use Rattle.std.specs.Prelude.{ℕ, zero, suc, ◌≤◌, Bool, true, List, [], ◌∷◌, Option, Some, None, length, cond, nat_eq}
+use Rattle.std.specs.Prelude.{ℕ, zero, suc, Bool, true, List, [], ◌∷◌, Option, Some, None, cond, nat_eq}
 use Rattle.spg_base.specs.Row.{RowAt}
 use Rattle.spg_forest.specs.View.{Place, Leaf}
 use Rattle.spg_forest.specs.Tuples.{Tuple, Inner}
-use Rattle.spg_forest.specs.Pages.{place, all_live}
-use Rattle.spg_forest.specs.Sheets.{Sheet, free_place, weight}
-use Rattle.spg_forest.specs.Edits.{added}
-use Rattle.spg_page.specs.Changes.{room_of}
+use Rattle.spg_forest.specs.Pages.{place}
+use Rattle.spg_forest.specs.Sheets.{Sheet, free_place}
 use Rattle.spg_page.specs.Reads.{leaf_in, frame_in}
+use Rattle.spg_chain.specs.Listed.{chained, HaveRoom}
 
 -- the leaves of these rows and rests
 abbrev pub leaves_with : List RowAt → List (List ℕ) → List Leaf
@@ -21,12 +20,7 @@ taken_by j [] nodes = []
 taken_by j (t ∷ ts) [] = []
 taken_by j (t ∷ ts) (n ∷ nodes) = cond (nat_eq n j) (leaf_in t ∷ taken_by j ts nodes) (taken_by j ts nodes)
 
--- leaves added one after another, each behind the one before: the first behind that at an offset, or as a chain of its own where it is 0
-abbrev pub chained : List Tuple → ℕ → List Leaf → List Tuple
-chained ts last [] = ts
-chained ts last (l ∷ ls) = chained (added ts last (suc (free_place ts)) l) (suc (free_place ts)) ls
-
--- where such a chain begins
+-- where the chain of such leaves begins
 abbrev pub head_of : List Tuple → List Leaf → Option ℕ
 head_of ts [] = None
 head_of ts (l ∷ ls) = Some (suc (free_place ts))
@@ -45,20 +39,10 @@ abbrev pub downlinks : ℕ → List Tuple → (ℕ → List Leaf) → ℕ → �
 downlinks b ts L k zero = []
 downlinks b ts L k (suc n) = downlink b (head_of ts (L k)) ∷ downlinks b (chained ts 0 (L k)) L (suc k) n
 
--- all leaves have room on the page
-pub record HaveRoom (ts : List Tuple) (ls : List Leaf) : Type 0 where
-  pub fits : weight ts ≤ 8160
-  pub room : weight (all_live ls) ≤ room_of ts (length ls)
-
--- so do the lists of so many nodes from node k on, put one after another
+-- the lists of so many nodes from node k on have room on the page, put one after another
 abbrev pub HaveRooms : List Tuple → (ℕ → List Leaf) → ℕ → ℕ → Type 0
 HaveRooms ts L k zero = Unit {0}
 HaveRooms ts L k (suc n) = HaveRoom ts (L k) × HaveRooms (chained ts 0 (L k)) L (suc k) n
-
--- the leaves of the tuples
-abbrev pub leaves_in : List Tuple → List Leaf
-leaves_in [] = []
-leaves_in (t ∷ ts) = leaf_in t ∷ leaves_in ts
 
 -- the page of a root that is this inner tuple with these downlinks
 abbrev pub inner_root : Bool → Tuple → List (Option Place) → Sheet

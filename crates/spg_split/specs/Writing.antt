@@ -1,25 +1,18 @@
 -- The table once a chain below a root is divided.
-use Rattle.std.specs.Prelude.{◌≡◌, ℕ, suc, ◌^◌, ◌+◌, ◌-◌, ◌≤◌, ◌<◌, List, ◌++◌, Option, Some, length}
+use Rattle.std.specs.Prelude.{◌≡◌, ℕ, ◌^◌, ◌+◌, ◌-◌, ◌≤◌, ◌<◌, List, ◌++◌, Option, Some, length}
 use Rattle.spg_forest.specs.View.{Place, Leaf}
 use Rattle.spg_forest.specs.Tuples.{Tuple, Inner, Redirect}
-use Rattle.spg_forest.specs.Pages.{place, with_tuple}
-use Rattle.spg_forest.specs.Sheets.{free_place, size_of, links}
-use Rattle.spg_page.specs.Changes.{added, room_of}
+use Rattle.spg_forest.specs.Pages.{with_tuple}
+use Rattle.spg_forest.specs.Sheets.{size_of, links}
+use Rattle.spg_page.specs.Changes.{room_of}
 use Rattle.spg_page.specs.Kinds.{IsOffset}
 use Rattle.spg_page.specs.Reads.{frame_in}
 use Rattle.spg_chain.specs.Chains.{IsChainedPage, BeginsChain, chain_members, offsets_of}
 use Rattle.spg_chain.specs.Taken.{emptied}
 use Rattle.spg_tree.specs.Table.{Table, tuples_at, tuple_at, with_tuples_at, with_link, with_clock}
-use Rattle.spg_split.specs.Parts.{bare}
+use Rattle.spg_descend.specs.BareNodes.{bare}
 use Rattle.spg_split.specs.Placing.{placed, downlinks, HaveRooms}
-
--- where a new tuple goes on the page of a block
-abbrev pub new_place : Table → ℕ → Place
-new_place t b = place b (suc (free_place (tuples_at t b)))
-
--- the tuple is added there
-abbrev pub added_table : Table → ℕ → Tuple → Table
-added_table t b u = with_tuples_at t b (added (tuples_at t b) u)
+use Rattle.spg_tree.specs.Writes.{new_place, added_table}
 
 -- the chain at a head is gone, and a redirect stands there
 abbrev pub taken_from : List Tuple → ℕ → Place → ℕ → List Tuple

@@ -4,7 +4,7 @@ ghost use Rattle.spg_tree.specs.Table.{tuples_at};
 ghost use Rattle.spg_tree.specs.declared.stand.StepRefused.TheVariants.{IndexFull, ClockFull};
 ghost use Rattle.spg_split.specs.Fulls.{AreHomesFull};
 ghost use Rattle.spg_split.specs.Homes as homes;
-ghost use Rattle.spg_split.specs.Homes.{PicksHomes, another, blocks_touched};
+ghost use Rattle.spg_split.specs.Homes.{PicksHomes, blocks_touched};
 
 use crate::plan::ListSize;
 use spg_base::{Block, SeatNo, parity};
@@ -96,16 +96,6 @@ pub(crate) fn pick_homes(
     }
 }
 
-/// Adds a block that was there before, where it is not the other one.
-fn push_another(touched: &mut Touched, block: Block, other: Block, before: u32)
-    requires { length touched.old < 8 }
-    ensures { touched.new ≡ touched.old ++ another block other before }
-{
-    if block != other && block.0 < before {
-        touched.push(block);
-    }
-}
-
 /// The blocks that a division below a root changes or has added.
 pub(crate) fn touched_by(old: Block, parent: Block, homes: &Homes, before: u32, now: u32) -> Touched
     requires ordered { before ≤ now }
@@ -115,8 +105,8 @@ pub(crate) fn touched_by(old: Block, parent: Block, homes: &Homes, before: u32, 
     let mut touched = Touched::new();
     touched.push(old);
     touched.push(parent);
-    push_another(&mut touched, homes.inner, parent, before);
-    push_another(&mut touched, homes.rest, old, before);
+    touched.push_another(homes.inner, parent, before);
+    touched.push_another(homes.rest, old, before);
     touched.push_range(before, now);
     touched
 }

@@ -4,12 +4,15 @@ ghost use Rattle.spg_forest.specs.Tuples.{Inner, Live};
 ghost use Rattle.spg_forest.specs.Pages.{all_live};
 ghost use Rattle.spg_forest.specs.Sheets.{weight};
 ghost use Rattle.spg_split.specs.Placing.{leaves_with};
-ghost use Rattle.spg_split.specs.Parts.{ArePartsOf, bare, nodes_of};
+ghost use Rattle.spg_split.specs.Parts.{ArePartsOf};
+ghost use Rattle.spg_descend.specs.BareNodes.{bare, nodes_of};
 
 use crate::division::Division;
 use spg_base::{Bytes, List, Memory, Place, Row};
+use spg_chain::leaf_tuple;
+use spg_descend::bare_nodes;
 use spg_opclass::InnerView;
-use spg_page::{InnerTuple, LeafTuple, Node, Nodes, Tuple, TupleBytes};
+use spg_page::{InnerTuple, Tuple, TupleBytes};
 use std::alloc::Global;
 
 /// The tuples of a division: the leaf tuples and the node of each, the inner tuple with downlinks
@@ -35,16 +38,6 @@ fn leaf_tuples(alloc: Global, rows: &[Row], rests: &[Bytes]) -> Result<List<Tupl
     Ok(leaves)
 }
 
-/// The leaf tuple of a row and a rest.
-fn leaf_tuple(alloc: Global, row: Row, rest: &[u8]) -> Result<TupleBytes, Memory>
-    requires { leaf_size rest.now ≤ 8156 }
-    ensures { IfOk result (λ leaf. leaf ≡ Live (record { row = row; rest = rest.now }) 0) }
-{
-    let rest = Bytes::copy(alloc, rest)?;
-    let next = None;
-    TupleBytes::of(alloc, &Tuple::Leaf(LeafTuple { row, next, rest }))
-}
-
 /// The inner tuple, with downlinks that lead nowhere.
 fn inner_tuple(alloc: Global, frame: InnerView) -> Result<TupleBytes, Memory>
     requires some { 0 < length frame.labels }
@@ -62,20 +55,6 @@ fn inner_tuple(alloc: Global, frame: InnerView) -> Result<TupleBytes, Memory>
     )
 }
 
-/// A node for each label, which leads nowhere.
-fn bare_nodes(alloc: Global, labels: &[i16]) -> Result<Nodes, Memory>
-    ensures { IfOk result (λ nodes. nodes ≡ nodes_of labels.now) }
-{
-    let mut nodes = Nodes::new(alloc);
-    for label in labels {
-        nodes.push(Node {
-            label: *label,
-            link: None,
-        })?;
-    }
-    Ok(nodes)
-}
-
 /// So many downlinks that lead nowhere.
 fn bare_links(alloc: Global, count: usize) -> Result<List<Option<Place>>, Memory>
     ensures { IfOk result (λ links. links ≡ bare count) }
@@ -85,18 +64,6 @@ fn bare_links(alloc: Global, count: usize) -> Result<List<Option<Place>>, Memory
         links.push(None)?;
     }
     Ok(links)
-}
-
-/// How many bytes tuples take with their item pointers.
-pub(crate) fn bytes_of(leaves: &[TupleBytes]) -> usize
-    requires { length leaves.now ≤ 409 }
-    ensures { result ≡ weight leaves.now }
-{
-    let mut bytes = 0;
-    for leaf in leaves {
-        bytes += leaf.size() as usize + 4;
-    }
-    bytes
 }
 
 impl Parts {

@@ -7,7 +7,8 @@ ghost use Rattle.spg_page.specs.Told.{number_of};
 ghost use Rattle.spg_page.specs.Changes.{room_of};
 ghost use Rattle.spg_page.specs.Reads.{leaf_in};
 ghost use Rattle.spg_chain.specs.Added.{IsLeafIn};
-ghost use Rattle.spg_split.specs.Placing.{taken_by, chained, head_of, placed, downlinks, downlink, leaves_in, HaveRoom, HaveRooms};
+ghost use Rattle.spg_split.specs.Placing.{taken_by, head_of, placed, downlinks, downlink, HaveRooms};
+ghost use Rattle.spg_chain.specs.Listed.{chained, leaves_in, HaveRoom};
 ghost use Rattle.spg_split.specs.Ends.{last_of, head_or};
 
 use spg_base::{Block, List, Offset, Place};

@@ -2,7 +2,8 @@ ghost use Rattle.std.specs.Prelude.{◌≡◌, ◌<◌, ◌≤◌, ◌+◌, ◌-
 ghost use Rattle.spg_forest.specs.Pages.{all_live};
 ghost use Rattle.spg_forest.specs.Sheets.{weight, size_of};
 ghost use Rattle.spg_chain.specs.Chains.{IsChainedPage, BeginsChain, chain_members};
-ghost use Rattle.spg_split.specs.Placing.{taken_by, leaves_in};
+ghost use Rattle.spg_split.specs.Placing.{taken_by};
+ghost use Rattle.spg_chain.specs.Listed.{leaves_in};
 ghost use Rattle.spg_split.specs.Parts.{AreReady};
 ghost use Rattle.spg_split.specs.Planning.{size_of_list, left_after, staying, from_node, IsPlanOf, IsPlan, IsLeft, IsWayOf};
 

@@ -6,7 +6,7 @@ ghost use Rattle.spg_forest.specs.Pages.{tuple_on, with_tuple};
 ghost use Rattle.spg_page.specs.Kinds.{IsOffset};
 ghost use Rattle.spg_page.specs.Reads.{frame_in};
 ghost use Rattle.spg_split.specs.Dividing.{AreAllLive};
-ghost use Rattle.spg_split.specs.Parts.{bare};
+ghost use Rattle.spg_descend.specs.BareNodes.{bare};
 ghost use Rattle.spg_split.specs.Placing.{inner_root};
 
 use spg_base::{Offset, Place};

@@ -8,9 +8,11 @@ ghost use Rattle.spg_page.specs.Kinds.{IsOffset};
 ghost use Rattle.spg_page.specs.Reads.{frame_in};
 ghost use Rattle.spg_chain.specs.Chains.{IsChainedPage, BeginsChain};
 ghost use Rattle.spg_tree.specs.Table.{tuples_at, tuple_at};
-ghost use Rattle.spg_split.specs.Parts.{bare};
-ghost use Rattle.spg_split.specs.Placing.{taken_by, leaves_in, HaveRooms, downlinks};
-ghost use Rattle.spg_split.specs.Writing.{new_place, added_table, taken_table, lists_table, linked_table, both_tables, both_links, parted_table, MayPart};
+ghost use Rattle.spg_descend.specs.BareNodes.{bare};
+ghost use Rattle.spg_split.specs.Placing.{taken_by, HaveRooms, downlinks};
+ghost use Rattle.spg_chain.specs.Listed.{leaves_in};
+ghost use Rattle.spg_split.specs.Writing.{taken_table, lists_table, linked_table, both_tables, both_links, parted_table, MayPart};
+ghost use Rattle.spg_tree.specs.Writes.{new_place, added_table};
 
 use crate::placing::put_range;
 use crate::root::set_links;
@@ -18,16 +20,6 @@ use spg_base::{Block, List, Offset, Place, Stamp};
 use spg_chain::take_chain;
 use spg_page::TupleBytes;
 use spg_tree::PageTable;
-
-/// Adds an inner tuple to a page that has room, and tells at which offset.
-fn add_inner(table: &mut PageTable, block: Block, inner: &TupleBytes) -> Offset
-    requires block { (0 < block) × (block < length table.old.pages) }
-    requires room { size_of inner.now + 4 ≤ room_of (tuples_at table.old block) 1 }
-    ensures at { result ≡ (new_place table.old block).offset }
-    ensures table { table.new ≡ added_table table.old block inner.now }
-{
-    table.page_mut(block).add(inner)
-}
 
 /// Takes the chain at a head away; a redirect with the clock's moment stands there then.
 fn take_to(table: &mut PageTable, block: Block, head: Offset, to: Place)
@@ -130,7 +122,7 @@ pub(crate) fn write_chain(
     ensures at { result ≡ (new_place table.old home).offset }
     ensures table { table.new ≡ parted_table table.old (place block head) parent node home rest inner.now (λ j. taken_by j leaves.now node_of.now) cut (length links.old) }
 {
-    let at = add_inner(table, home, inner);
+    let at = table.add_on(home, inner);
     let to = Place {
         block: home,
         offset: at,

@@ -22,7 +22,7 @@ loop-index-preserved c =
     let l = c.loop-index-test.true in
     let s = aged_step h k (k + 1) ts c.loop-index.page.tuples (omega arith) (ap (λ (p : Sheet). p.tuples) c.loop-index.invariant) (omega arith) in
     elim c.if-is_old_at.branch [
-      | then-is_old_at w ↦ w.page-is ∙ w.put_placeholder_at.ensures ∙ ap (λ (p : Sheet). with_tuples p (with_tuple c.loop-index.page.tuples (k + 1) Placeholder)) c.loop-index.invariant
+      | then-is_old_at w ↦ w.page-is ∙ w.put_placeholder.ensures ∙ ap (λ (p : Sheet). with_tuples p (with_tuple c.loop-index.page.tuples (k + 1) Placeholder)) c.loop-index.invariant
           ∙ ap (λ us. with_tuples c.args.page.now us) (s.1 (sym c.is_old_at.ensures ∙ w.if-is_old_at.true))
       | else-is_old_at w ↦ w.page-is ∙ c.loop-index.invariant ∙ ap (λ us. with_tuples c.args.page.now us) (sym (ap (λ (p : Sheet). p.tuples) c.loop-index.invariant) ∙ s.0 (sym c.is_old_at.ensures ∙ w.if-is_old_at.false))
     ]

@@ -10,12 +10,12 @@ size_at-size-requires c =
     let e = ap (λ (p : Sheet). length p.tuples) c.loop-index.invariant ∙ front_length c.args.page.now.tuples c.args.offsets.now c.loop-index.index c.requires in
     let (a, b) = c.requires c.index-offsets-index.result (subst (λ o. IsAmong o c.args.offsets.now) (sym c.index-offsets-index.is) (get_among c.args.offsets.now c.loop-index.index c.index-offsets-index.result c.loop-index-test.true)) in (a, omega arith)
 
-pub put_placeholder_at-requires-clause-at : goal.put_placeholder_at-requires-clause-at
-put_placeholder_at-requires-clause-at c =
+pub put_placeholder-requires-clause-at : goal.put_placeholder-requires-clause-at
+put_placeholder-requires-clause-at c =
     let e = ap (λ (p : Sheet). length p.tuples) c.loop-index.invariant ∙ front_length c.args.page.now.tuples c.args.offsets.now c.loop-index.index c.requires in
     let (a, b) = c.requires c.index-offsets-index.result (subst (λ o. IsAmong o c.args.offsets.now) (sym c.index-offsets-index.is) (get_among c.args.offsets.now c.loop-index.index c.index-offsets-index.result c.loop-index-test.true)) in (a, omega arith)
 
 pub loop-index-preserved : goal.loop-index-preserved
 loop-index-preserved c =
-    c.put_placeholder_at.ensures ∙ ap (λ (p : Sheet). with_tuples p (with_tuple p.tuples c.index-offsets-index.result Placeholder)) c.loop-index.invariant
+    c.put_placeholder.ensures ∙ ap (λ (p : Sheet). with_tuples p (with_tuple p.tuples c.index-offsets-index.result Placeholder)) c.loop-index.invariant
     ∙ ap (λ us. with_tuples c.args.page.now us) (sym (front_more c.args.page.now.tuples c.args.offsets.now c.loop-index.index c.index-offsets-index.result c.loop-index-test.true c.index-offsets-index.is))

@@ -9,7 +9,7 @@ use Rattle.spg_tree.specs.declared.want.Want.{Want}
 use Rattle.spg_tree.specs.declared.stand.StepRefused.TheVariants.{IndexFull}
 use Rattle.spg_descend.proofs.Held.{picked_free}
 use Rattle.spg_descend.proofs.NotFull.{picks_not_full}
-use Rattle.spg_split.specs.Placing.{HaveRoom}
+use Rattle.spg_chain.specs.Listed.{HaveRoom}
 use Rattle.spg_move.specs.Moves.{carried_want}
 use Rattle.spg_move.specs.Moving.{moved_table}
 use Rattle.spg_move.proofs.Standing.{total, need_small, count_small, want_is, leaves_are, live_are, chained_after, begins_after, parent_after, within_after, node_after, room_after, carried_moves, ticks, want_there, makes_none, exact}

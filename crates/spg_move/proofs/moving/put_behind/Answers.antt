@@ -1,5 +1,5 @@
 use Rattle.std.proofs.Common.{arith}
-use Rattle.spg_split.specs.Placing.{leaves_in}
+use Rattle.spg_chain.specs.Listed.{leaves_in}
 use Rattle.spg_move.proofs.Adding.{adding_begun, next_leaf, next_room, next_added, adding_done}
 use Rattle.spg_move.proofs.moving.put_behind.Goals as goal
 

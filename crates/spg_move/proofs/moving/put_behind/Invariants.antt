@@ -1,5 +1,5 @@
 use Rattle.std.proofs.Common.{drop}
-use Rattle.spg_split.specs.Placing.{leaves_in}
+use Rattle.spg_chain.specs.Listed.{leaves_in}
 use Rattle.spg_move.proofs.Adding.{IsAdding}
 use Rattle.spg_move.proofs.moving.put_behind.Given as goal
 

@@ -13,7 +13,8 @@ use Rattle.spg_tree.specs.Pick.{IsFull}
 use Rattle.spg_tree.specs.declared.stand.StepRefused.TheVariants.{IndexFull, ClockFull}
 use Rattle.spg_descend.specs.Follows.{tuple_place}
 use Rattle.spg_move.specs.Nodes.{FitsWider}
-use Rattle.spg_move.specs.Widening.{widened, widened_table, node_want, FitsInPlace, IsShiftedFrom}
+use Rattle.spg_move.specs.Widening.{widened, widened_table, node_want, IsShiftedFrom}
+use Rattle.spg_tree.specs.Writes.{FitsInPlace}
 use Rattle.spg_move.proofs.NodeStanding.{within, place_within, small, not_wider}
 use Rattle.spg_move.proofs.NodeLaw.{added_here, exact_here}
 use Rattle.spg_move.proofs.NodeMoved.{shifted_out, exact_out}

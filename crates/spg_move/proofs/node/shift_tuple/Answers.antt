@@ -1,8 +1,7 @@
 use Rattle.std.proofs.Common.{sym, ◌∙◌}
 use Rattle.spg_tree.specs.Descents.{in_nulls}
 use Rattle.spg_descend.specs.Held.{TouchesFree, IsFreeHome}
-use Rattle.spg_split.proofs.Held.{on_ok_then}
-use Rattle.spg_split.proofs.Outcome.{if_ok_then}
+use Rattle.spg_tree.proofs.Outcomes.{on_ok_then, if_ok_then}
 use Rattle.spg_move.specs.Widening.{IsShifted}
 use Rattle.spg_move.proofs.NodeStanding.{hung_at, no_other}
 use Rattle.spg_move.proofs.Held.{shifted_held, shifted_home}

@@ -4,8 +4,8 @@ use Rattle.std.specs.Prelude.{IfSome}
 use Rattle.spg_forest.specs.Tuples.{Tuple, Inner}
 use Rattle.spg_page.specs.declared.tuple.Node.{Node}
 use Rattle.spg_page.specs.Told.{labels_of, links_of}
-use Rattle.spg_split.specs.Parts.{nodes_of, bare}
-use Rattle.spg_split.proofs.Reading.{bare_labels, bare_links, bare_length, bare_all}
+use Rattle.spg_descend.specs.BareNodes.{nodes_of, bare}
+use Rattle.spg_descend.proofs.BareNodes.{bare_labels, bare_links, bare_length, bare_all}
 use Rattle.spg_move.proofs.split_tuples.upper_tuple.Goals as goal
 
 pub of-requires : goal.of-requires

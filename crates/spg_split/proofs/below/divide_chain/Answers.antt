@@ -20,8 +20,8 @@ use Rattle.spg_split.proofs.ChainJoining.{chain_done, chain_cause}
 use Rattle.spg_split.proofs.ChainNamed.{chain_exact}
 use Rattle.spg_split.proofs.Causes.{chain_rise}
 use Rattle.spg_split.proofs.Fulls.{chain_full}
-use Rattle.spg_split.proofs.Held.{on_ok_then, chain_held, chain_home}
-use Rattle.spg_split.proofs.Outcome.{if_ok_then}
+use Rattle.spg_split.proofs.Held.{chain_held, chain_home}
+use Rattle.spg_tree.proofs.Outcomes.{on_ok_then, if_ok_then}
 use Rattle.spg_split.proofs.below.divide_chain.Goals as goal
 
 pub divide-requires-clause-several : goal.divide-requires-clause-several

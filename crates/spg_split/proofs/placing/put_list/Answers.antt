@@ -2,7 +2,7 @@ use Rattle.std.proofs.Common.{Option, drop, sym, subst, ◌+◌}
 use Rattle.spg_forest.specs.Sheets.{Sheet}
 use Rattle.spg_split.specs.Placing.{taken_by}
 use Rattle.spg_split.specs.declared.placing.Ends.{Ends}
-use Rattle.spg_split.proofs.Reading.{unlinked_at}
+use Rattle.spg_chain.proofs.LiveLists.{unlinked_at}
 use Rattle.spg_split.proofs.Growing.{IsGrowing, turn_room, turn_taken, turn_passed}
 use Rattle.spg_split.proofs.placing.put_list.Goals.{then-node_of-index, else-node_of-index}
 use Rattle.spg_split.proofs.placing.put_list.Goals as goal

@@ -3,7 +3,7 @@ use Rattle.spg_forest.specs.Tuples.{Inner}
 use Rattle.spg_forest.specs.Pages.{tuple_on, with_tuple}
 use Rattle.spg_forest.specs.Sheets.{with_tuples}
 use Rattle.spg_page.specs.Reads.{frame_in}
-use Rattle.spg_split.specs.Parts.{bare}
+use Rattle.spg_descend.specs.BareNodes.{bare}
 use Rattle.spg_split.proofs.root.set_links.Given as goal
 
 abbrev pub invariant-loop-node : goal.invariant-loop-node

@@ -17,8 +17,8 @@ use Rattle.spg_split.proofs.RootExact.{several_leaves, going_some, root_exact}
 use Rattle.spg_forest.specs.Exact.{IsExact}
 use Rattle.spg_split.proofs.Causes.{root_cause, root_rise}
 use Rattle.spg_split.proofs.Fulls.{root_full}
-use Rattle.spg_split.proofs.Held.{on_ok_then, on_ok_both, root_held}
-use Rattle.spg_split.proofs.Outcome.{if_ok_then}
+use Rattle.spg_split.proofs.Held.{root_held}
+use Rattle.spg_tree.proofs.Outcomes.{on_ok_then, on_ok_both, if_ok_then}
 use Rattle.spg_split.proofs.Standing.{at_root, live_there, several, keys, rest_fits, tuple_fits, ready, leaf_count, count_vs, others_fit, values_are, divided_as, keys_as, parts_as, nulls_recon}
 use Rattle.spg_split.proofs.split.split_root.Goals as goal
 

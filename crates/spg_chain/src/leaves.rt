@@ -8,7 +8,7 @@ use spg_page::{LeafTuple, Tuple, TupleBytes};
 use std::alloc::Global;
 
 /// The leaf tuple of a row and a rest, of at most 8,156 bytes, without a link.
-pub(crate) fn leaf_tuple(alloc: Global, row: Row, rest: &[u8]) -> Result<TupleBytes, Memory>
+pub fn leaf_tuple(alloc: Global, row: Row, rest: &[u8]) -> Result<TupleBytes, Memory>
     requires { leaf_size rest.now ≤ 8156 }
     ensures { IfOk result (λ leaf. leaf ≡ Live (record { row = row; rest = rest.now }) 0) }
 {
@@ -18,7 +18,7 @@ pub(crate) fn leaf_tuple(alloc: Global, row: Row, rest: &[u8]) -> Result<TupleBy
 }
 
 /// How many bytes the tuples take with their item pointers.
-pub(crate) fn bytes_of(leaves: &[TupleBytes]) -> usize
+pub fn bytes_of(leaves: &[TupleBytes]) -> usize
     requires { length leaves.now ≤ 409 }
     ensures { result ≡ weight leaves.now }
 {

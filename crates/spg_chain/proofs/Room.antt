@@ -14,7 +14,7 @@ use Rattle.spg_page.proofs.SheetLaws.{with_tuple-set, with_tuple-push}
 use Rattle.spg_chain.specs.Added.{IsLeafIn}
 use Rattle.spg_chain.proofs.Laid.{head_there, live_tuple, with_tuple_at, added_behind}
 use Rattle.spg_forest.proofs.Chain.{put_on_same}
-use Rattle.spg_split.specs.Placing.{HaveRoom}
+use Rattle.spg_chain.specs.Listed.{HaveRoom}
 
 -- each leaf tuple takes at least 20 bytes with its item pointer
 pub least_weight : (ls : List Leaf) → 20 * length ls ≤ weight (all_live ls)

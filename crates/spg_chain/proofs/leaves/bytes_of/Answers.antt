@@ -1,7 +1,7 @@
 use Rattle.std.proofs.Common.{◌≡◌, ap, arith, get_or}
 use Rattle.spg_forest.specs.Sheets.{size_of}
-use Rattle.spg_split.proofs.Reading.{weight_more}
-use Rattle.spg_move.proofs.leaves.bytes_of.Goals as goal
+use Rattle.spg_chain.proofs.LiveLists.{weight_more}
+use Rattle.spg_chain.proofs.leaves.bytes_of.Goals as goal
 
 pub loop-leaf-preserved : goal.loop-leaf-preserved
 loop-leaf-preserved c =
