@@ -39,6 +39,10 @@ pub fn coordinate(bytes: &[u8], at: usize) -> i32
     requires { at < 100 }
     ensures { result ≡ coordinate_at bytes.now at }
 {
+    // Bytes that are all there are read at once.
+    if at + 4 <= bytes.len() {
+        return i32::from_le_bytes([bytes[at], bytes[at + 1], bytes[at + 2], bytes[at + 3]]);
+    }
     i32::from_le_bytes([
         byte_at(bytes, at),
         byte_at(bytes, at + 1),

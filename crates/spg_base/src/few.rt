@@ -1,0 +1,77 @@
+ghost use Rattle.std.specs.Prelude.{◌≡◌, ◌+◌, ◌<◌, ◌≤◌, ◌++◌, ◌∷◌, [], length};
+
+use std::alloc::Global;
+use std::marker::Model;
+
+/// How many bytes have room in place.
+pub(crate) const FEW: usize = 28;
+
+/// At most 28 bytes: the first `len` of an array.
+#[derive(Debug, Drop)]
+pub(crate) struct Few {
+    alloc: Global,
+    len: u8,
+    bytes: [u8; 28],
+}
+
+impl Model for Few {
+    ghost use Rattle.std.specs.Prelude.{ℕ, ◌≤◌, List, take};
+
+    ghost Value = { List ℕ };
+
+    ghost view = { λ f. take f.len f.bytes };
+
+    ghost invariant = { λ f. f.len ≤ 28 };
+}
+
+impl Few {
+    /// No bytes.
+    pub(crate) fn new(alloc: Global) -> Few
+        ensures { result ≡ [] }
+    {
+        Few {
+            alloc,
+            len: 0,
+            bytes: [0; 28],
+        }
+    }
+
+    /// The allocator of the list that these bytes are.
+    pub(crate) fn allocator(&self) -> Global {
+        self.alloc
+    }
+
+    /// How many there are.
+    pub(crate) fn len(&self) -> usize
+        ensures value { result ≡ length self.now }
+        ensures bound { result ≤ 28 }
+    {
+        self.len as usize
+    }
+
+    /// The bytes.
+    pub(crate) fn as_slice(&self) -> &[u8]
+        ensures { result.now ≡ self.now }
+    {
+        &self.bytes[..self.len as usize]
+    }
+
+    /// Adds a byte at the end.
+    pub(crate) fn push(&mut self, byte: u8)
+        requires { length self.old < 28 }
+        ensures { self.new ≡ self.old ++ byte ∷ [] }
+    {
+        self.bytes[self.len as usize] = byte;
+        self.len += 1;
+    }
+
+    /// Adds bytes at the end.
+    pub(crate) fn extend(&mut self, bytes: &[u8])
+        requires { length self.old + length bytes.now ≤ 28 }
+        ensures { self.new ≡ self.old ++ bytes.now }
+    {
+        let end = self.len as usize;
+        self.bytes[end..end + bytes.len()].copy_from_slice(bytes);
+        self.len += bytes.len() as u8;
+    }
+}
