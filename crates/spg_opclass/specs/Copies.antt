@@ -1,5 +1,5 @@
 -- What is copied out of an index so that a class can be asked apart from it, and what the class answers for it.
-use Rattle.std.specs.Prelude.{◌≡◌, ◌<◌, ℕ, ℤ, zero, suc, Bool, true, List, [], ◌∷◌, ◌++◌, Option, Some, None, IsSome, All, map, length, replicate, if◌then◌else◌}
+use Rattle.std.specs.Prelude.{◌≡◌, ◌<◌, ℕ, ℤ, zero, suc, true, List, [], ◌∷◌, ◌++◌, Option, Some, None, IsSome, All, map, length, replicate, if◌then◌else◌}
 use Rattle.spg_base.specs.Row.{RowAt}
 use Rattle.spg_base.specs.declared.names.Place.{Place}
 use Rattle.spg_opclass.specs.declared.view.InnerView.{InnerView}

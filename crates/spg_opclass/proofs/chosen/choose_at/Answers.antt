@@ -1,4 +1,4 @@
-use Rattle.std.proofs.Common.{◌≡◌, ◌∙◌, List, ℕ, sym, ap, subst}
+use Rattle.std.proofs.Common.{◌∙◌, sym, ap, subst}
 use Rattle.spg_opclass.specs.declared.view.InnerView.{InnerView}
 use Rattle.spg_opclass.specs.Copies.{IsThere}
 use Rattle.spg_opclass.proofs.Sifts.{answer_there}
