@@ -1,0 +1,106 @@
+use crate::makes::{inner_of, leaves_of, rests_of};
+use spg_base::{Block, List, Memory, Offset, Place, Point, PointCond, Row, Rows, Same};
+use spg_opclass::{Copied, InnerCopy, LeavesCopy, Sifted, sift};
+use spg_points::{encode, zero_labels};
+use spg_quad::{Quad, QuadRecon};
+use std::alloc::Global;
+use std::test::Fail;
+
+/// A place on block 3.
+fn place(offset: u16) -> Place {
+    Place {
+        block: Block(3),
+        offset: Offset(offset),
+    }
+}
+
+/// A tuple at 0,0 of which the second node is empty.
+fn inner(alloc: Global) -> Result<Option<InnerCopy<Quad>>, Memory> {
+    let mut links = List::new(alloc);
+    links.push(Some(place(1)))?;
+    links.push(None)?;
+    links.push(Some(place(2)))?;
+    links.push(Some(place(3)))?;
+    let prefix = encode(alloc, Point { x: 0, y: 0 })?;
+    let labels = zero_labels(alloc, 4)?;
+    Ok(inner_of(&Quad, QuadRecon, prefix, labels, links))
+}
+
+/// Leaves 1.1 of 1,1 and 1.2 of 5,-1.
+fn leaves(alloc: Global) -> Result<Option<LeavesCopy<Quad>>, Memory> {
+    let mut rows = Rows::new(alloc);
+    rows.push(Row::at(1, 1))?;
+    rows.push(Row::at(1, 2))?;
+    let rests = rests_of(alloc, &[(1, 1), (5, -1)])?;
+    Ok(leaves_of(&Quad, QuadRecon, rows, rests))
+}
+
+fn conds_of(alloc: Global, cond: PointCond) -> Result<List<PointCond>, Memory> {
+    let mut conds = List::new(alloc);
+    conds.push(cond)?;
+    Ok(conds)
+}
+
+/// The nodes of a sifted copy, each plus one, as the digits of a number.
+fn digits(sifted: &Sifted<Quad>) -> u64 {
+    let mut number: u64 = 0;
+    for i in 0..sifted.nodes().len() {
+        if let Some((node, _)) = sifted.nodes().get(i) {
+            number = number.wrapping_mul(10).wrapping_add(*node as u64 + 1);
+        }
+    }
+    number
+}
+
+#[test]
+fn nodes_of_an_inner_tuple_are_sifted(rt: HostRuntime) -> Result<(), Fail> {
+    let alloc = rt.alloc();
+    match inner(alloc)? {
+        Some(tuple) => {
+            assert!(rt; tuple.links().len() == 4 && tuple.recon().same(&QuadRecon));
+            assert!(rt; tuple.tuple().labels.len() == 4);
+            let conds = conds_of(alloc, PointCond::Left(0))?;
+            let copied = Copied::Inner { tuple, conds };
+            let again = copied.copy()?;
+            let sifted = sift(alloc, &Quad, copied)?;
+            assert_eq!(rt; digits(&sifted), 34);
+            assert!(rt; sifted.rows().is_empty() && sifted.copied().same(&again));
+        }
+        None => assert!(rt; false),
+    }
+    Ok(())
+}
+
+#[test]
+fn every_node_is_kept_without_conditions(rt: HostRuntime) -> Result<(), Fail> {
+    let alloc = rt.alloc();
+    match inner(alloc)? {
+        Some(tuple) => {
+            let conds = List::new(alloc);
+            let sifted = sift(alloc, &Quad, Copied::Inner { tuple, conds })?;
+            assert_eq!(rt; digits(&sifted), 1234);
+        }
+        None => assert!(rt; false),
+    }
+    Ok(())
+}
+
+#[test]
+fn rows_of_leaves_are_sifted(rt: HostRuntime) -> Result<(), Fail> {
+    let alloc = rt.alloc();
+    match leaves(alloc)? {
+        Some(leaves) => {
+            assert!(rt; leaves.rows().len() == 2 && leaves.rests().len() == 2);
+            assert!(rt; leaves.recon().same(&QuadRecon));
+            let conds = conds_of(alloc, PointCond::Eq(Point { x: 5, y: -1 }))?;
+            let copied = Copied::Leaves { leaves, conds };
+            let again = copied.copy()?;
+            let sifted = sift(alloc, &Quad, copied)?;
+            assert_eq!(rt; sifted.rows().len(), 1);
+            assert!(rt; sifted.rows().get(0) == Some(&Row::at(1, 2)));
+            assert!(rt; sifted.nodes().is_empty() && sifted.copied().same(&again));
+        }
+        None => assert!(rt; false),
+    }
+    Ok(())
+}
