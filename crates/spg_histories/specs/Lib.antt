@@ -1,0 +1,11 @@
+pub mod Tasks
+pub mod Run
+pub mod Blocks
+pub mod Exact
+pub mod Pages
+pub mod Telling
+pub mod Causes
+pub mod Ending
+pub mod Calls
+pub mod Answer
+pub mod Alone

@@ -1,0 +1,5 @@
+pub mod Pieces
+pub mod Parts
+pub mod ResultLines
+pub mod EventLines
+pub mod Wholes

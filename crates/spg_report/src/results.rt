@@ -1,0 +1,105 @@
+ghost use Rattle.std.specs.Prelude.{◌≡◌, ◌++◌, ◌∷◌, OnOk, IfOk, codes};
+ghost use Rattle.spg_report.specs.Text.{result_text, outcome_text, rows_text, found_text, stat_text, journal_text};
+
+use crate::line::Line;
+use crate::outcome::Outcome;
+use crate::record::Record;
+use spg_base::{Bytes, Memory, Row, Stat};
+use std::alloc::Global;
+
+fn push_rows(line: &mut Line, rows: &[Row]) -> Result<(), Memory>
+    ensures { OnOk result (line.new ≡ line.old ++ rows_text rows.now) }
+{
+    for row in rows {
+        line.push(b' ')?;
+        line.row(*row)?;
+    }
+    Ok(())
+}
+
+/// Adds counts, each behind its word.
+pub fn push_stat(line: &mut Line, stat: &Stat) -> Result<(), Memory>
+    ensures { OnOk result (line.new ≡ line.old ++ stat_text stat.now) }
+{
+    line.named(b"stat pages ", u64::from(stat.pages))?;
+    line.named(b" inner ", stat.inner)?;
+    line.named(b" leaf ", stat.leaf)?;
+    line.named(b" redirect ", stat.redirect)?;
+    line.named(b" dead ", stat.dead)?;
+    line.named(b" placeholder ", stat.placeholder)?;
+    line.named(b" clock ", stat.clock)
+}
+
+fn push_found(line: &mut Line, rows: &[Row], walk: Option<u64>) -> Result<(), Memory>
+    ensures { OnOk result (line.new ≡ line.old ++ found_text rows.now walk) }
+{
+    line.named(b"found ", rows.len() as u64)?;
+    match walk {
+        Some(walk) => {
+            line.named(b" walk ", walk)?;
+            push_rows(line, rows)
+        }
+        None => push_rows(line, rows),
+    }
+}
+
+fn push_outcome(line: &mut Line, outcome: &Outcome) -> Result<(), Memory>
+    ensures { OnOk result (line.new ≡ line.old ++ outcome_text outcome.now) }
+{
+    match outcome {
+        Outcome::Added => line.extend(b"added"),
+        Outcome::RowUsed => line.extend(b"row used"),
+        Outcome::RowHeld { by } => line.named(b"row held by ", u64::from(by.number())),
+        Outcome::Full => line.extend(b"full"),
+        Outcome::ClockFull => line.extend(b"clock full"),
+        Outcome::Killed => line.extend(b"killed"),
+        Outcome::NotLive => line.extend(b"not live"),
+        Outcome::Found { rows, walk } => push_found(line, rows.as_slice(), *walk),
+        Outcome::Vacuumed(swept) => line.named(b"vacuumed ", *swept),
+        Outcome::OpenBy(seat) => line.named(b"open by ", u64::from(seat.number())),
+        Outcome::Saved(pages) => line.named(b"saved ", u64::from(*pages)),
+        Outcome::ImageFault => line.extend(b"image fault"),
+        Outcome::Stat(stat) => push_stat(line, stat),
+        Outcome::Memory => line.extend(b"memory"),
+    }
+}
+
+/// Adds the line of a command, without its end: its number, from 1, where it begins and ends in the
+/// journal, and what became of it.
+pub fn push_result(line: &mut Line, number: u64, done: &Record) -> Result<(), Memory>
+    ensures { OnOk result (line.new ≡ line.old ++ result_text number done.now) }
+{
+    line.number(number)?;
+    line.push(b' ')?;
+    line.number(done.span.from)?;
+    line.push(b' ')?;
+    line.number(done.span.to)?;
+    line.push(b' ')?;
+    push_outcome(line, &done.outcome)
+}
+
+/// Adds the line before the events, without its end: how many there are.
+pub fn push_journal(line: &mut Line, count: u64) -> Result<(), Memory>
+    ensures { OnOk result (line.new ≡ line.old ++ journal_text count) }
+{
+    line.named(b"journal ", count)
+}
+
+/// The line of a command, without its end: its number, from 1, where it begins and ends in the
+/// journal, and what became of it.
+pub fn result_line(alloc: Global, number: u64, done: &Record) -> Result<Bytes, Memory>
+    ensures { IfOk result (λ bytes. bytes ≡ result_text number done.now) }
+{
+    let mut line = Line::new(alloc);
+    push_result(&mut line, number, done)?;
+    Bytes::copy(alloc, line.as_slice())
+}
+
+/// What `stat` answers: counts, each behind its word.
+pub fn stat_line(alloc: Global, stat: &Stat) -> Result<Bytes, Memory>
+    ensures { IfOk result (λ bytes. bytes ≡ stat_text stat.now) }
+{
+    let mut line = Line::new(alloc);
+    push_stat(&mut line, stat)?;
+    Bytes::copy(alloc, line.as_slice())
+}

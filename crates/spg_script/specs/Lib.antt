@@ -1,0 +1,10 @@
+pub mod Blocks
+pub mod Spelling
+pub mod Quoted
+pub mod Line
+pub mod Reading
+pub mod Speech
+pub mod Laws
+pub mod Script
+pub mod Reader
+pub mod Speaking

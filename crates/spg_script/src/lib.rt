@@ -1,0 +1,24 @@
+//! Scripts: their types, their grammar both ways, and how classes speak.
+#![tactic(auto)]
+
+mod any_cond;
+mod any_key;
+mod any_query;
+mod class_name;
+mod command;
+mod laws;
+mod part;
+mod script;
+mod spelling;
+mod spoken;
+mod texts;
+
+pub use any_cond::AnyCond;
+pub use any_key::AnyKey;
+pub use any_query::AnyQuery;
+pub use class_name::ClassName;
+pub use command::Command;
+pub use laws::{readers_find, readers_go_on, scripts_are_exact};
+pub use part::Part;
+pub use script::Script;
+pub use spoken::Spoken;
