@@ -4,9 +4,15 @@
 mod any_cond;
 mod any_key;
 mod any_query;
+mod bytes;
+mod class_line;
 mod class_name;
 mod command;
+mod commands;
+mod conditions;
 mod laws;
+mod names;
+mod numbers;
 mod part;
 mod script;
 mod spelling;
