@@ -8,3 +8,5 @@ pub mod Laws
 pub mod Script
 pub mod Reader
 pub mod Speaking
+pub mod Steps
+pub mod Refusal
