@@ -4,19 +4,17 @@ use Rattle.spg_script.specs.declared.class_name.ClassName.{ClassName}
 use Rattle.spg_script.specs.declared.command.Command.{Command}
 use Rattle.spg_script.specs.declared.part.Part.{Part}
 use Rattle.spg_script.specs.declared.open_block.OpenBlock.{OpenBlock}
+use Rattle.spg_script.specs.declared.open_block.OpenBlock.TheVariants.{Empty, InLane}
 use Rattle.spg_script.specs.declared.blocks.Blocks.{Blocks}
 use Rattle.spg_script.specs.declared.reader.Reader.{Reader}
 use Rattle.spg_script.specs.declared.reader.Reader.TheVariants.{Start, Named}
 use Rattle.spg_script.specs.Script.{says_something}
 use Rattle.spg_script.specs.Reader.{Place, at_start, between, inside, LeadTo, Refuses}
 
-abbrev pub with_last : List (List Command) → Option (List Command) → List (List Command)
-with_last ended None = ended
-with_last ended (Some lane) = ended ++ lane ∷ []
-
 -- the lanes of a block that goes on
 abbrev pub lanes_of : OpenBlock → List (List Command)
-lanes_of block = with_last block.ended block.lane
+lanes_of Empty = []
+lanes_of (InLane ended lane) = ended ++ lane ∷ []
 
 abbrev pub place_at : ClassName → List Part → Option OpenBlock → Place
 place_at class parts None = between class parts

@@ -42,9 +42,8 @@ fn is_for_lanes(command: &Command) -> bool
     ensures { IsTrue result ↔ IsLaneCommand command.now }
 {
     match command {
-        Command::Insert { .. } | Command::Delete { .. } | Command::Find { .. } | Command::Vacuum => {
-            true
-        }
+        Command::Insert { .. } | Command::Delete { .. } | Command::Find { .. } | Command::Vacuum =>
+            { true }
         Command::Save { .. } | Command::Stat => false,
     }
 }
@@ -77,7 +76,7 @@ impl Blocks {
         ensures { IfOk result (λ taken. Steps (between self.old.class self.old.parts) line.now taken (place_of_blocks self.new)) }
     {
         if line == b"together".as_slice() {
-            self.open = Some(OpenBlock::new(alloc));
+            self.open = Some(OpenBlock::Empty);
             return Ok(true);
         }
         match read_command(alloc, self.class, line)? {
@@ -97,7 +96,7 @@ impl Blocks {
         if line == b"lane".as_slice() {
             self.begin_lane(alloc, block)
         } else if line == b"end".as_slice() {
-            self.end_block(block)
+            self.end_block(alloc, block)
         } else {
             self.read_lane_command(alloc, block, line)
         }
@@ -108,23 +107,23 @@ impl Blocks {
         requires { self.old.open ≡ None }
         ensures { IfOk result (λ taken. Steps (inside self.old.class self.old.parts (lanes_of block)) (codes "lane") taken (place_of_blocks self.new)) }
     {
-        let ended = block.into_lanes()?;
+        let ended = block.into_lanes(alloc)?;
         if ended.len() >= MOST_LANES {
             return Ok(false);
         }
-        self.open = Some(OpenBlock {
+        self.open = Some(OpenBlock::InLane {
             ended,
-            lane: Some(List::new(alloc)),
+            lane: List::new(alloc),
         });
         Ok(true)
     }
 
     /// The block ends.
-    fn end_block(&mut self, block: OpenBlock) -> Result<bool, Memory>
+    fn end_block(&mut self, alloc: Global, block: OpenBlock) -> Result<bool, Memory>
         requires { self.old.open ≡ None }
         ensures { IfOk result (λ taken. Steps (inside self.old.class self.old.parts (lanes_of block)) (codes "end") taken (place_of_blocks self.new)) }
     {
-        let lanes = block.into_lanes()?;
+        let lanes = block.into_lanes(alloc)?;
         if lanes.is_empty() {
             return Ok(false);
         }
@@ -136,14 +135,18 @@ impl Blocks {
     }
 
     /// Reads a line that is a command of a lane, or bad.
-    fn read_lane_command(&mut self, alloc: Global, block: OpenBlock, line: &[u8]) -> Result<bool, Memory>
+    fn read_lane_command(
+        &mut self,
+        alloc: Global,
+        block: OpenBlock,
+        line: &[u8],
+    ) -> Result<bool, Memory>
         requires free { self.old.open ≡ None }
         requires lane { line.now ≢ codes "lane" }
         requires end { line.now ≢ codes "end" }
         ensures { IfOk result (λ taken. Steps (inside self.old.class self.old.parts (lanes_of block)) line.now taken (place_of_blocks self.new)) }
     {
-        let OpenBlock { ended, lane } = block;
-        let Some(mut lane) = lane else {
+        let OpenBlock::InLane { ended, mut lane } = block else {
             return Ok(false);
         };
         match read_command(alloc, self.class, line)? {
@@ -152,8 +155,7 @@ impl Blocks {
                     return Ok(false);
                 }
                 lane.push(command)?;
-                let lane = Some(lane);
-                self.open = Some(OpenBlock { ended, lane });
+                self.open = Some(OpenBlock::InLane { ended, lane });
                 Ok(true)
             }
             None => Ok(false),

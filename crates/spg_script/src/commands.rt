@@ -3,9 +3,9 @@ ghost use Rattle.spg_script.specs.Line.{SpellsCommand, has_texts};
 ghost use Rattle.spg_script.specs.Reading.{key_of, insert_of, delete_of, find_of, save_of, command_of};
 ghost use Rattle.spg_script.specs.declared.command.Command.{Command};
 
-use crate::bytes::split;
 use crate::any_key::AnyKey;
 use crate::any_query::AnyQuery;
+use crate::bytes::split;
 use crate::class_name::ClassName;
 use crate::command::Command;
 use crate::conditions::conds;

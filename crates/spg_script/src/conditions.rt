@@ -1,8 +1,8 @@
 ghost use Rattle.std.specs.Prelude.{◌≡◌, IfOk};
 ghost use Rattle.spg_script.specs.Reading.{inside_of, cond_of, text_cond_of, point_cond_then, text_cond_then, cond_then, first_cond_of, told, told_cond, conds_of};
 
-use crate::bytes::{len_before, split};
 use crate::any_cond::AnyCond;
+use crate::bytes::{len_before, split};
 use crate::numbers::{coordinate, point};
 use crate::texts::quoted_text;
 use spg_base::{List, Memory, PointCond};
