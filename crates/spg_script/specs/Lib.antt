@@ -6,6 +6,7 @@ pub mod Reading
 pub mod Speech
 pub mod Laws
 pub mod Script
+pub mod Printing
 pub mod Reader
 pub mod Speaking
 pub mod Steps

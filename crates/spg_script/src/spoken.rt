@@ -3,7 +3,8 @@ ghost use Rattle.spg_script.specs.Speech.{Speech, SpeaksAsPrinted, NamesKeys, po
 
 use crate::any_cond::AnyCond;
 use crate::any_key::AnyKey;
-use crate::spelling::{cond_text, quoted, text_cond_text};
+use crate::numerals::push_point;
+use crate::spelling::{push_cond, push_quoted, push_text_cond};
 use spg_base::{Bytes, Memory, Point, PointCond, Same};
 use spg_kd::Kd;
 use spg_opclass::OpClass;
@@ -77,13 +78,15 @@ impl Spoken for Quad {
     }
 
     fn key_text(&self, alloc: Global, key: &Point) -> Result<Bytes, Memory> {
-        let text = format!(in alloc; "{key}")?;
-        Bytes::copy(alloc, text.as_bytes())
+        let mut text = Bytes::new(alloc);
+        push_point(&mut text, *key)?;
+        Ok(text)
     }
 
     fn cond_text(&self, alloc: Global, cond: &PointCond) -> Result<Bytes, Memory> {
-        let text = cond_text(alloc, cond)?;
-        Bytes::copy(alloc, text.as_bytes())
+        let mut text = Bytes::new(alloc);
+        push_cond(&mut text, cond)?;
+        Ok(text)
     }
 }
 
@@ -106,13 +109,15 @@ impl Spoken for Kd {
     }
 
     fn key_text(&self, alloc: Global, key: &Point) -> Result<Bytes, Memory> {
-        let text = format!(in alloc; "{key}")?;
-        Bytes::copy(alloc, text.as_bytes())
+        let mut text = Bytes::new(alloc);
+        push_point(&mut text, *key)?;
+        Ok(text)
     }
 
     fn cond_text(&self, alloc: Global, cond: &PointCond) -> Result<Bytes, Memory> {
-        let text = cond_text(alloc, cond)?;
-        Bytes::copy(alloc, text.as_bytes())
+        let mut text = Bytes::new(alloc);
+        push_cond(&mut text, cond)?;
+        Ok(text)
     }
 }
 
@@ -141,10 +146,14 @@ impl Spoken for Radix {
     }
 
     fn key_text(&self, alloc: Global, key: &ByteText) -> Result<Bytes, Memory> {
-        quoted(alloc, key.as_slice())
+        let mut text = Bytes::new(alloc);
+        push_quoted(&mut text, key.as_slice())?;
+        Ok(text)
     }
 
     fn cond_text(&self, alloc: Global, cond: &TextCond) -> Result<Bytes, Memory> {
-        text_cond_text(alloc, cond)
+        let mut text = Bytes::new(alloc);
+        push_text_cond(&mut text, cond)?;
+        Ok(text)
     }
 }
