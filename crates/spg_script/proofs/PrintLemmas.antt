@@ -1,5 +1,5 @@
 -- What the parts of the printer add is what is printed.
-use Rattle.std.proofs.Common.{◌≡◌, ◌<◌, ◌+◌, ◌/◌, ◌%◌, ℕ, suc, Bool, true, false, cond, List, [], ◌∷◌, ◌++◌, length, map, take, drop, slice_index, refl, sym, ap, ◌∙◌, arith, add-one, append-nil}
+use Rattle.std.proofs.Common.{◌≡◌, ◌<◌, ◌+◌, ◌/◌, ◌%◌, ℕ, suc, Bool, true, false, cond, List, [], ◌∷◌, ◌++◌, length, map, take, drop, slice_index, Ok, Err, inl, inr, refl, sym, ap, ◌∙◌, arith, add-one, append-nil}
 use Rattle.std.specs.Prelude.{codes}
 use Rattle.std.specs.List.{flat_map}
 use Rattle.std.proofs.lemmas.List.{append_assoc}
@@ -10,6 +10,8 @@ use Rattle.spg_script.specs.Spelling.{class_text}
 use Rattle.spg_script.specs.Quoted.{is_plain, hex_digit, byte_text}
 use Rattle.spg_script.specs.Script.{Saying, says, lane_opens, block_opens, block_ends, lane_sayings, block_sayings, sayings, saying_text, command_text, printed, IsScript, IsWritten}
 use Rattle.spg_script.specs.Printing.{plain_before, commands_text, lanes_text, block_text, part_text}
+use Rattle.spg_script.specs.declared.refused.ScriptRefused.TheVariants.{BadLine, Memory}
+use Rattle.spg_script.specs.Refusal.{PrintsReadBack}
 use Rattle.spg_script.proofs.Scripts.{exact}
 
 -- ---- runs of plain bytes
@@ -97,3 +99,8 @@ printed_spells script w = exact.printed_spells script (exact.tidy w.bytes script
 
 pub printed_alone : (script : Script) → IsWritten script → (other : Script) → IsScript (printed script) other → other ≡ script
 printed_alone script w other is = exact.one (printed script) other script is (printed_spells script w)
+
+pub reads_back : PrintsReadBack
+reads_back script w (Ok other) answer = inl (ap (λ (s : Script). Ok s) (printed_alone script w other answer.found))
+reads_back script w (Err (BadLine n)) answer = absurd (answer.bad.1 script (printed_spells script w))
+reads_back script w (Err Memory) answer = inr refl

@@ -21,7 +21,7 @@ place_at class parts None = between class parts
 place_at class parts (Some block) = inside class parts (lanes_of block)
 
 abbrev pub place_of_blocks : Blocks → Place
-place_of_blocks blocks = place_at blocks.class blocks.parts blocks.open
+place_of_blocks blocks = place_at blocks.class blocks.parts blocks.unended
 
 abbrev pub place_of : Reader → Place
 place_of Start = at_start

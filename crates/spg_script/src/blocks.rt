@@ -22,7 +22,7 @@ pub struct Blocks {
     /// The blocks that have ended.
     pub parts: List<Part>,
     /// The block that goes on, where one does.
-    pub open: Option<OpenBlock>,
+    pub unended: Option<OpenBlock>,
 }
 
 /// The block of a command outside lanes.
@@ -56,7 +56,7 @@ impl Blocks {
         Blocks {
             class,
             parts: List::new(alloc),
-            open: None,
+            unended: None,
         }
     }
 
@@ -64,7 +64,7 @@ impl Blocks {
     pub fn read(&mut self, alloc: Global, line: &[u8]) -> Result<bool, Memory>
         ensures { IfOk result (λ taken. Steps (place_of_blocks self.old) line.now taken (place_of_blocks self.new)) }
     {
-        match self.open.take() {
+        match self.unended.take() {
             None => self.read_between(alloc, line),
             Some(block) => self.read_inside(alloc, block, line),
         }
@@ -72,11 +72,11 @@ impl Blocks {
 
     /// Reads a line where no block goes on.
     fn read_between(&mut self, alloc: Global, line: &[u8]) -> Result<bool, Memory>
-        requires { self.old.open ≡ None }
+        requires { self.old.unended ≡ None }
         ensures { IfOk result (λ taken. Steps (between self.old.class self.old.parts) line.now taken (place_of_blocks self.new)) }
     {
         if line == b"together".as_slice() {
-            self.open = Some(OpenBlock::Empty);
+            self.unended = Some(OpenBlock::Empty);
             return Ok(true);
         }
         match read_command(alloc, self.class, line)? {
@@ -90,7 +90,7 @@ impl Blocks {
 
     /// Reads a line of a block.
     fn read_inside(&mut self, alloc: Global, block: OpenBlock, line: &[u8]) -> Result<bool, Memory>
-        requires { self.old.open ≡ None }
+        requires { self.old.unended ≡ None }
         ensures { IfOk result (λ taken. Steps (inside self.old.class self.old.parts (lanes_of block)) line.now taken (place_of_blocks self.new)) }
     {
         if line == b"lane".as_slice() {
@@ -104,14 +104,14 @@ impl Blocks {
 
     /// A lane begins.
     fn begin_lane(&mut self, alloc: Global, block: OpenBlock) -> Result<bool, Memory>
-        requires { self.old.open ≡ None }
+        requires { self.old.unended ≡ None }
         ensures { IfOk result (λ taken. Steps (inside self.old.class self.old.parts (lanes_of block)) (codes "lane") taken (place_of_blocks self.new)) }
     {
         let ended = block.into_lanes(alloc)?;
         if ended.len() >= MOST_LANES {
             return Ok(false);
         }
-        self.open = Some(OpenBlock::InLane {
+        self.unended = Some(OpenBlock::InLane {
             ended,
             lane: List::new(alloc),
         });
@@ -120,7 +120,7 @@ impl Blocks {
 
     /// The block ends.
     fn end_block(&mut self, alloc: Global, block: OpenBlock) -> Result<bool, Memory>
-        requires { self.old.open ≡ None }
+        requires { self.old.unended ≡ None }
         ensures { IfOk result (λ taken. Steps (inside self.old.class self.old.parts (lanes_of block)) (codes "end") taken (place_of_blocks self.new)) }
     {
         let lanes = block.into_lanes(alloc)?;
@@ -141,7 +141,7 @@ impl Blocks {
         block: OpenBlock,
         line: &[u8],
     ) -> Result<bool, Memory>
-        requires free { self.old.open ≡ None }
+        requires free { self.old.unended ≡ None }
         requires lane { line.now ≢ codes "lane" }
         requires end { line.now ≢ codes "end" }
         ensures { IfOk result (λ taken. Steps (inside self.old.class self.old.parts (lanes_of block)) line.now taken (place_of_blocks self.new)) }
@@ -155,7 +155,7 @@ impl Blocks {
                     return Ok(false);
                 }
                 lane.push(command)?;
-                self.open = Some(OpenBlock::InLane { ended, lane });
+                self.unended = Some(OpenBlock::InLane { ended, lane });
                 Ok(true)
             }
             None => Ok(false),

@@ -44,7 +44,7 @@ impl Reader {
         ensures none { IfNone result (IsEnd (place_of self) → ⊥) }
     {
         match self {
-            Reader::Named(blocks) => match blocks.open {
+            Reader::Named(blocks) => match blocks.unended {
                 None => Some((blocks.class, blocks.parts)),
                 Some(_) => None,
             },

@@ -1,4 +1,4 @@
-ghost use Rattle.std.specs.Prelude.{◌≡◌, IfOk, string_bytes};
+ghost use Rattle.std.specs.Prelude.{◌≡◌, Bool, IfOk};
 ghost use Rattle.spg_script.specs.Speech.{Speech, SpeaksAsPrinted, NamesKeys, point_in, point_cond_in, text_in, text_cond_in};
 
 use crate::any_cond::AnyCond;
@@ -19,8 +19,8 @@ pub trait Spoken: OpClass {
     /// It spells its keys and conditions as scripts are printed.
     ghost speaks: { SpeaksAsPrinted speech };
 
-    /// Scripts name each of its keys.
-    ghost names: { NamesKeys speech };
+    /// Whether its keys are texts; else they are points.
+    ghost texts: { Bool };
 
     /// The class's key for a script's. None exactly where the class has no such key.
     fn key_in(&self, key: &AnyKey) -> Result<Option<Self::Key>, Memory>
@@ -37,6 +37,9 @@ pub trait Spoken: OpClass {
     /// The text of a condition.
     fn cond_text(&self, alloc: Global, cond: &Self::Cond) -> Result<Bytes, Memory>
         ensures { IfOk result (λ text. text ≡ speech.cond_text cond.now) };
+
+    /// Scripts name each of its keys.
+    ghost names: { NamesKeys texts Self.OpClass.meaning.is_key speech };
 }
 
 /// The point of a key. None exactly where it is a text.
@@ -60,12 +63,15 @@ fn point_cond_in(cond: &AnyCond) -> Option<PointCond>
 }
 
 impl Spoken for Quad {
+    ghost use Rattle.std.specs.Prelude.{false};
     ghost use Rattle.spg_script.specs.Speech.{point_speech};
     ghost use Rattle.spg_script.specs.Speaking.{point_speaks, point_names};
 
     ghost speech = { point_speech };
 
     ghost speaks = { point_speaks };
+
+    ghost texts = { false };
 
     ghost names = { point_names };
 
@@ -91,12 +97,15 @@ impl Spoken for Quad {
 }
 
 impl Spoken for Kd {
+    ghost use Rattle.std.specs.Prelude.{false};
     ghost use Rattle.spg_script.specs.Speech.{point_speech};
     ghost use Rattle.spg_script.specs.Speaking.{point_speaks, point_names};
 
     ghost speech = { point_speech };
 
     ghost speaks = { point_speaks };
+
+    ghost texts = { false };
 
     ghost names = { point_names };
 
@@ -122,12 +131,15 @@ impl Spoken for Kd {
 }
 
 impl Spoken for Radix {
+    ghost use Rattle.std.specs.Prelude.{true};
     ghost use Rattle.spg_script.specs.Speech.{text_speech};
     ghost use Rattle.spg_script.specs.Speaking.{text_speaks, text_names};
 
     ghost speech = { text_speech };
 
     ghost speaks = { text_speaks };
+
+    ghost texts = { true };
 
     ghost names = { text_names };
 
