@@ -1,5 +1,5 @@
 -- What the parts of the printer add is what is printed.
-use Rattle.std.proofs.Common.{◌≡◌, ◌<◌, ◌+◌, ◌/◌, ◌%◌, ℕ, suc, Bool, true, false, cond, List, [], ◌∷◌, ◌++◌, length, map, take, drop, slice_index, Ok, Err, inl, inr, refl, sym, ap, ◌∙◌, arith, add-one, append-nil}
+use Rattle.std.proofs.Common.{◌≡◌, ◌<◌, ◌+◌, ◌/◌, ◌%◌, ℕ, suc, Bool, true, false, cond, List, [], ◌∷◌, ◌++◌, length, map, take, drop, slice_index, Ok, Err, inl, inr, refl, sym, ap, ◌∙◌, arith, add-one}
 use Rattle.std.specs.Prelude.{codes}
 use Rattle.std.specs.List.{flat_map}
 use Rattle.std.proofs.lemmas.List.{append_assoc}
@@ -8,7 +8,7 @@ use Rattle.spg_script.specs.declared.part.Part.{Part}
 use Rattle.spg_script.specs.Blocks.{Script}
 use Rattle.spg_script.specs.Spelling.{class_text}
 use Rattle.spg_script.specs.Quoted.{is_plain, hex_digit, byte_text}
-use Rattle.spg_script.specs.Script.{Saying, says, lane_opens, block_opens, block_ends, lane_sayings, block_sayings, sayings, saying_text, command_text, printed, IsScript, IsWritten}
+use Rattle.spg_script.specs.Script.{Saying, says, block_ends, lane_sayings, block_sayings, sayings, saying_text, command_text, printed, IsScript, IsWritten}
 use Rattle.spg_script.specs.Printing.{plain_before, commands_text, lanes_text, block_text, part_text}
 use Rattle.spg_script.specs.declared.refused.ScriptRefused.TheVariants.{BadLine, Memory}
 use Rattle.spg_script.specs.Refusal.{PrintsReadBack}

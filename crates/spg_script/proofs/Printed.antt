@@ -1,15 +1,14 @@
 -- What is printed spells what is said.
-use Rattle.std.proofs.Common.{◌≡◌, ◌⊎◌, inl, inr, ◌<◌, ◌≤◌, ◌+◌, ◌-◌, ◌*◌, ◌/◌, ◌%◌, ◌^◌, ◌==◌, ◌&&◌, ℕ, zero, suc, Bool, true, false, cond, List, [], ◌∷◌, ◌++◌, length, Option, Some, None, ℤ, FitsSigned, refl, sym, ap, ◌∙◌, subst, arith, append-nil}
+use Rattle.std.proofs.Common.{◌≡◌, inl, inr, ◌<◌, ◌≤◌, ◌+◌, ◌/◌, ◌%◌, ◌==◌, ◌&&◌, ℕ, zero, suc, Bool, true, false, cond, List, [], ◌∷◌, ◌++◌, length, Option, Some, None, ℤ, FitsSigned, refl, sym, ap, ◌∙◌, subst, arith, append-nil}
 use Rattle.std.specs.Prelude.{codes, nat_lt, nat_le, option_and_then, option_map}
 use Rattle.std.specs.Int.{w32}
-use Rattle.std.specs.Fmt.{decimal, signed_decimal}
+use Rattle.std.specs.Fmt.{signed_decimal}
 use Rattle.std.proofs.lemmas.Option.{same_Some}
-use Rattle.std.specs.List.{AllByRecursion, flat_map, list_all}
+use Rattle.std.specs.List.{AllByRecursion, flat_map}
 use Rattle.std.proofs.lemmas.Bool.{ltb-true, leb-true}
 use Rattle.std.proofs.lemmas.Bool.Decides.{eqb_tells}
 use Rattle.std.proofs.lemmas.List.{append_assoc}
-use Rattle.spg_base.specs.Row.{RowAt}
-use Rattle.spg_base.specs.Text.{row_text, point_text}
+use Rattle.spg_base.specs.Text.{point_text}
 use Rattle.spg_base.specs.declared.point.PointCond.{PointCond}
 use Rattle.spg_base.specs.declared.point.PointCond.TheVariants.{Eq, Left, Right, Below, Above, Inside}
 use Rattle.spg_opclass.specs.declared.query.Query.{Query}
@@ -25,11 +24,11 @@ use Rattle.spg_script.specs.declared.any_cond.AnyCond.TheVariants as any_cond
 use Rattle.spg_script.specs.declared.any_query.AnyQuery.{AnyQuery}
 use Rattle.spg_script.specs.declared.any_query.AnyQuery.TheVariants.{All, Null, Where}
 use Rattle.spg_script.specs.Quoted.{hex_of, hex_digit, is_plain, escaped, first_byte, byte_text, quoted, SpellsText, IsQuoted}
-use Rattle.spg_script.specs.Spelling.{IsRow, IsCond, cond_text, conds_text}
+use Rattle.spg_script.specs.Spelling.{IsCond, cond_text, conds_text}
 use Rattle.spg_script.specs.Line.{word_of, SpellsKeyOrNull, SpellsCond, SpellsConds, SpellsQuery}
-use Rattle.spg_script.specs.Speech.{Speech, SpeaksAsPrinted, key_or_null_in, conds_in, query_in, key_or_null_text, query_text, any_key_text, any_cond_text, any_key_or_null_text, any_query_text, text_cond_text}
+use Rattle.spg_script.specs.Speech.{Speech, SpeaksAsPrinted, key_or_null_in, conds_in, query_in, key_or_null_text, query_text, any_key_text, any_cond_text, any_key_or_null_text, any_query_text}
 use Rattle.spg_script.proofs.Digits.{HasNo, HasNo-cons, HasNo-append, HasNo-signed, byte_other}
-use Rattle.spg_script.specs.Laws.{IsAnyKey, IsKeyOrNull, IsAnyCond, IsQuery}
+use Rattle.spg_script.specs.Laws.{IsKeyOrNull, IsAnyCond, IsQuery}
 
 -- ---- texts
 

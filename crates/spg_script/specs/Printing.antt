@@ -1,5 +1,5 @@
 -- What each part of the printer adds.
-use Rattle.std.specs.Prelude.{◌≡◌, ℕ, ◌+◌, Bool, true, false, List, [], ◌∷◌, ◌++◌, codes, if◌then◌else◌}
+use Rattle.std.specs.Prelude.{ℕ, ◌+◌, Bool, true, false, List, [], ◌∷◌, ◌++◌, codes, if◌then◌else◌}
 use Rattle.std.specs.List.{flat_map}
 use Rattle.spg_script.specs.declared.command.Command.{Command}
 use Rattle.spg_script.specs.declared.part.Part.{Part}

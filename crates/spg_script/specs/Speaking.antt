@@ -1,5 +1,5 @@
 -- Each class spells its keys and conditions as scripts are printed, and scripts name each of its keys.
-use Rattle.std.proofs.Common.{◌≡◌, refl, sym, ap, arith, ℕ, ℤ, pos, negsuc, ◌≤ℤ◌, Bool, true, false, ◌&&◌, w32, FitsSigned, List, Option, Some, None}
+use Rattle.std.proofs.Common.{◌≡◌, refl, sym, ap, arith, ℕ, ℤ, pos, negsuc, ◌≤ℤ◌, Bool, true, false, ◌&&◌, w32, FitsSigned, List, Some}
 use Rattle.std.specs.Prelude.{int_le}
 use Rattle.std.proofs.lemmas.Int.{ints}
 use Rattle.std.proofs.lemmas.Option.{same_Some}

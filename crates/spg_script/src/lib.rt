@@ -39,3 +39,6 @@ pub use printing::print;
 pub use refused::ScriptRefused;
 pub use script::Script;
 pub use spoken::Spoken;
+
+#[cfg(test)]
+mod tests;

@@ -1,5 +1,4 @@
-use Rattle.std.proofs.Common.{◌≡◌, ◌++◌, ◌∷◌, [], List, ℕ, sym, ap, ◌∙◌, subst, refl}
-use Rattle.spg_script.specs.Blocks.{Script}
+use Rattle.std.proofs.Common.{◌≡◌, ◌++◌, ◌∷◌, [], List, ℕ, sym, ◌∙◌, subst, refl}
 use Rattle.spg_script.specs.Script.{printed, IsScript}
 use Rattle.spg_script.specs.Spelling.{class_text}
 use Rattle.spg_script.proofs.PrintLemmas.{printed_is, printed_spells, printed_alone}

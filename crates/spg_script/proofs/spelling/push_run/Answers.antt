@@ -1,4 +1,4 @@
-use Rattle.std.proofs.Common.{◌≡◌, ◌+◌, refl, ◌∙◌, arith}
+use Rattle.std.proofs.Common.{◌+◌, refl, ◌∙◌, arith}
 use Rattle.std.proofs.lemmas.List.{take_rest}
 use Rattle.spg_script.proofs.PrintLemmas.{all_plain, one_escaped}
 use Rattle.spg_script.proofs.spelling.push_run.Goals as goal

@@ -1,4 +1,4 @@
-use Rattle.std.proofs.Common.{◌≡◌, sym, ◌∙◌}
+use Rattle.std.proofs.Common.{sym, ◌∙◌}
 use Rattle.std.proofs.lemmas.Slice.Eq.{bytes_eq-Decides}
 use Rattle.spg_script.proofs.ReadLines.{block_begins, command_alone}
 use Rattle.spg_script.proofs.blocks.Blocks.read_between.Goals as goal

@@ -1,4 +1,3 @@
-use Rattle.std.proofs.Common.{◌≡◌, sym, ◌∙◌}
 use Rattle.spg_script.proofs.ReadLines.{not_in_lane, command_in_lane}
 use Rattle.spg_script.proofs.blocks.Blocks.read_lane_command.Goals as goal
 
