@@ -13,6 +13,7 @@ use Rattle.spg_script.specs.Printing.{plain_before, commands_text, lanes_text, b
 use Rattle.spg_script.specs.declared.refused.ScriptRefused.TheVariants.{BadLine, Memory}
 use Rattle.spg_script.specs.Refusal.{PrintsReadBack}
 use Rattle.spg_script.proofs.Scripts.{exact}
+use Rattle.spg_script.proofs.TextLemmas.{one_more, none_before}
 
 -- ---- runs of plain bytes
 
@@ -24,12 +25,6 @@ plain_byte b rest e = ap (λ (t : Bool). cond t (b ∷ []) (escape b) ++ rest) e
 
 other_byte : (b : ℕ) (rest : List ℕ) → is_plain b ≡ false → byte_text b ++ rest ≡ escape b ++ rest
 other_byte b rest e = ap (λ (t : Bool). cond t (b ∷ []) (escape b) ++ rest) e
-
-one_more : (b : ℕ) (bytes : List ℕ) → is_plain b ≡ true → plain_before (b ∷ bytes) ≡ suc (plain_before bytes)
-one_more b bytes e = ap (λ (t : Bool). cond t (plain_before bytes + 1) 0) e ∙ add-one (plain_before bytes)
-
-none_before : (b : ℕ) (bytes : List ℕ) → is_plain b ≡ false → plain_before (b ∷ bytes) ≡ 0
-none_before b bytes e = ap (λ (t : Bool). cond t (plain_before bytes + 1) 0) e
 
 run : (bytes : List ℕ) (n : ℕ) → n ≡ plain_before bytes → flat_map byte_text bytes ≡ take n bytes ++ flat_map byte_text (drop n bytes)
 run [] n is = rw is refl

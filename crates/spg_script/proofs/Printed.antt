@@ -51,13 +51,13 @@ hex_back (suc (suc (suc (suc (suc (suc (suc (suc (suc (suc (suc (suc (suc (suc z
 hex_back (suc (suc (suc (suc (suc (suc (suc (suc (suc (suc (suc (suc (suc (suc (suc zero))))))))))))))) _ = refl
 hex_back (suc (suc (suc (suc (suc (suc (suc (suc (suc (suc (suc (suc (suc (suc (suc (suc n)))))))))))))))) small = absurd (omega arith)
 
-not_backslash : (b : ℕ) → is_plain b ≡ true → (b == 92) ≡ false
+pub not_backslash : (b : ℕ) → is_plain b ≡ true → (b == 92) ≡ false
 not_backslash b plain = elim (eqb_tells b 92) [
   | inl same ↦ let clash : false ≡ true = rw same.1 at plain in (cc)
   | inr other ↦ other.0
 ]
 
-plain_first : (b : ℕ) (rest : List ℕ) → (b == 92) ≡ false → is_plain b ≡ true → first_byte (b ∷ rest) ≡ Some (b, rest)
+pub plain_first : (b : ℕ) (rest : List ℕ) → (b == 92) ≡ false → is_plain b ≡ true → first_byte (b ∷ rest) ≡ Some (b, rest)
 plain_first b rest other plain = ap (λ (t : Bool). cond t (escaped rest) (cond (is_plain b) (Some (b, rest)) None)) other ∙ ap (λ (t : Bool). cond t (Some (b, rest)) None) plain
 
 first_printed : (b : ℕ) (rest : List ℕ) → b < 256 → first_byte (byte_text b ++ rest) ≡ Some (b, rest)

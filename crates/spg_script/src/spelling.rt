@@ -12,7 +12,7 @@ use crate::any_cond::AnyCond;
 use crate::any_key::AnyKey;
 use crate::any_query::AnyQuery;
 use crate::numerals::{push_coordinate, push_point};
-use crate::texts::is_plain;
+use crate::texts::plain_before;
 use spg_base::{Bytes, Memory, Point, PointCond};
 use spg_radix::TextCond;
 
@@ -59,19 +59,6 @@ fn hex_digit(n: u8) -> u8
     ensures { result ≡ hex_digit n }
 {
     if n < 10 { 48 + n } else { 87 + n }
-}
-
-/// How many bytes stand before the first that may not stand for itself.
-fn plain_before(bytes: &[u8]) -> usize
-    ensures value { result ≡ plain_before bytes.now }
-    ensures within { result ≤ length bytes.now }
-{
-    for (i, b) in bytes.iter().enumerate() {
-        if !is_plain(*b) {
-            return i;
-        }
-    }
-    bytes.len()
 }
 
 /// Adds bytes up to the first that may not stand for itself, and that one; gives what follows.
