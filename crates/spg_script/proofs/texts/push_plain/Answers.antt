@@ -1,4 +1,4 @@
-use Rattle.std.proofs.Common.{◌≡◌, arith}
+use Rattle.std.proofs.Common.{arith}
 use Rattle.std.proofs.lemmas.List.{take_rest}
 use Rattle.spg_script.proofs.TextLemmas.{reads_on, too_long}
 use Rattle.spg_script.proofs.texts.push_plain.Goals as goal
