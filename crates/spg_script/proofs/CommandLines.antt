@@ -1,11 +1,10 @@
 -- Commands: what is spelled is read, and what is read is spelled.
-use Rattle.std.proofs.Common.{◌≡◌, ◌⊎◌, inl, inr, ◌<◌, ◌≤◌, ◌^◌, ℕ, zero, suc, Bool, true, false, List, [], ◌∷◌, ◌++◌, length, drop, Option, Some, None, refl, sym, ap, ◌∙◌, subst, arith, cond, ◌==◌}
+use Rattle.std.proofs.Common.{◌≡◌, inl, inr, ◌≤◌, ℕ, zero, suc, Bool, true, false, List, [], ◌∷◌, ◌++◌, length, drop, Option, Some, None, refl, sym, ap, ◌∙◌, subst, arith, cond, ◌==◌}
 use Rattle.std.specs.Prelude.{codes, bytes_eq}
 use Rattle.std.specs.Fmt.{decimal}
 use Rattle.std.proofs.lemmas.Bool.Decides.{eqb_tells}
 use Rattle.std.proofs.lemmas.Slice.Eq.{bytes_eq-Decides}
 use Rattle.std.proofs.lemmas.Option.{same_Some}
-use Rattle.std.proofs.lemmas.List.{append_assoc}
 use Rattle.spg_base.specs.Row.{RowAt}
 use Rattle.spg_base.specs.Text.{row_text, point_text}
 use Rattle.spg_base.specs.declared.point.Point.{Point}
@@ -20,7 +19,7 @@ use Rattle.spg_script.specs.declared.any_query.AnyQuery.TheVariants.{All, Null, 
 use Rattle.spg_script.specs.declared.command.Command.{Command}
 use Rattle.spg_script.specs.declared.command.Command.TheVariants.{Insert, Delete, Find, Vacuum, Save, Stat}
 use Rattle.spg_script.specs.Spelling.{IsPoint, IsRow}
-use Rattle.spg_script.specs.Line.{is_name, SpellsKey, SpellsKeyOrNull, SpellsCond, SpellsConds, SpellsQuery, SpellsCommand}
+use Rattle.spg_script.specs.Line.{is_name, SpellsKeyOrNull, SpellsCond, SpellsConds, SpellsQuery, SpellsCommand}
 use Rattle.spg_script.specs.Reading.{◌>>=◌, split_at, row_of, point_of, cond_then, point_cond_then, text_cond_then, after, cond_and, first_cond_of, more_conds, conds_of, whole_text_of, key_of, insert_of, find_of, delete_of, save_of, command_of}
 use Rattle.spg_script.proofs.Options.{bind_some, pair_some, word_or, front_or}
 use Rattle.spg_script.proofs.Digits.{HasNo, HasNo-cons, HasNo-append, HasNo-decimal, byte_other, split_at-front, spelled-split_at, row_of-text, spelled-row_of, point_of-text, spelled-point_of}

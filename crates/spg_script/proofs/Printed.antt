@@ -1,15 +1,14 @@
 -- What is printed spells what is said.
-use Rattle.std.proofs.Common.{◌≡◌, ◌⊎◌, inl, inr, ◌<◌, ◌≤◌, ◌+◌, ◌-◌, ◌*◌, ◌/◌, ◌%◌, ◌^◌, ◌==◌, ◌&&◌, ℕ, zero, suc, Bool, true, false, cond, List, [], ◌∷◌, ◌++◌, length, Option, Some, None, ℤ, FitsSigned, refl, sym, ap, ◌∙◌, subst, arith, append-nil}
+use Rattle.std.proofs.Common.{◌≡◌, inl, inr, ◌<◌, ◌≤◌, ◌+◌, ◌/◌, ◌%◌, ◌==◌, ◌&&◌, ℕ, zero, suc, Bool, true, false, cond, List, [], ◌∷◌, ◌++◌, length, Option, Some, None, ℤ, FitsSigned, refl, sym, ap, ◌∙◌, subst, arith, append-nil}
 use Rattle.std.specs.Prelude.{codes, nat_lt, nat_le, option_and_then, option_map}
 use Rattle.std.specs.Int.{w32}
-use Rattle.std.specs.Fmt.{decimal, signed_decimal}
+use Rattle.std.specs.Fmt.{signed_decimal}
 use Rattle.std.proofs.lemmas.Option.{same_Some}
-use Rattle.std.specs.List.{AllByRecursion, flat_map, list_all}
+use Rattle.std.specs.List.{AllByRecursion, flat_map}
 use Rattle.std.proofs.lemmas.Bool.{ltb-true, leb-true}
 use Rattle.std.proofs.lemmas.Bool.Decides.{eqb_tells}
 use Rattle.std.proofs.lemmas.List.{append_assoc}
-use Rattle.spg_base.specs.Row.{RowAt}
-use Rattle.spg_base.specs.Text.{row_text, point_text}
+use Rattle.spg_base.specs.Text.{point_text}
 use Rattle.spg_base.specs.declared.point.PointCond.{PointCond}
 use Rattle.spg_base.specs.declared.point.PointCond.TheVariants.{Eq, Left, Right, Below, Above, Inside}
 use Rattle.spg_opclass.specs.declared.query.Query.{Query}
@@ -25,11 +24,11 @@ use Rattle.spg_script.specs.declared.any_cond.AnyCond.TheVariants as any_cond
 use Rattle.spg_script.specs.declared.any_query.AnyQuery.{AnyQuery}
 use Rattle.spg_script.specs.declared.any_query.AnyQuery.TheVariants.{All, Null, Where}
 use Rattle.spg_script.specs.Quoted.{hex_of, hex_digit, is_plain, escaped, first_byte, byte_text, quoted, SpellsText, IsQuoted}
-use Rattle.spg_script.specs.Spelling.{IsRow, IsCond, cond_text, conds_text}
+use Rattle.spg_script.specs.Spelling.{IsCond, cond_text, conds_text}
 use Rattle.spg_script.specs.Line.{word_of, SpellsKeyOrNull, SpellsCond, SpellsConds, SpellsQuery}
-use Rattle.spg_script.specs.Speech.{Speech, SpeaksAsPrinted, key_or_null_in, conds_in, query_in, key_or_null_text, query_text, any_key_text, any_cond_text, any_key_or_null_text, any_query_text, text_cond_text}
+use Rattle.spg_script.specs.Speech.{Speech, SpeaksAsPrinted, key_or_null_in, conds_in, query_in, key_or_null_text, query_text, any_key_text, any_cond_text, any_key_or_null_text, any_query_text}
 use Rattle.spg_script.proofs.Digits.{HasNo, HasNo-cons, HasNo-append, HasNo-signed, byte_other}
-use Rattle.spg_script.specs.Laws.{IsAnyKey, IsKeyOrNull, IsAnyCond, IsQuery}
+use Rattle.spg_script.specs.Laws.{IsKeyOrNull, IsAnyCond, IsQuery}
 
 -- ---- texts
 
@@ -52,13 +51,13 @@ hex_back (suc (suc (suc (suc (suc (suc (suc (suc (suc (suc (suc (suc (suc (suc z
 hex_back (suc (suc (suc (suc (suc (suc (suc (suc (suc (suc (suc (suc (suc (suc (suc zero))))))))))))))) _ = refl
 hex_back (suc (suc (suc (suc (suc (suc (suc (suc (suc (suc (suc (suc (suc (suc (suc (suc n)))))))))))))))) small = absurd (omega arith)
 
-not_backslash : (b : ℕ) → is_plain b ≡ true → (b == 92) ≡ false
+pub not_backslash : (b : ℕ) → is_plain b ≡ true → (b == 92) ≡ false
 not_backslash b plain = elim (eqb_tells b 92) [
   | inl same ↦ let clash : false ≡ true = rw same.1 at plain in (cc)
   | inr other ↦ other.0
 ]
 
-plain_first : (b : ℕ) (rest : List ℕ) → (b == 92) ≡ false → is_plain b ≡ true → first_byte (b ∷ rest) ≡ Some (b, rest)
+pub plain_first : (b : ℕ) (rest : List ℕ) → (b == 92) ≡ false → is_plain b ≡ true → first_byte (b ∷ rest) ≡ Some (b, rest)
 plain_first b rest other plain = ap (λ (t : Bool). cond t (escaped rest) (cond (is_plain b) (Some (b, rest)) None)) other ∙ ap (λ (t : Bool). cond t (Some (b, rest)) None) plain
 
 first_printed : (b : ℕ) (rest : List ℕ) → b < 256 → first_byte (byte_text b ++ rest) ≡ Some (b, rest)

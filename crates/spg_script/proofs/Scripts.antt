@@ -1,5 +1,5 @@
 -- Scripts are printed as they are spelled, and bytes are one script at most.
-use Rattle.std.proofs.Common.{◌≡◌, ◌⊎◌, inl, inr, take-append-drop, ◌<◌, ◌≤◌, ◌+◌, ◌-◌, ◌==◌, ◌&&◌, ◌||◌, ℕ, zero, suc, Bool, true, false, not, cond, List, [], ◌∷◌, ◌++◌, take, drop, length, map, Option, Some, None, refl, sym, ap, ◌∙◌, subst, arith}
+use Rattle.std.proofs.Common.{◌≡◌, inl, inr, take-append-drop, ◌+◌, ◌==◌, ◌&&◌, ◌||◌, ℕ, suc, Bool, true, false, cond, List, [], ◌∷◌, ◌++◌, drop, length, map, Some, None, refl, sym, ap, ◌∙◌, subst, arith}
 use Rattle.std.specs.Prelude.{codes, filter, nat_le, ⊤}
 use Rattle.std.specs.List.{AllZip, AllByRecursion, flat_map, list_all}
 use Rattle.std.proofs.lemmas.Option.{same_Some}
@@ -20,7 +20,7 @@ use Rattle.spg_script.specs.Line.{has_texts, is_first_of_name, is_in_name, is_na
 use Rattle.spg_script.specs.Reading.{len_before, command_of}
 use Rattle.spg_script.specs.Speech.{any_key_or_null_text, any_query_text}
 use Rattle.spg_script.specs.Laws.{IsCommand}
-use Rattle.spg_script.specs.Script.{onto_first, lines_of, says_something, Saying, block_opens, lane_opens, block_ends, says, lane_sayings, block_sayings, sayings, IsBlock, IsPart, Spells, AreSpoken, AreLines, IsScript, IsFirstBad, command_text, saying_text, printed_lines, printed, AreCommands, IsTidy, ScriptsAreExact}
+use Rattle.spg_script.specs.Script.{onto_first, lines_of, says_something, Saying, block_opens, lane_opens, block_ends, says, lane_sayings, block_sayings, sayings, IsBlock, IsPart, Spells, AreSpoken, IsScript, IsFirstBad, command_text, saying_text, printed_lines, printed, AreCommands, IsTidy, ScriptsAreExact}
 use Rattle.spg_script.proofs.Digits.{HasNo, HasNo-cons, HasNo-append, HasNo-decimal}
 use Rattle.spg_script.proofs.CommandLines.{command_of-spelled}
 use Rattle.spg_script.proofs.Tidy.{script_tidy}

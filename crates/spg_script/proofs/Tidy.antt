@@ -1,10 +1,9 @@
 -- A script of bytes can be printed.
-use Rattle.std.proofs.Common.{◌≡◌, ◌⊎◌, inl, inr, ◌<◌, ◌≤◌, ◌+◌, ◌-◌, ◌*◌, ◌==◌, ◌&&◌, ℕ, zero, suc, Bool, true, false, cond, List, [], ◌∷◌, ◌++◌, length, map, Option, Some, None, refl, sym, ap, ◌∙◌, subst, arith}
+use Rattle.std.proofs.Common.{◌≡◌, ◌<◌, ◌+◌, ◌-◌, ◌*◌, ◌==◌, ◌&&◌, ℕ, Bool, true, false, cond, List, [], ◌∷◌, ◌++◌, length, map, Option, Some, None, refl, ap, ◌∙◌, subst, arith}
 use Rattle.std.specs.Prelude.{codes, filter, nat_le, nat_lt, option_and_then, ⊤}
-use Rattle.std.specs.List.{AllZip, AllByRecursion, flat_map, list_all}
+use Rattle.std.specs.List.{AllZip, AllByRecursion, flat_map}
 use Rattle.std.proofs.lemmas.Option.{same_Some}
 use Rattle.std.proofs.lemmas.Bool.{ltb-true, leb-true, lt-ltb, le-leb}
-use Rattle.std.proofs.lemmas.Bool.Decides.{eqb_tells}
 use Rattle.spg_radix.specs.Texts.{is_bytes, is_text}
 use Rattle.spg_radix.specs.Conditions.{named}
 use Rattle.spg_script.specs.declared.any_key.AnyKey.{AnyKey}
@@ -22,7 +21,7 @@ use Rattle.spg_script.specs.Quoted.{hex_of, is_plain, escaped, first_byte, Spell
 use Rattle.spg_script.specs.Spelling.{cond_text}
 use Rattle.spg_script.specs.Line.{has_texts, word_of, SpellsKeyOrNull, SpellsCond, SpellsConds, SpellsQuery, SpellsCommand}
 use Rattle.spg_script.specs.Laws.{IsKeyOrNull, IsAnyCond, IsQuery, IsCommand}
-use Rattle.spg_script.specs.Script.{onto_first, lines_of, says_something, Saying, block_opens, lane_opens, block_ends, says, lane_sayings, block_sayings, sayings, IsBlock, IsPart, Spells, AreSpoken, IsScript, AreCommands, IsTidy}
+use Rattle.spg_script.specs.Script.{onto_first, lines_of, says_something, Saying, block_opens, lane_opens, block_ends, says, lane_sayings, block_sayings, sayings, Spells, AreSpoken, IsScript, AreCommands, IsTidy}
 
 abbrev AreBytes : List ℕ → Type 0
 AreBytes bytes = AllByRecursion (λ b. b < 256) bytes

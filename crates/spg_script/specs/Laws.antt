@@ -1,5 +1,5 @@
 -- What a command of a script is, apart from how it is spelled.
-use Rattle.std.specs.Prelude.{◌≡◌, Bool, true, false, ℕ, List, [], ◌∷◌, ◌++◌, Option, Some, None, ⊤, ◌⊎◌, ◌≤◌, length}
+use Rattle.std.specs.Prelude.{◌≡◌, Bool, true, false, Option, Some, None, ⊤, ◌≤◌, length}
 use Rattle.std.specs.List.{AllByRecursion}
 use Rattle.spg_radix.specs.Texts.{is_text}
 use Rattle.spg_radix.specs.Conditions.{named}

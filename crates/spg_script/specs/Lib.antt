@@ -3,8 +3,11 @@ pub mod Spelling
 pub mod Quoted
 pub mod Line
 pub mod Reading
-pub mod Speech
 pub mod Laws
+pub mod Speech
 pub mod Script
+pub mod Printing
 pub mod Reader
 pub mod Speaking
+pub mod Steps
+pub mod Refusal

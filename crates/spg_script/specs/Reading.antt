@@ -1,6 +1,6 @@
 -- What each part of the reader makes of bytes. The lemmas show that it is what the bytes spell, and that nothing that
 -- is spelled is missed.
-use Rattle.std.specs.Prelude.{ℕ, zero, suc, Bool, ◌+◌, ◌-◌, ◌*◌, ◌^◌, List, [], ◌∷◌, ◌++◌, length, take, drop, Option, Some, None, option_and_then, if◌then◌else◌, ◌==◌, nat_lt, nat_eq, ◌||◌, ◌&&◌, ℤ, pos, neg_ℤ, int_le, codes, bytes_eq}
+use Rattle.std.specs.Prelude.{◌≡◌, ◌≤◌, ℕ, zero, suc, Bool, ◌+◌, ◌-◌, ◌*◌, ◌^◌, List, [], ◌∷◌, ◌++◌, length, take, drop, Option, Some, None, option_and_then, if◌then◌else◌, ◌==◌, nat_lt, nat_eq, ◌||◌, ◌&&◌, ℤ, pos, neg_ℤ, int_le, codes, bytes_eq}
 use Rattle.std.specs.List.{starts_with}
 use Rattle.std.specs.Borrow.{Bor}
 use Rattle.spg_base.specs.Row.{RowAt}
@@ -123,6 +123,12 @@ text_of (suc n) bytes = end_or (byte_and_text (text_of n) (first_byte bytes)) (a
 abbrev pub put_bytes : List ℕ → Option (List ℕ × List ℕ) → Option (List ℕ × List ℕ)
 put_bytes front None = None
 put_bytes front (Some more) = Some (front ++ more.0, more.1)
+
+-- a text that was read further: what is read in all is the same, and it is not too long
+pub record ReadsOn (text bytes longer rest : List ℕ) : Type 0 where
+  pub same : put_bytes text (text_of (3901 - length text) bytes) ≡ put_bytes longer (text_of (3901 - length longer) rest)
+  pub few : length longer ≤ 3900
+  pub grows : length text ≤ length longer
 
 -- a text between quotes, and what is left
 unfoldable pub quoted_of : List ℕ → Option (List ℕ × List ℕ)

@@ -1,5 +1,5 @@
 -- How a class's keys and conditions are those of a script, and how they are spelled.
-use Rattle.std.specs.Prelude.{◌≡◌, ℕ, List, [], ◌∷◌, ◌++◌, Option, Some, None, option_map, option_and_then, codes, ⊤}
+use Rattle.std.specs.Prelude.{◌≡◌, ℕ, Bool, true, List, [], ◌∷◌, ◌++◌, Option, Some, None, option_map, option_and_then, codes, ⊤}
 use Rattle.spg_base.specs.Text.{point_text}
 use Rattle.spg_base.specs.declared.point.Point.{Point}
 use Rattle.spg_base.specs.declared.point.PointCond.{PointCond}
@@ -18,6 +18,7 @@ use Rattle.spg_script.specs.declared.command.Command.TheVariants.{Insert, Delete
 use Rattle.spg_script.specs.Quoted.{quoted}
 use Rattle.spg_script.specs.Spelling.{cond_text, conds_text}
 use Rattle.spg_script.specs.Line.{word_of}
+use Rattle.spg_script.specs.Laws.{IsAnyKey}
 
 pub record Speech (Key Cond : Type 0) : Type 0 where
   -- what a script's key and condition are in the class, where it has such
@@ -119,6 +120,6 @@ pub record SpeaksAsPrinted {Key Cond : Type 0} (speech : Speech Key Cond) : Type
   pub key : (a : AnyKey) (k : Key) → speech.key_in a ≡ Some k → speech.key_text k ≡ any_key_text a
   pub cond : (a : AnyCond) (c : Cond) → speech.cond_in a ≡ Some c → speech.cond_text c ≡ any_cond_text a
 
--- scripts name each key of the class
-abbrev pub NamesKeys : {Key Cond : Type 0} → Speech Key Cond → Type 0
-NamesKeys {Key} speech = (k : Key) → (a : AnyKey) × (speech.key_in a ≡ Some k)
+-- scripts of a class of texts, or of points, name each key that the class has
+abbrev pub NamesKeys : {Key Cond : Type 0} → Bool → (Key → Bool) → Speech Key Cond → Type 0
+NamesKeys {Key} texts is_key speech = (k : Key) → is_key k ≡ true → (a : AnyKey) × (speech.key_in a ≡ Some k) × IsAnyKey texts a

@@ -1,25 +1,55 @@
-ghost use Rattle.std.specs.Prelude.{◌≡◌, ◌<◌, ◌++◌, IfOk, OnOk, string_bytes};
+ghost use Rattle.std.specs.Prelude.{◌≡◌, ◌<◌, ◌++◌, ◌≤◌, IfOk, OnOk, length, codes};
+ghost use Rattle.std.specs.Fmt.{signed_decimal};
+ghost use Rattle.std.specs.List.{flat_map};
+ghost use Rattle.spg_base.specs.declared.point.PointCond.TheVariants as point_cond;
 ghost use Rattle.spg_script.specs.Quoted.{hex_digit, byte_text, quoted};
 ghost use Rattle.spg_script.specs.Line.{word_of};
-ghost use Rattle.spg_script.specs.Spelling.{cond_text};
-ghost use Rattle.spg_script.specs.Speech.{text_cond_text};
+ghost use Rattle.spg_script.specs.Spelling.{cond_text, conds_text};
+ghost use Rattle.spg_script.specs.Speech.{text_cond_text, any_key_or_null_text, any_query_text, any_cond_text};
+ghost use Rattle.spg_script.specs.Printing.{plain_before};
 
-use crate::texts::is_plain;
-use spg_base::{Bytes, Memory, PointCond};
+use crate::any_cond::AnyCond;
+use crate::any_key::AnyKey;
+use crate::any_query::AnyQuery;
+use crate::numerals::{push_coordinate, push_point};
+use crate::texts::plain_before;
+use spg_base::{Bytes, Memory, Point, PointCond};
 use spg_radix::TextCond;
-use std::alloc::{AllocError, Global};
 
-/// The text of a condition on points.
-pub fn cond_text(alloc: Global, cond: &PointCond) -> Result<String, AllocError>
-    ensures { IfOk result (λ text. string_bytes text ≡ cond_text cond.now) }
+/// Adds a condition on points that names one coordinate.
+fn push_side(text: &mut Bytes, word: &[u8], z: i32) -> Result<(), Memory>
+    ensures { OnOk result (text.new ≡ text.old ++ (word.now ++ signed_decimal z)) }
+{
+    text.extend(word)?;
+    push_coordinate(text, z)
+}
+
+/// Adds the rectangle with these corners, the lower first.
+fn push_inside(text: &mut Bytes, low: Point, high: Point) -> Result<(), Memory>
+    ensures { OnOk result (text.new ≡ text.old ++ cond_text (point_cond.Inside low.x low.y high.x high.y)) }
+{
+    text.extend(b"in ")?;
+    push_point(text, low)?;
+    text.push(b',')?;
+    push_point(text, high)
+}
+
+/// Adds a condition on points.
+pub fn push_cond(text: &mut Bytes, cond: &PointCond) -> Result<(), Memory>
+    ensures { OnOk result (text.new ≡ text.old ++ cond_text cond.now) }
 {
     match *cond {
-        PointCond::Eq(point) => format!(in alloc; "eq {point}"),
-        PointCond::Left(x) => format!(in alloc; "left {x}"),
-        PointCond::Right(x) => format!(in alloc; "right {x}"),
-        PointCond::Below(y) => format!(in alloc; "below {y}"),
-        PointCond::Above(y) => format!(in alloc; "above {y}"),
-        PointCond::Inside { x1, y1, x2, y2 } => format!(in alloc; "in {x1},{y1},{x2},{y2}"),
+        PointCond::Eq(point) => {
+            text.extend(b"eq ")?;
+            push_point(text, point)
+        }
+        PointCond::Left(x) => push_side(text, b"left ", x),
+        PointCond::Right(x) => push_side(text, b"right ", x),
+        PointCond::Below(y) => push_side(text, b"below ", y),
+        PointCond::Above(y) => push_side(text, b"above ", y),
+        PointCond::Inside { x1, y1, x2, y2 } => {
+            push_inside(text, Point { x: x1, y: y1 }, Point { x: x2, y: y2 })
+        }
     }
 }
 
@@ -31,28 +61,32 @@ fn hex_digit(n: u8) -> u8
     if n < 10 { 48 + n } else { 87 + n }
 }
 
-/// Adds a byte of a text, by itself where it may be.
-fn push_byte(text: &mut Bytes, b: u8) -> Result<(), Memory>
-    ensures { OnOk result (text.new ≡ text.old ++ byte_text b) }
+/// Adds bytes up to the first that may not stand for itself, and that one; gives what follows.
+fn push_run<'a>(text: &mut Bytes, bytes: &'a [u8]) -> Result<&'a [u8], Memory>
+    requires { 0 < length bytes.now }
+    ensures added { IfOk result (λ rest. text.new ++ flat_map byte_text rest.now ≡ text.old ++ flat_map byte_text bytes.now) }
+    ensures shorter { IfOk result (λ rest. length rest.now < length bytes.now) }
 {
-    if is_plain(b) {
-        text.push(b)
-    } else {
-        text.extend(&[b'\\', b'x', hex_digit(b / 16), hex_digit(b % 16)])
+    let plain = plain_before(bytes);
+    text.extend(&bytes[..plain])?;
+    if plain == bytes.len() {
+        return Ok(&bytes[plain..]);
     }
+    let b = bytes[plain];
+    text.extend(&[b'\\', b'x', hex_digit(b / 16), hex_digit(b % 16)])?;
+    Ok(&bytes[plain + 1..])
 }
 
-/// A text between quotes, as it is printed.
-pub fn quoted(alloc: Global, text: &[u8]) -> Result<Bytes, Memory>
-    ensures { IfOk result (λ printed. printed ≡ quoted text.now) }
+/// Adds a text between quotes, each byte by itself where it may be.
+pub fn push_quoted(text: &mut Bytes, bytes: &[u8]) -> Result<(), Memory>
+    ensures { OnOk result (text.new ≡ text.old ++ quoted bytes.now) }
 {
-    let mut printed = Bytes::new(alloc);
-    printed.push(b'"')?;
-    for b in text {
-        push_byte(&mut printed, *b)?;
+    text.push(b'"')?;
+    let mut rest = bytes;
+    while !rest.is_empty() {
+        rest = push_run(text, rest)?;
     }
-    printed.push(b'"')?;
-    Ok(printed)
+    text.push(b'"')
 }
 
 /// The word of a condition on texts.
@@ -69,13 +103,56 @@ fn word(cond: &TextCond) -> &[u8]
     }
 }
 
-/// The text of a condition on texts.
-pub fn text_cond_text(alloc: Global, cond: &TextCond) -> Result<Bytes, Memory>
-    ensures { IfOk result (λ text. text ≡ text_cond_text cond.now) }
+/// Adds a condition on texts.
+pub fn push_text_cond(text: &mut Bytes, cond: &TextCond) -> Result<(), Memory>
+    ensures { OnOk result (text.new ≡ text.old ++ text_cond_text cond.now) }
 {
-    let named = quoted(alloc, cond.named())?;
-    let mut text = Bytes::copy(alloc, word(cond))?;
+    text.extend(word(cond))?;
     text.push(b' ')?;
-    text.extend(named.as_slice())?;
-    Ok(text)
+    push_quoted(text, cond.named())
+}
+
+/// Adds a key or a null.
+pub fn push_key(text: &mut Bytes, key: &Option<AnyKey>) -> Result<(), Memory>
+    ensures { OnOk result (text.new ≡ text.old ++ any_key_or_null_text key.now) }
+{
+    match key {
+        Some(AnyKey::Point(point)) => push_point(text, *point),
+        Some(AnyKey::Text(key)) => push_quoted(text, key.as_slice()),
+        None => text.extend(b"null"),
+    }
+}
+
+/// Adds a condition.
+fn push_any_cond(text: &mut Bytes, cond: &AnyCond) -> Result<(), Memory>
+    ensures { OnOk result (text.new ≡ text.old ++ any_cond_text cond.now) }
+{
+    match cond {
+        AnyCond::Point(cond) => push_cond(text, cond),
+        AnyCond::Text(cond) => push_text_cond(text, cond),
+    }
+}
+
+/// Adds conditions: the first behind `where`, each further one behind `and`.
+fn push_conds(text: &mut Bytes, conds: &[AnyCond]) -> Result<(), Memory>
+    ensures { OnOk result (text.new ≡ text.old ++ conds_text any_cond_text (codes "where ") conds.now) }
+{
+    let mut word: &[u8] = b"where ";
+    for cond in conds {
+        text.extend(word)?;
+        push_any_cond(text, cond)?;
+        word = b" and ";
+    }
+    Ok(())
+}
+
+/// Adds a query.
+pub fn push_query(text: &mut Bytes, query: &AnyQuery) -> Result<(), Memory>
+    ensures { OnOk result (text.new ≡ text.old ++ any_query_text query.now) }
+{
+    match query {
+        AnyQuery::All => text.extend(b"all"),
+        AnyQuery::Null => text.extend(b"null"),
+        AnyQuery::Where(conds) => push_conds(text, conds.as_slice()),
+    }
 }

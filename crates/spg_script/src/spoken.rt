@@ -1,9 +1,10 @@
-ghost use Rattle.std.specs.Prelude.{◌≡◌, IfOk, string_bytes};
+ghost use Rattle.std.specs.Prelude.{◌≡◌, Bool, IfOk};
 ghost use Rattle.spg_script.specs.Speech.{Speech, SpeaksAsPrinted, NamesKeys, point_in, point_cond_in, text_in, text_cond_in};
 
 use crate::any_cond::AnyCond;
 use crate::any_key::AnyKey;
-use crate::spelling::{cond_text, quoted, text_cond_text};
+use crate::numerals::push_point;
+use crate::spelling::{push_cond, push_quoted, push_text_cond};
 use spg_base::{Bytes, Memory, Point, PointCond, Same};
 use spg_kd::Kd;
 use spg_opclass::OpClass;
@@ -18,8 +19,8 @@ pub trait Spoken: OpClass {
     /// It spells its keys and conditions as scripts are printed.
     ghost speaks: { SpeaksAsPrinted speech };
 
-    /// Scripts name each of its keys.
-    ghost names: { NamesKeys speech };
+    /// Whether its keys are texts; else they are points.
+    ghost texts: { Bool };
 
     /// The class's key for a script's. None exactly where the class has no such key.
     fn key_in(&self, key: &AnyKey) -> Result<Option<Self::Key>, Memory>
@@ -36,6 +37,9 @@ pub trait Spoken: OpClass {
     /// The text of a condition.
     fn cond_text(&self, alloc: Global, cond: &Self::Cond) -> Result<Bytes, Memory>
         ensures { IfOk result (λ text. text ≡ speech.cond_text cond.now) };
+
+    /// Scripts name each of its keys.
+    ghost names: { NamesKeys texts Self.OpClass.meaning.is_key speech };
 }
 
 /// The point of a key. None exactly where it is a text.
@@ -59,12 +63,15 @@ fn point_cond_in(cond: &AnyCond) -> Option<PointCond>
 }
 
 impl Spoken for Quad {
+    ghost use Rattle.std.specs.Prelude.{false};
     ghost use Rattle.spg_script.specs.Speech.{point_speech};
     ghost use Rattle.spg_script.specs.Speaking.{point_speaks, point_names};
 
     ghost speech = { point_speech };
 
     ghost speaks = { point_speaks };
+
+    ghost texts = { false };
 
     ghost names = { point_names };
 
@@ -77,23 +84,28 @@ impl Spoken for Quad {
     }
 
     fn key_text(&self, alloc: Global, key: &Point) -> Result<Bytes, Memory> {
-        let text = format!(in alloc; "{key}")?;
-        Bytes::copy(alloc, text.as_bytes())
+        let mut text = Bytes::new(alloc);
+        push_point(&mut text, *key)?;
+        Ok(text)
     }
 
     fn cond_text(&self, alloc: Global, cond: &PointCond) -> Result<Bytes, Memory> {
-        let text = cond_text(alloc, cond)?;
-        Bytes::copy(alloc, text.as_bytes())
+        let mut text = Bytes::new(alloc);
+        push_cond(&mut text, cond)?;
+        Ok(text)
     }
 }
 
 impl Spoken for Kd {
+    ghost use Rattle.std.specs.Prelude.{false};
     ghost use Rattle.spg_script.specs.Speech.{point_speech};
     ghost use Rattle.spg_script.specs.Speaking.{point_speaks, point_names};
 
     ghost speech = { point_speech };
 
     ghost speaks = { point_speaks };
+
+    ghost texts = { false };
 
     ghost names = { point_names };
 
@@ -106,23 +118,28 @@ impl Spoken for Kd {
     }
 
     fn key_text(&self, alloc: Global, key: &Point) -> Result<Bytes, Memory> {
-        let text = format!(in alloc; "{key}")?;
-        Bytes::copy(alloc, text.as_bytes())
+        let mut text = Bytes::new(alloc);
+        push_point(&mut text, *key)?;
+        Ok(text)
     }
 
     fn cond_text(&self, alloc: Global, cond: &PointCond) -> Result<Bytes, Memory> {
-        let text = cond_text(alloc, cond)?;
-        Bytes::copy(alloc, text.as_bytes())
+        let mut text = Bytes::new(alloc);
+        push_cond(&mut text, cond)?;
+        Ok(text)
     }
 }
 
 impl Spoken for Radix {
+    ghost use Rattle.std.specs.Prelude.{true};
     ghost use Rattle.spg_script.specs.Speech.{text_speech};
     ghost use Rattle.spg_script.specs.Speaking.{text_speaks, text_names};
 
     ghost speech = { text_speech };
 
     ghost speaks = { text_speaks };
+
+    ghost texts = { true };
 
     ghost names = { text_names };
 
@@ -141,10 +158,14 @@ impl Spoken for Radix {
     }
 
     fn key_text(&self, alloc: Global, key: &ByteText) -> Result<Bytes, Memory> {
-        quoted(alloc, key.as_slice())
+        let mut text = Bytes::new(alloc);
+        push_quoted(&mut text, key.as_slice())?;
+        Ok(text)
     }
 
     fn cond_text(&self, alloc: Global, cond: &TextCond) -> Result<Bytes, Memory> {
-        text_cond_text(alloc, cond)
+        let mut text = Bytes::new(alloc);
+        push_text_cond(&mut text, cond)?;
+        Ok(text)
     }
 }

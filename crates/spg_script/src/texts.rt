@@ -1,6 +1,7 @@
-ghost use Rattle.std.specs.Prelude.{◌≡◌, ◌<◌, IfOk, IfSome};
+ghost use Rattle.std.specs.Prelude.{◌≡◌, ◌<◌, ◌≤◌, ◌-◌, None, IfOk, IfSome, IfNone, length};
 ghost use Rattle.spg_script.specs.Quoted.{hex_of, is_plain, escaped, first_byte};
-ghost use Rattle.spg_script.specs.Reading.{told, now_of, after_quote, text_of, quoted_of, whole_text_of};
+ghost use Rattle.spg_script.specs.Printing.{plain_before};
+ghost use Rattle.spg_script.specs.Reading.{ReadsOn, told, now_of, after_quote, text_of, quoted_of, whole_text_of};
 
 use spg_base::{Bytes, Memory};
 use spg_radix::ByteText;
@@ -67,6 +68,34 @@ fn after_quote(bytes: &[u8]) -> Option<&[u8]>
     }
 }
 
+/// How many bytes stand before the first that may not stand for itself.
+pub fn plain_before(bytes: &[u8]) -> usize
+    ensures value { result ≡ plain_before bytes.now }
+    ensures within { result ≤ length bytes.now }
+{
+    for (i, b) in bytes.iter().enumerate() {
+        if !is_plain(*b) {
+            return i;
+        }
+    }
+    bytes.len()
+}
+
+/// Adds the bytes up to the first that may not stand for itself, and gives what follows them. None
+/// where the text would have more than 3,900 bytes.
+fn push_plain<'a>(text: &mut Bytes, bytes: &'a [u8]) -> Result<Option<&'a [u8]>, Memory>
+    requires { length text.old ≤ 3900 }
+    ensures some { IfOk result (λ found. IfSome found (λ rest. ReadsOn text.old bytes.now text.new rest.now)) }
+    ensures none { IfOk result (λ found. IfNone found (text_of (3901 - length text.old) bytes.now ≡ None)) }
+{
+    let plain = plain_before(bytes);
+    if plain > LONGEST - text.len() {
+        return Ok(None);
+    }
+    text.extend(&bytes[..plain])?;
+    Ok(Some(&bytes[plain..]))
+}
+
 /// The text of at most 3,900 bytes that is spelled up to a quote, and what is left behind that.
 fn text(alloc: Global, bytes: &[u8]) -> Result<Option<(ByteText, &[u8])>, Memory>
     ensures { IfOk result (λ found. told found ≡ text_of 3901 bytes.now) }
@@ -74,9 +103,12 @@ fn text(alloc: Global, bytes: &[u8]) -> Result<Option<(ByteText, &[u8])>, Memory
     let mut text = Bytes::new(alloc);
     let mut rest = bytes;
     while text.len() <= LONGEST {
-        match after_quote(rest) {
+        let Some(next) = push_plain(&mut text, rest)? else {
+            return Ok(None);
+        };
+        match after_quote(next) {
             Some(left) => return Ok(Some((ByteText::of_short(text), left))),
-            None => match first_byte(rest) {
+            None => match first_byte(next) {
                 Some((byte, more)) => {
                     text.push(byte)?;
                     rest = more;

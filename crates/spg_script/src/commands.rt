@@ -1,0 +1,126 @@
+ghost use Rattle.std.specs.Prelude.{◌≡◌, IfOk, IfSome, IfNone};
+ghost use Rattle.spg_script.specs.Line.{SpellsCommand, has_texts};
+ghost use Rattle.spg_script.specs.Reading.{key_of, insert_of, delete_of, find_of, save_of, command_of};
+ghost use Rattle.spg_script.specs.declared.command.Command.{Command};
+
+use crate::any_key::AnyKey;
+use crate::any_query::AnyQuery;
+use crate::bytes::split;
+use crate::class_name::ClassName;
+use crate::command::Command;
+use crate::conditions::conds;
+use crate::names::is_name;
+use crate::numbers::{point, row};
+use crate::texts::whole_text;
+use spg_base::{Bytes, Memory};
+use std::alloc::Global;
+
+/// The key that the bytes spell: a text, or else a point, or a null.
+#[tactic(auto, unfolding(crate::specs::Reading::key_of))]
+fn key(alloc: Global, texts: bool, bytes: &[u8]) -> Result<Option<Option<AnyKey>>, Memory>
+    ensures { IfOk result (λ found. found ≡ key_of texts bytes.now) }
+{
+    if bytes == b"null".as_slice() {
+        return Ok(Some(None));
+    }
+    if texts {
+        match whole_text(alloc, bytes)? {
+            Some(text) => Ok(Some(Some(AnyKey::Text(text)))),
+            None => Ok(None),
+        }
+    } else {
+        match point(bytes) {
+            Some(point) => Ok(Some(Some(AnyKey::Point(point)))),
+            None => Ok(None),
+        }
+    }
+}
+
+#[tactic(auto, unfolding(crate::specs::Reading::insert_of))]
+fn insert(alloc: Global, texts: bool, bytes: &[u8]) -> Result<Option<Command>, Memory>
+    ensures { IfOk result (λ found. found ≡ insert_of texts bytes.now) }
+{
+    let Some((front, back)) = split(bytes, b' ') else {
+        return Ok(None);
+    };
+    let Some(row) = row(front) else {
+        return Ok(None);
+    };
+    match key(alloc, texts, back)? {
+        Some(key) => Ok(Some(Command::Insert { row, key })),
+        None => Ok(None),
+    }
+}
+
+#[tactic(auto, unfolding(crate::specs::Reading::delete_of))]
+fn delete(bytes: &[u8]) -> Option<Command>
+    ensures { result ≡ delete_of bytes.now }
+{
+    Some(Command::Delete { row: row(bytes)? })
+}
+
+#[tactic(auto, unfolding(crate::specs::Reading::find_of))]
+fn find(alloc: Global, texts: bool, bytes: &[u8]) -> Result<Option<Command>, Memory>
+    ensures { IfOk result (λ found. found ≡ find_of texts bytes.now) }
+{
+    if bytes == b"all".as_slice() {
+        return Ok(Some(Command::Find {
+            query: AnyQuery::All,
+        }));
+    }
+    if bytes == b"null".as_slice() {
+        return Ok(Some(Command::Find {
+            query: AnyQuery::Null,
+        }));
+    }
+    if !bytes.starts_with(b"where ") {
+        return Ok(None);
+    }
+    match conds(alloc, texts, &bytes[6..])? {
+        Some(conds) => Ok(Some(Command::Find {
+            query: AnyQuery::Where(conds),
+        })),
+        None => Ok(None),
+    }
+}
+
+#[tactic(auto, unfolding(crate::specs::Reading::save_of))]
+fn save(alloc: Global, bytes: &[u8]) -> Result<Option<Command>, Memory>
+    ensures { IfOk result (λ found. found ≡ save_of bytes.now) }
+{
+    if is_name(bytes) {
+        let name = Bytes::copy(alloc, bytes)?;
+        Ok(Some(Command::Save { name }))
+    } else {
+        Ok(None)
+    }
+}
+
+#[tactic(auto, unfolding(crate::specs::Reading::command_of))]
+fn command(alloc: Global, texts: bool, line: &[u8]) -> Result<Option<Command>, Memory>
+    ensures { IfOk result (λ found. found ≡ command_of texts line.now) }
+{
+    if line.starts_with(b"insert ") {
+        insert(alloc, texts, &line[7..])
+    } else if line.starts_with(b"find ") {
+        find(alloc, texts, &line[5..])
+    } else if line.starts_with(b"delete ") {
+        Ok(delete(&line[7..]))
+    } else if line.starts_with(b"save ") {
+        save(alloc, &line[5..])
+    } else if line == b"vacuum".as_slice() {
+        Ok(Some(Command::Vacuum))
+    } else if line == b"stat".as_slice() {
+        Ok(Some(Command::Stat))
+    } else {
+        Ok(None)
+    }
+}
+
+/// The command that the line spells in a script of a class. None exactly where it spells none.
+pub fn read_command(alloc: Global, class: ClassName, line: &[u8]) -> Result<Option<Command>, Memory>
+    ensures found { IfOk result (λ found. IfSome found (λ c. SpellsCommand (has_texts class) c line.now)) }
+    ensures none { IfOk result (λ found. IfNone found ((c : Command) → SpellsCommand (has_texts class) c line.now → ⊥)) }
+{
+    command(alloc, class.has_texts(), line)
+}

@@ -1,0 +1,89 @@
+ghost use Rattle.std.specs.Prelude.{◌≡◌};
+ghost use Rattle.spg_script.specs.Reading.{value_from, number_of, positive_of, negative_of, coordinate_of, row_of, point_of};
+
+use crate::bytes::split;
+use spg_base::{Point, Row};
+
+/// The number that the digits spell, where it is below 2^32. Leading zeros are let through.
+fn value(bytes: &[u8]) -> Option<u32>
+    ensures { result ≡ value_from 0 bytes.now }
+{
+    let mut value = 0u64;
+    for b in bytes {
+        if *b < b'0' || *b > b'9' {
+            return None;
+        }
+        value = value * 10 + u64::from(*b - b'0');
+        if value >= 1 << 32 {
+            return None;
+        }
+    }
+    Some(value as u32)
+}
+
+/// The number that the bytes spell, where it is below 2^32. None where it has a leading zero.
+fn number(bytes: &[u8]) -> Option<u32>
+    ensures { result ≡ number_of bytes.now }
+{
+    match bytes {
+        [] => None,
+        [b'0', more @ ..] => if more.is_empty() { Some(0) } else { None },
+        _ => value(bytes),
+    }
+}
+
+/// The coordinate that the bytes spell.
+#[tactic(auto, unfolding(crate::specs::Reading::coordinate_of))]
+pub fn coordinate(bytes: &[u8]) -> Option<i32>
+    ensures { result ≡ coordinate_of bytes.now }
+{
+    match bytes {
+        [] => None,
+        [b'-', digits @ ..] => negative(digits),
+        _ => positive(bytes),
+    }
+}
+
+fn positive(bytes: &[u8]) -> Option<i32>
+    ensures { result ≡ positive_of bytes.now }
+{
+    let n = number(bytes)?;
+    if n < 1 << 31 { Some(n as i32) } else { None }
+}
+
+fn negative(digits: &[u8]) -> Option<i32>
+    ensures { result ≡ negative_of digits.now }
+{
+    let n = number(digits)?;
+    if n == 0 || n > 1 << 31 {
+        None
+    } else {
+        Some((-i64::from(n)) as i32)
+    }
+}
+
+/// The row that the bytes spell.
+#[tactic(auto, unfolding(crate::specs::Reading::row_of))]
+pub fn row(bytes: &[u8]) -> Option<Row>
+    ensures { result ≡ row_of bytes.now }
+{
+    let (block, offset) = split(bytes, b'.')?;
+    let block = number(block)?;
+    let offset = number(offset)?;
+    if offset < 1 << 16 {
+        Row::new(block, offset as u16)
+    } else {
+        None
+    }
+}
+
+/// The point that the bytes spell.
+#[tactic(auto, unfolding(crate::specs::Reading::point_of))]
+pub fn point(bytes: &[u8]) -> Option<Point>
+    ensures { result ≡ point_of bytes.now }
+{
+    let (x, y) = split(bytes, b',')?;
+    let x = coordinate(x)?;
+    let y = coordinate(y)?;
+    Some(Point { x, y })
+}
