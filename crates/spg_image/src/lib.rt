@@ -4,7 +4,7 @@
 mod blocks;
 mod numbers;
 mod refused;
-mod save;
+mod saving;
 
 pub use refused::SaveRefused;
-pub use save::save;
+pub use saving::save;

@@ -1,4 +1,4 @@
-ghost use Rattle.std.specs.Prelude.{◌≡◌, ◌≢◌, ◌<◌, ◌↔◌, ℕ, [], Some, None, length, IsNone, IfSome, OnOk, OnErr, slice_index_or};
+ghost use Rattle.std.specs.Prelude.{◌≡◌, ◌≢◌, ◌<◌, ◌↔◌, ◌++◌, ℕ, [], Some, None, length, IsNone, IfSome, OnOk, OnErr, slice_index_or};
 ghost use Rattle.spg_io.specs.Files.{bytes_under, with_bytes, with_page, place_of};
 
 use spg_base::{Bytes, Memory};
@@ -10,6 +10,23 @@ use std::marker::Model;
 pub struct File {
     name: Bytes,
     bytes: Bytes,
+}
+
+impl File {
+    /// Puts other bytes in the place of its own.
+    fn set(&mut self, bytes: Bytes)
+        ensures { self.new ≡ record self.old { bytes = bytes } }
+    {
+        self.bytes = bytes;
+    }
+
+    /// Adds bytes behind its own.
+    fn extend(&mut self, bytes: &[u8]) -> Result<(), Memory>
+        ensures ok { OnOk result (self.new ≡ record self.old { bytes = self.old.bytes ++ bytes.now }) }
+        ensures err { OnErr result (self.new ≡ self.old) }
+    {
+        self.bytes.extend(bytes)
+    }
 }
 
 /// Bytes under names, in memory.
@@ -54,7 +71,7 @@ impl Store {
         ensures err { OnErr result (self.new ≡ self.old) }
     {
         match self.place(name) {
-            Some(at) => self.files[at].bytes = bytes,
+            Some(at) => self.files[at].set(bytes),
             None => {
                 let name = Bytes::copy(self.alloc, name)?;
                 self.files.push(File { name, bytes })?;
@@ -77,7 +94,7 @@ impl Store {
         ensures err { OnErr result (self.new ≡ self.old) }
     {
         match self.place(name) {
-            Some(at) => self.files[at].bytes.extend(page),
+            Some(at) => self.files[at].extend(page),
             None => {
                 let bytes = Bytes::copy(self.alloc, page)?;
                 self.set(name, bytes)
