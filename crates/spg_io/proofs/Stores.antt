@@ -1,5 +1,5 @@
 -- Files in memory: what stands under a name, and what a change leaves under each.
-use Rattle.std.proofs.Common.{◌≡◌, ◌≢◌, ℕ, zero, suc, ◌+◌, ◌<◌, Bool, true, false, cond, List, [], ◌∷◌, ◌++◌, length, get_or, set, Option, Some, None, refl, sym, ap, subst, ◌∙◌, ◌⊎◌, inl, inr, arith}
+use Rattle.std.proofs.Common.{◌≡◌, ◌≢◌, ℕ, zero, suc, ◌<◌, Bool, true, false, List, [], ◌∷◌, ◌++◌, length, get_or, set, Option, Some, None, refl, sym, ap, subst, ◌∙◌, ◌⊎◌, inl, inr, arith}
 use Rattle.std.specs.Str.{bytes_eq}
 use Rattle.std.specs.Option.{option_map}
 use Rattle.std.proofs.lemmas.Slice.Eq.{bytes_eq-Decides}
@@ -96,10 +96,14 @@ under_others [] name bytes other ne = elim (tested (bytes_eq name other)) [
 under_others (f ∷ fs) name bytes other ne = elim (tested (has_name f name)) [
   | inl t ↦ rw t (elim (tested (has_name f other)) [
       | inl u ↦ absurd (ne (sym ((bytes_eq-Decides f.name other).0 u) ∙ (bytes_eq-Decides f.name name).0 t))
-      | inr u ↦ rw (u, u) refl
+      | inr u ↦ rw u refl
     ])
   | inr t ↦ rw t (elim (tested (has_name f other)) [
-      | inl u ↦ rw (u, u) refl
-      | inr u ↦ rw (u, u) (under_others fs name bytes other ne)
+      | inl u ↦ rw u refl
+      | inr u ↦ rw u (under_others fs name bytes other ne)
     ])
 ]
+
+-- this name alone holds something else
+pub changed_with : (fs gs : List File) (name bytes : List ℕ) → gs ≡ with_bytes fs name bytes → (bytes_under gs name ≡ Some bytes) × ((other : List ℕ) → other ≢ name → bytes_under gs other ≡ bytes_under fs other)
+changed_with fs gs name bytes e = rw e (under_with fs name bytes, under_others fs name bytes)

@@ -1,4 +1,4 @@
-ghost use Rattle.std.specs.Prelude.{◌≡◌, ◌≤◌, ◌↔◌, [], ℕ, List as Items, Some, None, Bool, true, false, IfOk, IfSome, IsNone, IsErrOf, OnOk, OnErr, ⊤};
+ghost use Rattle.std.specs.Prelude.{◌≡◌, ◌<◌, ◌≤◌, ◌^◌, ◌↔◌, [], ℕ, List as Items, Some, None, Bool, true, false, IfOk, IfSome, IsNone, IsErrOf, OnOk, OnErr, ⊤};
 ghost use Rattle.std.specs.declared.result.Result.{Result};
 ghost use Rattle.std.specs.declared.option.Option.{Option};
 ghost use Rattle.spg_base.specs.declared.memory.Failed.{Failed};
@@ -221,6 +221,7 @@ impl FaultyImages {
         ensures value { result ≡ fails_next self.old.calls }
         ensures yes { result ≡ true → self.new ≡ record self.old { calls = failed_once self.old.calls } }
         ensures no { result ≡ false → self.new ≡ self.old }
+        ensures range { result ≡ true → self.old.calls.faults < 2 ^ 64 }
     {
         let call = self.calls.saturating_add(1);
         let fails = self.fails.as_slice().contains(&call);

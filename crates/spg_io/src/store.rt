@@ -94,12 +94,13 @@ impl Store {
         ensures err { OnErr result (self.new ≡ self.old) }
     {
         match self.place(name) {
-            Some(at) => self.files[at].extend(page),
+            Some(at) => self.files[at].extend(page)?,
             None => {
                 let bytes = Bytes::copy(self.alloc, page)?;
-                self.set(name, bytes)
+                self.set(name, bytes)?;
             }
         }
+        Ok(())
     }
 
     /// The index of the first file of this name.
