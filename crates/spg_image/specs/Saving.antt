@@ -27,13 +27,17 @@ pub record AreFirst (i : Image) (k : ℕ) (bytes : List ℕ) : Type 0 where
 abbrev pub HoldsImage : Image → Option (List ℕ) → Type 0
 HoldsImage i held = (bytes : List ℕ) × (held ≡ Some bytes) × Reads i bytes
 
+-- the name holds the first k pages of the image
+abbrev pub HoldsPages : Image → ℕ → Option (List ℕ) → Type 0
+HoldsPages i k held = (bytes : List ℕ) × (held ≡ Some bytes) × AreFirst i k bytes
+
 -- the name holds first pages of the image, but not all
 abbrev pub HoldsFirst : Image → Option (List ℕ) → Type 0
-HoldsFirst i held = (k : ℕ) × (bytes : List ℕ) × (held ≡ Some bytes) × (k < length i.pages) × AreFirst i k bytes
+HoldsFirst i held = (k : ℕ) × (k < length i.pages) × HoldsPages i k held
 
 -- and behind them a front of the next page
 abbrev pub HoldsFirstAndFront : Image → Option (List ℕ) → Type 0
-HoldsFirstAndFront i held = (k n : ℕ) × (bytes page : List ℕ) × (held ≡ Some (bytes ++ take n page)) × (k < length i.pages) × AreFirst i k bytes × IsBlockOf i k page
+HoldsFirstAndFront i held = (k n : ℕ) × (bytes page : List ℕ) × (k < length i.pages) × (held ≡ Some (bytes ++ take n page)) × AreFirst i k bytes × IsBlockOf i k page
 
 -- what saving leaves. A refusal leaves every name as it was, or the name holds the pages that had come, and no other name changes
 abbrev pub Saves : Image → Option Holding → Option Holding → List ℕ → Result ℕ SaveRefused → Type 0

@@ -1,9 +1,19 @@
-ghost use Rattle.std.specs.Prelude.{◌≡◌, ◌+◌, ◌*◌, ◌<◌, ◌≤◌, ℕ, slice_index};
+ghost use Rattle.std.specs.Prelude.{◌≡◌, ◌+◌, ◌*◌, ◌<◌, ◌≤◌, ℕ, length, slice_index};
 ghost use Rattle.spg_page.specs.Numbers.{four_at};
 ghost use Rattle.spg_image.specs.Numbers.{eight_at};
 
 /// The numbers of remembered pages in a meta page.
 pub(crate) const REMEMBERED_AT: usize = 40;
+
+/// Writes a byte.
+pub(crate) fn put_one(page: &mut [u8; 8192], at: usize, byte: u8)
+    requires { at < 8192 }
+    ensures value { slice_index page.new at ≡ byte }
+    ensures below { (k : ℕ) → k < at → slice_index page.new k ≡ slice_index page.old k }
+    ensures above { (k : ℕ) → at + 1 ≤ k → slice_index page.new k ≡ slice_index page.old k }
+{
+    page[at] = byte;
+}
 
 /// Writes a number into four bytes.
 #[tactic(auto, unfolding(spg_page::specs::Numbers::two_at, spg_page::specs::Numbers::four_at))]
@@ -33,6 +43,7 @@ pub(crate) fn put_eight(page: &mut [u8; 8192], at: usize, number: u64)
 
 /// Writes the remembered pages.
 pub(crate) fn put_remembered(page: &mut [u8; 8192], remembered: &[u32; 8])
+    ensures count { length remembered.now ≡ 8 }
     ensures value { (i : ℕ) → i < 8 → four_at page.new (40 + 4 * i) ≡ slice_index remembered.now i }
     ensures below { (k : ℕ) → k < 40 → slice_index page.new k ≡ slice_index page.old k }
     ensures above { (k : ℕ) → 72 ≤ k → slice_index page.new k ≡ slice_index page.old k }

@@ -1,0 +1,4 @@
+mod Fours
+mod Pages
+mod Metas
+mod Firsts
