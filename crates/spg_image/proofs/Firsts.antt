@@ -66,6 +66,12 @@ said_count bytes i e = ap (λ (s : Said). s.count) e
 tail_at : (t : Table) (b : ℕ) → get_or (drop 1 t.pages) b (blank false) ≡ sheet_at t (suc b)
 tail_at t b = get_or_after_one t.pages b (blank false) ∙ ap (λ k. get_or t.pages k (blank false)) (let e : 1 + b ≡ suc b = omega arith in e)
 
+abbrev image : ℕ → ℕ → List Sheet → List ℕ → ℕ → Image
+image class clock pages remembered counter = record { class = class; clock = clock; pages = pages; remembered = remembered; counter = counter }
+
+same_images : {a b k l n m : ℕ} {ss ts : List Sheet} {r q : List ℕ} → a ≡ b → k ≡ l → ss ≡ ts → r ≡ q → n ≡ m → image a k ss r n ≡ image b l ts q m
+same_images e1 e2 e3 e4 e5 = rw (e1, e2, e3, e4, e5) refl
+
 module _ (class : ℕ) (t : Table) (bytes : List ℕ) (sound : IsSound t) (main : (sheet_at t 1).nulls ≡ false) (nulls : (sheet_at t 2).nulls ≡ true) (all : AreFirst (image_of class t) (length t.pages) bytes) where
   count : length (image_of class t).pages ≡ length t.pages
   count = omega (arith, length-drop 1 t.pages, sound.roots)
@@ -87,21 +93,32 @@ module _ (class : ℕ) (t : Table) (bytes : List ℕ) (sound : IsSound t) (main 
       same_lists (map f (range_with_len 1 n)) (drop 1 t.pages) (length-map-range_with_len f 1 n ∙ ln ∙ sym (length-drop 1 t.pages)) (λ k d h.
       let l : k < n = omega (arith, length-map-range_with_len f 1 n) in
       let in_table : suc k < length t.pages = omega (arith, sound.roots) in
-      get_or-map-range_with_len f 1 n k (suc k) d l (omega arith) ∙ (block k in_table).1 ∙ ?)
+      get_or-map-range_with_len f 1 n k (suc k) d l (omega arith) ∙ (block k in_table).1 ∙ sym (tail_at t k) ∙ get_or_default (drop 1 t.pages) k (blank false) d (omega (arith, length-drop 1 t.pages)))
+
+  pages_at : (b : ℕ) → 0 < b → b < length t.pages → IsPageAt b (page_at bytes b)
+  pages_at zero a l = absurd (omega arith)
+  pages_at (suc b) a l = (block b l).0
+
+  is_image : IsImage bytes
+  is_image =
+      let clock : (meta_in bytes).clock ≡ t.clock = ap (λ (s : Said). s.clock) said in
+      let remembered : (meta_in bytes).remembered ≡ t.remembered = ap (λ (s : Said). s.remembered) said in
+      let counter : (meta_in bytes).counter ≡ t.counter = ap (λ (s : Said). s.counter) said in
+      record {
+        meta = (all.each 0 (omega (arith, sound.roots))).0;
+        from = omega (arith, count_is, sound.roots);
+        to = omega (arith, count_is, sound.within, sound.limit_to);
+        len = all.len ∙ ap (λ k. page_size * k) (sym count_is);
+        clock = subst (λ n. n < 2 ^ 48) (sym clock) sound.clock;
+        remembered = subst (λ n. AreRemembered n (meta_in bytes).remembered) (sym count_is) (subst (λ r. AreRemembered (length t.pages) r) (sym remembered) sound.remembered);
+        counter = subst (λ n. n < 8) (sym counter) sound.counter;
+        pages = λ b a l. pages_at b a (omega (arith, count_is));
+        main = ap (λ (s : Sheet). s.nulls) (block 0 (omega (arith, sound.roots))).1 ∙ main;
+        nulls = ap (λ (s : Sheet). s.nulls) (block 1 (omega (arith, sound.roots))).1 ∙ nulls;
+      }
 
   pub reads_whole : Reads (image_of class t) bytes
   reads_whole = record {
-    is = record {
-      meta = (all.each 0 (omega (arith, sound.roots))).0;
-      from = omega (arith, count_is, sound.roots);
-      to = omega (arith, count_is, sound.within, sound.limit_to);
-      len = all.len ∙ ap (λ k. page_size * k) (sym count_is);
-      clock = ?;
-      remembered = ?;
-      counter = ?;
-      pages = ?;
-      main = ?;
-      nulls = ?;
-    };
-    value = ?;
+    is = is_image;
+    value = same_images (ap (λ (s : Said). s.class) said) (ap (λ (s : Said). s.clock) said) (ap (λ ss. blank false ∷ ss) pages_is) (ap (λ (s : Said). s.remembered) said) (ap (λ (s : Said). s.counter) said);
   }

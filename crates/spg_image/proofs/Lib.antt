@@ -2,3 +2,4 @@ mod Fours
 mod Pages
 mod Metas
 mod Firsts
+mod Changing
