@@ -9,6 +9,8 @@ use Rattle.std.proofs.lemmas.List.Edits.{length-between, get_or-between}
 use Rattle.std.proofs.lemmas.Grind.{same_number_lists, get_or_after_one}
 use Rattle.spg_forest.specs.Sheets.{Sheet, blank}
 use Rattle.spg_page.proofs.Layouts.{same_pieces}
+use Rattle.spg_tree.specs.declared.meta.Meta.{Meta}
+use Rattle.spg_tree.specs.Marks.{meta_of}
 use Rattle.spg_tree.specs.Table.{Table, sheet_at, IsSound, AreRemembered}
 use Rattle.spg_io.specs.Held.{HasPageMore, HasFrontMore, page_size}
 use Rattle.spg_image.specs.Page.{page_at, IsPageAt, sheet_in}
@@ -63,7 +65,7 @@ holds_front i k page old now h l here more = elim more [
 said_count : (bytes : List ℕ) (i : Image) → said_in (page_at bytes 0) ≡ said_of i → (meta_in bytes).count ≡ length i.pages
 said_count bytes i e = ap (λ (s : Said). s.count) e
 
-tail_at : (t : Table) (b : ℕ) → get_or (drop 1 t.pages) b (blank false) ≡ sheet_at t (suc b)
+pub tail_at : (t : Table) (b : ℕ) → get_or (drop 1 t.pages) b (blank false) ≡ sheet_at t (suc b)
 tail_at t b = get_or_after_one t.pages b (blank false) ∙ ap (λ k. get_or t.pages k (blank false)) (let e : 1 + b ≡ suc b = omega arith in e)
 
 abbrev image : ℕ → ℕ → List Sheet → List ℕ → ℕ → Image
@@ -122,3 +124,23 @@ module _ (class : ℕ) (t : Table) (bytes : List ℕ) (sound : IsSound t) (main 
     is = is_image;
     value = same_images (ap (λ (s : Said). s.class) said) (ap (λ (s : Said). s.clock) said) (ap (λ ss. blank false ∷ ss) pages_is) (ap (λ (s : Said). s.remembered) said) (ap (λ (s : Said). s.counter) said);
   }
+
+-- ---- the blocks that come
+
+abbrev saying : ℕ → ℕ → ℕ → List ℕ → ℕ → Said
+saying class count clock remembered counter = record { class = class; count = count; clock = clock; remembered = remembered; counter = counter }
+
+same_said : {a b k l n m c d : ℕ} {r q : List ℕ} → a ≡ b → c ≡ d → k ≡ l → r ≡ q → n ≡ m → saying a c k r n ≡ saying b d l q m
+same_said e1 e2 e3 e4 e5 = rw (e1, e2, e3, e4, e5) refl
+
+pub meta_block : (class : ℕ) (t : Table) (page : List ℕ) (n : ℕ) (numbers : Meta) → 3 ≤ length t.pages → n ≡ length t.pages → numbers ≡ meta_of t → IsMeta page → said_in page ≡ record { class = class; count = n; clock = numbers.clock; remembered = numbers.remembered; counter = numbers.counter } → IsBlockOf (image_of class t) 0 page
+meta_block class t page n numbers three e m is says =
+    let count_is : n ≡ length (image_of class t).pages = omega (arith, length-drop 1 t.pages) in
+    (is, says ∙ same_said refl count_is (ap (λ (x : Meta). x.clock) m) (ap (λ (x : Meta). x.remembered) m) (ap (λ (x : Meta). x.counter) m))
+
+pub page_block : (class : ℕ) (t : Table) (b : ℕ) (page : List ℕ) → 0 < b → IsPageAt b page → sheet_in page ≡ sheet_at t b → IsBlockOf (image_of class t) b page
+page_block class t zero page h is shows = absurd (omega arith)
+page_block class t (suc b) page h is shows = (is, shows ∙ sym (tail_at t b))
+
+pub image_count : (class : ℕ) (t : Table) → 3 ≤ length t.pages → length (image_of class t).pages ≡ length t.pages
+image_count class t three = omega (arith, length-drop 1 t.pages)

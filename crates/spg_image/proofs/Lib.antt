@@ -3,3 +3,5 @@ mod Pages
 mod Metas
 mod Firsts
 mod Changing
+mod Steps
+mod MetaOut
