@@ -1,5 +1,5 @@
 -- Calls on one name, one after another.
-use Rattle.std.proofs.Common.{◌≡◌, ◌≢◌, ℕ, ◌≤◌, List, Option, Some, None, refl, ◌∙◌, arith}
+use Rattle.std.proofs.Common.{ℕ, List, Option, Some, None, ◌∙◌}
 use Rattle.spg_io.specs.Held.{Holding, Stays, Changes}
 
 -- two changes of one name are one

@@ -1,6 +1,5 @@
 -- The first pages of an image, one more page, and all of them.
-use Rattle.std.proofs.Common.{◌≡◌, ℕ, zero, suc, ◌+◌, ◌-◌, ◌*◌, ◌<◌, ◌≤◌, ◌^◌, ◌⊎◌, true, false, inl, inr, List, [], ◌∷◌, ◌++◌, length, get_or, take, drop, map, Option, Some, refl, sym, ap, subst, ◌∙◌, arith}
-use Rattle.std.specs.Prelude.{slice_range}
+use Rattle.std.proofs.Common.{◌≡◌, ℕ, zero, suc, ◌+◌, ◌-◌, ◌*◌, ◌<◌, ◌≤◌, ◌^◌, true, false, inl, inr, List, [], ◌∷◌, ◌++◌, length, get_or, drop, map, Option, Some, refl, sym, ap, subst, ◌∙◌, arith}
 use Rattle.std.specs.List.{range_with_len}
 use Rattle.std.proofs.lemmas.Bool.{cases_eq}
 use Rattle.std.proofs.lemmas.List.{same_lists, length-append, length-drop, append-nil, get_or_append_left, get_or-append-add, get_or_default}
@@ -15,8 +14,8 @@ use Rattle.spg_tree.specs.Table.{Table, sheet_at, IsSound, AreRemembered}
 use Rattle.spg_io.specs.Held.{HasPageMore, HasFrontMore, page_size}
 use Rattle.spg_image.specs.Page.{page_at, IsPageAt, sheet_in}
 use Rattle.spg_image.specs.Meta.{IsMeta, Said, said_in}
-use Rattle.spg_image.specs.Image.{Image, IsImage, Reads, image_of, image_in, meta_in}
-use Rattle.spg_image.specs.Saving.{AreFirst, IsBlockOf, HoldsPages, HoldsImage, HoldsFirstAndFront, said_of}
+use Rattle.spg_image.specs.Image.{Image, IsImage, Reads, image_of, meta_in}
+use Rattle.spg_image.specs.Saving.{AreFirst, IsBlockOf, HoldsPages, HoldsFirstAndFront, said_of}
 
 -- ---- one page more
 

@@ -1,5 +1,5 @@
 -- Numbers in bytes that are the same.
-use Rattle.std.proofs.Common.{◌≡◌, ℕ, ◌+◌, ◌*◌, ◌<◌, ◌≤◌, List, get_or, refl, arith}
+use Rattle.std.proofs.Common.{◌≡◌, ℕ, ◌+◌, ◌<◌, ◌≤◌, List, get_or, refl, arith}
 use Rattle.spg_page.specs.Numbers.{two_at, four_at}
 use Rattle.spg_page.proofs.Numbers.{two_same}
 

@@ -1,18 +1,18 @@
 -- The meta page aside, the image of a well formed index is well formed, with the same entries.
-use Rattle.std.proofs.Common.{◌≡◌, ℕ, zero, suc, ◌+◌, ◌<◌, ◌≤◌, Bool, true, false, List, [], ◌∷◌, length, get_or, map, drop, Option, Some, None, refl, sym, ap, subst, ◌∙◌, arith}
+use Rattle.std.proofs.Common.{◌≡◌, ℕ, zero, suc, ◌<◌, false, List, [], ◌∷◌, length, get_or, map, drop, Option, sym, ap, subst, ◌∙◌, arith}
 use Rattle.std.specs.Prelude.{◌↔◌}
 use Rattle.std.proofs.lemmas.List.{length-drop}
 use Rattle.spg_base.specs.Row.{RowAt}
 use Rattle.spg_opclass.specs.Meaning.{Meaning}
 use Rattle.spg_forest.specs.View.{Place}
 use Rattle.spg_forest.specs.Spot.{Frame}
-use Rattle.spg_forest.specs.Tuples.{Tuple, Inner, Redirect}
-use Rattle.spg_forest.specs.Pages.{Pages, page_of, tuple_on}
+use Rattle.spg_forest.specs.Tuples.{Tuple, Inner}
+use Rattle.spg_forest.specs.Pages.{Pages, page_of, tuple_on, tuples_of}
 use Rattle.spg_forest.specs.Links.{IsLinked, RowsApart, tuple_at, spots_of}
 use Rattle.spg_forest.specs.Classes.{class_of, HasEntry}
 use Rattle.spg_forest.specs.Fit.{KeysFit}
 use Rattle.spg_forest.specs.Sheets.{Sheet, Sheets, blank, sheet_at, pages_of}
-use Rattle.spg_forest.specs.Shape.{Shape, ArePages, IsPage, IsKindOf, Represents}
+use Rattle.spg_forest.specs.Shape.{ArePages, IsPage, IsKindOf, Represents}
 use Rattle.spg_tree.specs.Table.{Table, sheets_of}
 use Rattle.spg_image.specs.Image.{image_of, sheets_in}
 use Rattle.spg_image.proofs.Firsts.{tail_at}
@@ -41,10 +41,10 @@ blank_page m = record { kinds = none; fits = omega arith }
     none (suc o) = tt
 
 -- nothing stands on the meta page
-block_from : (P : Pages) (x : Place) (w : Frame) (ns : List (Option Place)) → page_of P 0 ≡ [] → tuple_at P x ≡ Inner w ns → 0 < x.block
-block_from P (record { block = zero; offset = zero }) w ns e h = cc
-block_from P (record { block = zero; offset = suc o }) w ns e h = (let n = rw e at h in cc)
-block_from P (record { block = suc b; offset = o }) w ns e h = omega arith
+block_from : (P : Pages) (b o : ℕ) (w : Frame) (ns : List (Option Place)) → page_of P 0 ≡ [] → tuples_of P b o ≡ Inner w ns → 0 < b
+block_from P zero zero w ns e h = cc
+block_from P zero (suc o) w ns e h = (let n = rw e at h in cc)
+block_from P (suc b) o w ns e h = omega arith
 
 module _ {Key Recon Cond : Type 0} (m : Meaning Key Recon Cond) (class : ℕ) (t : Table) (holds : RowAt → Option Key → Type 0) (r : Represents m (sheets_of t) holds) where
   abbrev S : Sheets
@@ -80,7 +80,7 @@ module _ {Key Recon Cond : Type 0} (m : Meaning Key Recon Cond) (class : ℕ) (t
         ap (λ (x : Sheet). x.inner) s ∙ r.shape.pages.empty_root b h l (ap (λ (x : Sheet). x.tuples) (sym s) ∙ none);
     trees = λ x y w ns i h k.
         let old : tuple_at (pages_of S) x ≡ Inner w ns = sym (was x) ∙ h in
-        let from = block_from (pages_of S) x w ns r.shape.links.meta old in
+        let from = block_from (pages_of S) x.block x.offset w ns r.shape.links.meta old in
         let down = (r.shape.links.downlink x w ns i y old k).0 in
         tree_same y.block (omega arith) ∙ r.shape.pages.trees x y w ns i old k ∙ sym (tree_same x.block from);
     redirects = λ x y u h. (let d = r.shape.pages.redirects x y u (sym (was x) ∙ h) in (d.0, d.1, omega (arith, long, d.2)));

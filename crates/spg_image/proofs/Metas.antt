@@ -1,11 +1,11 @@
 -- The meta page, written part by part.
-use Rattle.std.proofs.Common.{◌≡◌, ℕ, zero, suc, ◌+◌, ◌*◌, ◌<◌, ◌≤◌, List, length, get_or, map, replicate, refl, sym, ap, ◌∙◌, arith}
+use Rattle.std.proofs.Common.{◌≡◌, ℕ, zero, suc, ◌+◌, ◌*◌, ◌<◌, ◌≤◌, List, length, get_or, map, replicate, refl, sym, ◌∙◌, arith}
 use Rattle.std.specs.List.{range_with_len}
 use Rattle.std.proofs.lemmas.List.FromFn.{get_or-map-range_with_len, length-map-range_with_len}
 use Rattle.std.proofs.lemmas.Grind.{same_number_lists}
 use Rattle.spg_page.specs.Numbers.{four_at}
 use Rattle.spg_image.specs.Numbers.{eight_at}
-use Rattle.spg_image.specs.Meta.{IsMeta, Said, head_bytes, said_in}
+use Rattle.spg_image.specs.Meta.{IsMeta, head_bytes, said_in}
 use Rattle.spg_image.proofs.Fours.{four_same}
 
 -- only the bytes from one up to another are changed
@@ -51,7 +51,7 @@ module _ (p0 p1 p2 p3 p4 p5 remembered : List ℕ) (head : (k : ℕ) → k < 16 
       let each : (i : ℕ) → i < 8 → four_at p5 (40 + 4 * i) ≡ get_or remembered i 0 = λ i h. four_same p5 p4 (40 + 4 * i) (λ k a b. s5.below k (omega arith)) ∙ e4 i h in
       let f : ℕ → ℕ = λ i. four_at p5 (40 + 4 * i) in
       let remembered_is : map f (range_with_len 0 8) ≡ remembered =
-          same_number_lists (map f (range_with_len 0 8)) remembered (length-map-range_with_len f 0 8 ∙ sym eight) (λ i h.
-          let l : i < 8 = omega (arith, length-map-range_with_len f 0 8) in
-          get_or-map-range_with_len f 0 8 i i 0 l (omega arith) ∙ each i l) in
+      same_number_lists (map f (range_with_len 0 8)) remembered (length-map-range_with_len f 0 8 ∙ sym eight) (λ i h.
+      let l : i < 8 = omega (arith, length-map-range_with_len f 0 8) in
+      get_or-map-range_with_len f 0 8 i i 0 l (omega arith) ∙ each i l) in
       rw (class_is, count_is, clock_is, remembered_is, e5) refl

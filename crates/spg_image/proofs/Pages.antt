@@ -1,11 +1,10 @@
 -- A page of tuples with its block number reads as the page.
-use Rattle.std.proofs.Common.{◌≡◌, ℕ, zero, suc, ◌+◌, ◌*◌, ◌<◌, ◌≤◌, ◌==◌, ◌⊎◌, Bool, true, false, inl, inr, List, length, get_or, map, refl, sym, ap, ◌∙◌, arith}
+use Rattle.std.proofs.Common.{◌≡◌, ℕ, zero, suc, ◌<◌, ◌≤◌, ◌==◌, ◌⊎◌, Bool, true, false, inl, inr, List, length, get_or, map, refl, sym, ap, ◌∙◌, arith}
 use Rattle.spg_forest.specs.Sheets.{Sheet}
 use Rattle.spg_page.specs.declared.tuple.PageKind.{PageKind}
 use Rattle.spg_page.specs.Numbers.{two_at, four_at}
-use Rattle.spg_page.specs.Spelling.{AreTuple}
 use Rattle.spg_page.specs.Layout.{piece_at, IsLaid}
-use Rattle.spg_page.specs.Stored.{IsHead, head_bytes, tuples_in}
+use Rattle.spg_page.specs.Stored.{head_bytes, tuples_in}
 use Rattle.spg_page.specs.Told.{told}
 use Rattle.spg_page.specs.Kinds.{page_kind}
 use Rattle.spg_page.specs.Inside.{IsPageOf}

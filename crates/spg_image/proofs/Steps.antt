@@ -1,11 +1,11 @@
 -- The calls of a save, one after another.
-use Rattle.std.proofs.Common.{◌≡◌, ℕ, ◌+◌, ◌<◌, inr, List, length, Option, Some, refl, ap, true, false, Ok, Err}
+use Rattle.std.proofs.Common.{◌≡◌, ℕ, ◌+◌, ◌<◌, inr, List, length, Option, true, false, Ok, Err}
 use Rattle.std.specs.Prelude.{Result}
 use Rattle.std.specs.Result.{IsErr, IsErrAnd}
 use Rattle.spg_image.specs.declared.refused.SaveRefused.{SaveRefused}
 use Rattle.spg_io.specs.declared.sink.IoRefused.{IoRefused}
 use Rattle.spg_io.specs.declared.sink.IoRefused.TheVariants.{Failed, Memory}
-use Rattle.spg_io.specs.Held.{Holding, Changes, Clears, Puts, IsCleared, HasPageMore, HasFrontMore, page_size}
+use Rattle.spg_io.specs.Held.{Holding, Changes, Puts, IsCleared, HasPageMore, HasFrontMore, page_size}
 use Rattle.spg_tree.specs.Table.{Table, IsSound, sheet_at}
 use Rattle.spg_image.specs.Image.{Image, image_of}
 use Rattle.spg_image.specs.Refusals.{refusal_of}

@@ -1,5 +1,5 @@
 -- What bytes are an image, and what is read of them.
-use Rattle.std.specs.Prelude.{◌≡◌, ℕ, zero, suc, ◌-◌, ◌*◌, ◌<◌, ◌≤◌, ◌^◌, true, false, List, ◌∷◌, length, map, drop, get_or}
+use Rattle.std.specs.Prelude.{◌≡◌, ℕ, ◌-◌, ◌*◌, ◌<◌, ◌≤◌, ◌^◌, true, false, List, ◌∷◌, length, map, drop}
 use Rattle.std.specs.List.{range_with_len}
 use Rattle.spg_forest.specs.Sheets.{Sheet, Sheets, blank}
 use Rattle.spg_tree.specs.Table.{Table, AreRemembered}

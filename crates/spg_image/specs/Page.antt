@@ -1,5 +1,5 @@
 -- A page of tuples in an image, and what it shows.
-use Rattle.std.specs.Prelude.{◌≡◌, ℕ, ◌+◌, ◌*◌, ◌<◌, ◌≤◌, ◌==◌, ◌⊎◌, List, [], ◌∷◌, length, map, slice_index, slice_range}
+use Rattle.std.specs.Prelude.{◌≡◌, ℕ, ◌+◌, ◌*◌, ◌<◌, ◌≤◌, ◌==◌, ◌⊎◌, List, [], ◌∷◌, map, slice_index, slice_range}
 use Rattle.spg_forest.specs.Sheets.{Sheet}
 use Rattle.spg_page.specs.Numbers.{two_at, four_at}
 use Rattle.spg_page.specs.Spelling.{AreTuple}

@@ -1,5 +1,5 @@
 -- What saving leaves under a name.
-use Rattle.std.specs.Prelude.{◌≡◌, ℕ, zero, suc, ◌*◌, ◌<◌, ◌≤◌, ◌⊎◌, true, false, List, ◌++◌, length, take, get_or, Option, Some, Result, Ok, Err, IsErrOf}
+use Rattle.std.specs.Prelude.{◌≡◌, ℕ, zero, suc, ◌*◌, ◌<◌, ◌≤◌, ◌⊎◌, false, List, ◌++◌, length, take, get_or, Option, Some, Result, Ok, Err, IsErrOf}
 use Rattle.spg_forest.specs.Sheets.{blank}
 use Rattle.spg_io.specs.Causes.{Rose}
 use Rattle.spg_io.specs.Held.{Holding, Stays, Changes, page_size}

@@ -11,8 +11,11 @@ const BLOCK_AT: usize = 8;
 
 /// Where the meta page has the code of the class, the page count, the clock and the counter.
 const CLASS_AT: usize = 24;
+
 const COUNT_AT: usize = 28;
+
 const CLOCK_AT: usize = 32;
+
 const COUNTER_AT: usize = 72;
 
 /// The letters SPGX, version 1, kind 1, the main tree, block 0, no items, and 8,184 as the end of free

@@ -95,13 +95,13 @@ under_others [] name bytes other ne = elim (tested (bytes_eq name other)) [
 ]
 under_others (f ∷ fs) name bytes other ne = elim (tested (has_name f name)) [
   | inl t ↦ rw t (elim (tested (has_name f other)) [
-      | inl u ↦ absurd (ne (sym ((bytes_eq-Decides f.name other).0 u) ∙ (bytes_eq-Decides f.name name).0 t))
-      | inr u ↦ rw u refl
-    ])
+    | inl u ↦ absurd (ne (sym ((bytes_eq-Decides f.name other).0 u) ∙ (bytes_eq-Decides f.name name).0 t))
+    | inr u ↦ rw u refl
+  ])
   | inr t ↦ rw t (elim (tested (has_name f other)) [
-      | inl u ↦ rw u refl
-      | inr u ↦ rw u (under_others fs name bytes other ne)
-    ])
+    | inl u ↦ rw u refl
+    | inr u ↦ rw u (under_others fs name bytes other ne)
+  ])
 ]
 
 -- this name alone holds something else

@@ -46,12 +46,7 @@ fn file_length<R: Files>(rt: &R, name: &str) -> io::Result<Option<u64>> {
 }
 
 /// Reads a block of a file. False where it does not lie wholly inside.
-fn read_block<R: Files>(
-    rt: &R,
-    name: &str,
-    block: u32,
-    page: &mut [u8; 8192],
-) -> io::Result<bool> {
+fn read_block<R: Files>(rt: &R, name: &str, block: u32, page: &mut [u8; 8192]) -> io::Result<bool> {
     let from = PAGE as u64 * block as u64;
     match file_length(rt, name)? {
         Some(length) if length >= from + PAGE as u64 => {}
@@ -65,10 +60,7 @@ fn read_block<R: Files>(
 
 /// Adds a page at the end of a file.
 fn add_page<R: Files>(rt: &R, name: &str, page: &[u8; 8192]) -> io::Result<()> {
-    let mut file = OpenOptions::new()
-        .append(true)
-        .create(true)
-        .open(rt, name)?;
+    let mut file = OpenOptions::new().append(true).create(true).open(rt, name)?;
     file.write_all(page)
 }
 

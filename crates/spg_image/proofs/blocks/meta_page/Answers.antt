@@ -1,5 +1,5 @@
 use Rattle.std.proofs.Common.{◌∙◌, arith}
-use Rattle.spg_image.proofs.Metas.{IsPut, blank_above, meta_is, meta_says}
+use Rattle.spg_image.proofs.Metas.{blank_above, meta_is, meta_says}
 use Rattle.spg_image.proofs.blocks.meta_page.Goals as goal
 
 pub returns-clause-is : goal.returns-clause-is

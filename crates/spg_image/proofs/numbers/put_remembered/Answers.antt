@@ -1,6 +1,5 @@
-use Rattle.std.proofs.Common.{◌≡◌, ◌+◌, ◌*◌, ◌<◌, ◌≤◌, ℕ, get_or, inl, inr, ◌∙◌, arith}
+use Rattle.std.proofs.Common.{◌+◌, ◌*◌, ◌<◌, inl, inr, ◌∙◌, arith}
 use Rattle.std.proofs.lemmas.Bool.{cases_eq}
-use Rattle.spg_page.specs.Numbers.{four_at}
 use Rattle.spg_image.proofs.Fours.{four_same}
 use Rattle.spg_image.proofs.numbers.put_remembered.Goals as goal
 

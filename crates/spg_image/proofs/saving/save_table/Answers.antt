@@ -1,4 +1,4 @@
-use Rattle.std.proofs.Common.{◌≡◌, ℕ, suc, ◌+◌, ◌<◌, ◌≤◌, length, refl, sym, ap, subst, ◌∙◌, arith}
+use Rattle.std.proofs.Common.{◌≡◌, ◌<◌, length, sym, subst, ◌∙◌, arith}
 use Rattle.spg_io.specs.Held.{Changes}
 use Rattle.spg_tree.specs.Table.{Table}
 use Rattle.spg_image.specs.Image.{Image, image_of}

@@ -1,4 +1,4 @@
-use Rattle.std.proofs.Common.{◌≡◌, ℕ, ◌<◌, ◌≤◌, length}
+use Rattle.std.proofs.Common.{◌≤◌}
 use Rattle.spg_io.specs.Held.{Changes}
 use Rattle.spg_image.specs.Image.{image_of}
 use Rattle.spg_image.specs.Saving.{HoldsPages}
