@@ -4,4 +4,4 @@ mod Metas
 mod Firsts
 mod Changing
 mod Steps
-mod MetaOut
+pub mod MetaOut

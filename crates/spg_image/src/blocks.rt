@@ -9,13 +9,16 @@ use spg_tree::Meta;
 /// Where a page has its own block number.
 const BLOCK_AT: usize = 8;
 
-/// Where the meta page has the code of the class, the page count, the clock and the counter.
+/// Where the meta page has the code of the class.
 const CLASS_AT: usize = 24;
 
+/// Where it has the page count.
 const COUNT_AT: usize = 28;
 
+/// Where it has the clock.
 const CLOCK_AT: usize = 32;
 
+/// Where it has the rotating counter.
 const COUNTER_AT: usize = 72;
 
 /// The letters SPGX, version 1, kind 1, the main tree, block 0, no items, and 8,184 as the end of free

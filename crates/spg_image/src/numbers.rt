@@ -2,7 +2,7 @@ ghost use Rattle.std.specs.Prelude.{◌≡◌, ◌+◌, ◌*◌, ◌<◌, ◌≤
 ghost use Rattle.spg_page.specs.Numbers.{four_at};
 ghost use Rattle.spg_image.specs.Numbers.{eight_at};
 
-/// The numbers of remembered pages in a meta page.
+/// Where the meta page has the remembered pages.
 pub(crate) const REMEMBERED_AT: usize = 40;
 
 /// Writes a byte.

@@ -10,8 +10,8 @@ use std::fs::{self, OpenFile, OpenOptions};
 use std::io::{self, ErrorKind, Read, Seek, SeekFrom, Write};
 use std::rt::Files;
 
-/// Images as files of the current folder. Each refusal is a fault, and so are a write that takes nothing,
-/// a name that is none of an image, and one that is not a file's. No call answers `Memory`.
+/// Images as files of the current folder. Each refusal is a fault. So are a write that takes nothing, a
+/// text that is not the name of an image, and a name that is not a file's. No call answers `Memory`.
 #[derive(Drop)]
 pub struct FolderImages<'a, R: Files> {
     rt: &'a R,

@@ -5,7 +5,6 @@ ghost use Rattle.spg_core.specs.Seen.{stage_at};
 use spg_base::{Memory, Point, Row, SeatNo};
 use spg_core::{InsertRan, State};
 use spg_quad::Quad;
-use spg_rows::Why;
 use std::alloc::Global;
 
 /// Inserts a point, or a null, as seat 0.
@@ -18,10 +17,7 @@ fn insert(state: &mut State<Quad>, row: Row, key: Option<Point>) -> Result<(), M
     }
     match state.insert_through(SeatNo::first()) {
         Ok(InsertRan::Put) => Ok(()),
-        _ => {
-            state.abandon(SeatNo::first(), Why::Given);
-            Err(Memory)
-        }
+        _ => Err(Memory),
     }
 }
 
