@@ -60,9 +60,9 @@ pub trait Images {
         ensures cause { HasCause (faults self.old) (faults self.new) result }
         ensures gives { get_gives self.old name.now result self.new };
 
-    /// Adds the page after the last byte of the name, which is made where it is not there. `Failed` comes only where the count of faults rises;
-    /// the name then holds its former bytes and a front of the page. After `Memory` the images are as they
-    /// were. No other name is changed.
+    /// Adds the page after the last byte of the name, which is made where it is not there. `Failed` comes
+    /// only where the count of faults rises; the name then holds its former bytes and a front of the page.
+    /// After `Memory` the images are as they were. No other name is changed.
     fn put(&mut self, name: &str, page: &[u8; 8192]) -> Result<(), IoRefused>
         ensures bytes { Puts (held self.old) (held self.new) name.now page.now result }
         ensures cause { HasCauseIfFailed (faults self.old) (faults self.new) result }
