@@ -30,19 +30,19 @@ pub(crate) fn three_rows(alloc: Global) -> Result<State<Quad>, Memory> {
     Ok(state)
 }
 
-/// So many points on a line.
-pub(crate) fn line_of_points(alloc: Global, count: u16) -> Result<State<Quad>, Memory> {
+/// Points on a line, with their rows from offset 1 to before this one.
+pub(crate) fn line_of_points(alloc: Global, end: u16) -> Result<State<Quad>, Memory> {
     let mut state = State::new(alloc, Quad, 65536)?;
-    for i in 1..count + 1 {
+    for i in 1..end {
         insert(&mut state, Row::at(1, i), Some(Point { x: i as i32, y: 0 }))?;
     }
     Ok(state)
 }
 
-/// So many nulls.
-pub(crate) fn nulls(alloc: Global, count: u16) -> Result<State<Quad>, Memory> {
+/// Nulls, with their rows from offset 1 to before this one.
+pub(crate) fn nulls(alloc: Global, end: u16) -> Result<State<Quad>, Memory> {
     let mut state = State::new(alloc, Quad, 65536)?;
-    for i in 1..count + 1 {
+    for i in 1..end {
         insert(&mut state, Row::at(1, i), None)?;
     }
     Ok(state)

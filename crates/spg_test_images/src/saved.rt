@@ -131,12 +131,12 @@ fn has_image(
 
 #[test]
 fn saves_larger_indexes(rt: HostRuntime) -> Result<(), Fail> {
-    let line = line_of_points(rt.alloc(), 400)?;
+    let line = line_of_points(rt.alloc(), 401)?;
     assert_eq!(rt;
         has_image(rt.alloc(), &line, LINE_HEADS.as_slice(), &LINE_META)?,
         true
     );
-    let nulls = nulls(rt.alloc(), 420)?;
+    let nulls = nulls(rt.alloc(), 421)?;
     assert_eq!(rt;
         has_image(rt.alloc(), &nulls, NULLS_HEADS.as_slice(), &NULLS_META)?,
         true
