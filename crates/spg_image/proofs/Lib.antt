@@ -1,0 +1,7 @@
+mod Fours
+mod Pages
+mod Metas
+mod Firsts
+mod Changing
+mod Steps
+pub mod MetaOut

@@ -1,0 +1,18 @@
+use Rattle.std.proofs.Common.{◌∙◌, arith}
+use Rattle.spg_image.proofs.Metas.{blank_above, meta_is, meta_says}
+use Rattle.spg_image.proofs.blocks.meta_page.Goals as goal
+
+pub returns-clause-is : goal.returns-clause-is
+returns-clause-is c =
+    meta_is c.put_head.new.page c.put_one.new.page c.put_four.new.page c.put_eight.new.page c.put_remembered.new.page c.put_one-2.new.page c.args.meta.now.remembered c.put_head.ensures.head (blank_above c.put_head.new.page c.put_head.ensures.above)
+    (record { below = c.put_one.ensures.below; above = c.put_one.ensures.above }) (record { below = c.put_four.ensures.below; above = c.put_four.ensures.above })
+    (record { below = c.put_eight.ensures.below; above = c.put_eight.ensures.above }) (record { below = c.put_remembered.ensures.below; above = c.put_remembered.ensures.above })
+    (record { below = c.put_one-2.ensures.below; above = c.put_one-2.ensures.above }) (omega arith)
+
+pub returns-clause-says : goal.returns-clause-says
+returns-clause-says c =
+    meta_says c.put_head.new.page c.put_one.new.page c.put_four.new.page c.put_eight.new.page c.put_remembered.new.page c.put_one-2.new.page c.args.meta.now.remembered c.put_head.ensures.head (blank_above c.put_head.new.page c.put_head.ensures.above)
+    (record { below = c.put_one.ensures.below; above = c.put_one.ensures.above }) (record { below = c.put_four.ensures.below; above = c.put_four.ensures.above })
+    (record { below = c.put_eight.ensures.below; above = c.put_eight.ensures.above }) (record { below = c.put_remembered.ensures.below; above = c.put_remembered.ensures.above })
+    (record { below = c.put_one-2.ensures.below; above = c.put_one-2.ensures.above })
+    c.args.class c.args.count c.args.meta.now.clock c.args.meta.now.counter c.put_remembered.ensures.count c.put_one.ensures.value c.put_four.ensures.value (c.put_eight.ensures.value ∙ c.moment.ensures.value) c.put_remembered.ensures.value c.put_one-2.ensures.value

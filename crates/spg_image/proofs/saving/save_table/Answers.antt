@@ -1,0 +1,71 @@
+use Rattle.std.proofs.Common.{◌≡◌, ◌<◌, length, sym, subst, ◌∙◌, arith}
+use Rattle.spg_io.specs.Held.{Changes}
+use Rattle.spg_tree.specs.Table.{Table}
+use Rattle.spg_image.specs.Image.{Image, image_of}
+use Rattle.spg_image.specs.Saving.{IsBlockOf, HoldsPages}
+use Rattle.spg_image.proofs.Firsts.{meta_block, page_block, image_count}
+use Rattle.spg_image.proofs.Steps.{cleared, put_more, put_refused, put_all, saves_refused}
+use Rattle.spg_image.proofs.saving.save_table.Goals as goal
+
+pub returns-in_err-put-clause-saves : goal.returns-in_err-put-clause-saves
+returns-in_err-put-clause-saves g c =
+    let t : Table = c.args.table.now in
+    let i : Image = image_of c.args.class t in
+    let a = g.M.Images.held c.args.images.now in
+    let b = g.M.Images.held c.clear.new.self in
+    let d = g.M.Images.held c.put.new.self in
+    let sound = c.page_count-count.ensures.sound in
+    let here : IsBlockOf i 0 c.meta_page.result = meta_block c.args.class t c.meta_page.result c.page_count-count.result c.meta.result sound.roots c.page_count-count.ensures.value c.meta.ensures c.meta_page.ensures.is c.meta_page.ensures.says in
+    let q = put_refused i 0 c.meta_page.result a b d c.args.name.now c.in_err-put.field-0.0 (cleared i a b c.args.name.now c.in_ok-clear.ensures.bytes) c.in_err-put.ensures.bytes (omega arith) here in
+    saves_refused i a d c.args.name.now c.from_residual-in_err-put.result c.in_err-put.field-0.0 c.from_residual-in_err-put.ensures.0 c.from_residual-in_err-put.ensures.1 q
+
+pub loop-block-init : goal.loop-block-init
+loop-block-init g c =
+    let t : Table = c.args.table.now in
+    let i : Image = image_of c.args.class t in
+    let a = g.M.Images.held c.args.images.now in
+    let b = g.M.Images.held c.clear.new.self in
+    let d = g.M.Images.held c.put.new.self in
+    let sound = c.page_count-count.ensures.sound in
+    let here : IsBlockOf i 0 c.meta_page.result = meta_block c.args.class t c.meta_page.result c.page_count-count.result c.meta.result sound.roots c.page_count-count.ensures.value c.meta.ensures c.meta_page.ensures.is c.meta_page.ensures.says in
+    record {
+      held = put_more i 0 c.meta_page.result a b d c.args.name.now (cleared i a b c.args.name.now c.in_ok-clear.ensures.bytes) c.in_ok-put.ensures.bytes c.meta_page.ensures.is.len here;
+      later = omega (arith, c.in_ok-clear.ensures.cause.later, c.in_ok-put.ensures.cause.later);
+    }
+
+pub returns-in_err-put-2-clause-saves : goal.returns-in_err-put-2-clause-saves
+returns-in_err-put-2-clause-saves g c =
+    let t : Table = c.args.table.now in
+    let i : Image = image_of c.args.class t in
+    let a = g.M.Images.held c.args.images.now in
+    let b = g.M.Images.held c.loop-block.images in
+    let d = g.M.Images.held c.put-in-loop-block.new.self in
+    let sound = c.page_count-count.ensures.sound in
+    let here : IsBlockOf i c.loop-block.block c.page_bytes.result = page_block c.args.class t c.loop-block.block c.page_bytes.result (omega arith) c.page_bytes.ensures.is (c.page_bytes.ensures.shows ∙ c.page.ensures) in
+    let within : c.loop-block.block < length i.pages = omega (arith, image_count c.args.class t sound.roots, c.page_count-count.ensures.value) in
+    let q = put_refused i c.loop-block.block c.page_bytes.result a b d c.args.name.now c.in_err-put-2.field-0.0 c.loop-block.invariant.held c.in_err-put-2.ensures.bytes within here in
+    saves_refused i a d c.args.name.now c.from_residual-in_err-put-2.result c.in_err-put-2.field-0.0 c.from_residual-in_err-put-2.ensures.0 c.from_residual-in_err-put-2.ensures.1 q
+
+pub loop-block-preserved : goal.loop-block-preserved
+loop-block-preserved g c =
+    let t : Table = c.args.table.now in
+    let i : Image = image_of c.args.class t in
+    let a = g.M.Images.held c.args.images.now in
+    let b = g.M.Images.held c.loop-block.images in
+    let d = g.M.Images.held c.put-in-loop-block.new.self in
+    let here : IsBlockOf i c.loop-block.block c.page_bytes.result = page_block c.args.class t c.loop-block.block c.page_bytes.result (omega arith) c.page_bytes.ensures.is (c.page_bytes.ensures.shows ∙ c.page.ensures) in
+    record {
+      held = put_more i c.loop-block.block c.page_bytes.result a b d c.args.name.now c.loop-block.invariant.held c.in_ok-put-2.ensures.bytes c.page_bytes.ensures.is.laid.len here;
+      later = omega (arith, c.loop-block.invariant.later, c.in_ok-put-2.ensures.cause.later);
+    }
+
+pub returns-clause-saves : goal.returns-clause-saves
+returns-clause-saves g c =
+    let t : Table = c.args.table.now in
+    let i : Image = image_of c.args.class t in
+    let a = g.M.Images.held c.args.images.now in
+    let b = g.M.Images.held c.loop-block.images in
+    let sound = c.page_count-count.ensures.sound in
+    let ended : c.loop-block.block ≡ length t.pages = omega (arith, c.page_count-count.ensures.value, sound.roots) in
+    let all : Changes a b c.args.name.now (λ x held. HoldsPages i (length t.pages) held) = subst (λ n. Changes a b c.args.name.now (λ x held. HoldsPages i n held)) ended c.loop-block.invariant.held in
+    (c.page_count-count.ensures.value ∙ sym (image_count c.args.class t sound.roots), put_all c.args.class t a b c.args.name.now sound c.requires.main c.requires.nulls all)

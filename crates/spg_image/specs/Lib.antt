@@ -1,0 +1,6 @@
+pub mod Numbers
+pub mod Page
+pub mod Meta
+pub mod Image
+pub mod Refusals
+pub mod Saving
