@@ -59,7 +59,7 @@ module _ {Key Recon Cond : Type 0} (O : Type 0) (m : Meaning Key Recon Cond) (sp
     gave holds now now2 at given past (outcome.Saved pages) same far did = (now, did.0, record { blocks = did.1; rows = did.2; after = tt; before = far; end = λ each. sym same })
     gave holds now now2 at given past o same far did = tt
 
-    tells_begins : (holds : Sheets → ℕ → Type 0) (present : ℕ → ℕ) (was : List ℕ → B) (now : Sheets) → TellsAll O m speech reads holds present was was now []
+    pub tells_begins : (holds : Sheets → ℕ → Type 0) (present : ℕ → ℕ) (was : List ℕ → B) (now : Sheets) → TellsAll O m speech reads holds present was was now []
     tells_begins holds present was now = record { end = tt; saves = λ name. refl; leaves = tt }
 
     module _ (holds : Sheets → ℕ → Type 0) (present : ℕ → ℕ) (was given given2 : List ℕ → B) (now now2 : Sheets) (steps : List Step) (x : Step) (all : TellsAll O m speech reads holds present was given now steps) (step : StepDoes O m speech reads holds present given given2 now now2 x) where
@@ -182,7 +182,7 @@ module _ (O Key Recon Cond B : Type 0) (m : Meaning Key Recon Cond) (speech : Sp
       (λ g at le is. subst (λ (past : History O Key Recon Cond). Represents m g (IsPresentWith past)) (earlier_same at le) is) (λ at le. ap present_count (earlier_same at le))
       was given now (steps_of tasks records) (steps_within (2 * length loaded) (length old) [] tasks records tt run.within) all
 
-  one_more : (given2 : List ℕ → B) (now2 : Sheets) (t : Task) (r : Record) → StepDone O m speech reads (old ++ more) given given2 now now2 t r → TellAll O m speech reads (old ++ more) was given2 now2 (tasks ++ t ∷ []) (records ++ r ∷ [])
+  pub one_more : (given2 : List ℕ → B) (now2 : Sheets) (t : Task) (r : Record) → StepDone O m speech reads (old ++ more) given given2 now now2 t r → TellAll O m speech reads (old ++ more) was given2 now2 (tasks ++ t ∷ []) (records ++ r ∷ [])
   one_more given2 now2 t r step = subst (TellsAll O m speech reads (HoldsAt m (old ++ more)) (present_at (old ++ more)) was given2 now2) (sym (steps_append (Did speech old) [] tasks (t ∷ []) records (r ∷ []) run.each))
       (tells_goes_on O m speech reads (HoldsAt m (old ++ more)) (present_at (old ++ more)) was given given2 now now2 (steps_of tasks records) (record { task = t; done = r }) still_tells step)
 
