@@ -68,6 +68,21 @@ fn after_read(out: &ReadOut) -> Answer {
     }
 }
 
+fn after_refusal(refused: &OpenRefused) -> Result<Answer, Memory> {
+    match refused {
+        OpenRefused::RowUsed => Ok(Answer::RowUsed),
+        OpenRefused::RowHeld { by } => Ok(Answer::RowHeld(by.number())),
+        OpenRefused::Memory => Err(Memory),
+    }
+}
+
+fn after_vacuum_refusal(refused: &VacuumRefused) -> Result<Answer, Memory> {
+    match refused {
+        VacuumRefused::Open { by } => Ok(Answer::Open(by.number())),
+        VacuumRefused::Memory => Err(Memory),
+    }
+}
+
 /// A call of a seat with nothing open.
 fn open(state: &mut State<Quad>, seat: SeatNo, call: Call) -> Result<Answer, Memory>
     requires { stage_at state.old seat ≡ free }
@@ -77,9 +92,7 @@ fn open(state: &mut State<Quad>, seat: SeatNo, call: Call) -> Result<Answer, Mem
             let key = Some(Point { x: 0, y: 0 });
             match state.open_insert(seat, Row::at(9, offset), key) {
                 Ok(()) => Ok(Answer::Done),
-                Err(OpenRefused::RowUsed) => Ok(Answer::RowUsed),
-                Err(OpenRefused::RowHeld { by }) => Ok(Answer::RowHeld(by.number())),
-                Err(OpenRefused::Memory) => Err(Memory),
+                Err(refused) => after_refusal(&refused),
             }
         }
         Call::Scan => {
@@ -95,8 +108,7 @@ fn open(state: &mut State<Quad>, seat: SeatNo, call: Call) -> Result<Answer, Mem
         }
         Call::Vacuum => match state.open_vacuum(seat) {
             Ok(()) => Ok(Answer::Done),
-            Err(VacuumRefused::Open { by }) => Ok(Answer::Open(by.number())),
-            Err(VacuumRefused::Memory) => Err(Memory),
+            Err(refused) => after_vacuum_refusal(&refused),
         },
         _ => Ok(Answer::No),
     }

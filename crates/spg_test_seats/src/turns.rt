@@ -109,6 +109,30 @@ fn begin(
     }
 }
 
+/// Notes for whom a row waits.
+fn note_refused(refused: &OpenRefused, met: &mut Met) -> Result<(), Memory> {
+    match refused {
+        OpenRefused::RowUsed => Ok(()),
+        OpenRefused::RowHeld { by } => {
+            met.last = Some(*by);
+            met.held = met.held.saturating_add(1);
+            Ok(())
+        }
+        OpenRefused::Memory => Err(Memory),
+    }
+}
+
+/// Notes who has a vacuum open.
+fn note_open(refused: &VacuumRefused, met: &mut Met) -> Result<(), Memory> {
+    match refused {
+        VacuumRefused::Open { by } => {
+            met.last = Some(*by);
+            Ok(())
+        }
+        VacuumRefused::Memory => Err(Memory),
+    }
+}
+
 /// Opens an insert of a row, unless it is used or waits for a seat.
 fn open_insert(
     state: &mut State<Quad>,
@@ -119,13 +143,8 @@ fn open_insert(
     requires { stage_at state.old seat ≡ free }
 {
     match state.open_insert(seat, row_in(draw), key_in(draw)) {
-        Ok(()) | Err(OpenRefused::RowUsed) => Ok(()),
-        Err(OpenRefused::RowHeld { by }) => {
-            met.last = Some(by);
-            met.held = met.held.saturating_add(1);
-            Ok(())
-        }
-        Err(OpenRefused::Memory) => Err(Memory),
+        Ok(()) => Ok(()),
+        Err(refused) => note_refused(&refused, met),
     }
 }
 
@@ -135,11 +154,7 @@ fn open_vacuum(state: &mut State<Quad>, seat: SeatNo, met: &mut Met) -> Result<(
 {
     match state.open_vacuum(seat) {
         Ok(()) => Ok(()),
-        Err(VacuumRefused::Open { by }) => {
-            met.last = Some(by);
-            Ok(())
-        }
-        Err(VacuumRefused::Memory) => Err(Memory),
+        Err(refused) => note_open(&refused, met),
     }
 }
 
