@@ -1,5 +1,5 @@
 -- Pages only grow.
-use Rattle.std.proofs.Common.{◌≡◌, ◌≤◌, ℕ, Option, length, refl, ap, ◌∙◌, arith}
+use Rattle.std.proofs.Common.{◌≡◌, ℕ, Option, length, ap, ◌∙◌, arith}
 use Rattle.spg_opclass.specs.Meaning.{Meaning}
 use Rattle.spg_tree.specs.Table.{Table, sheets_of}
 use Rattle.spg_tree.specs.Descents.{Descending}

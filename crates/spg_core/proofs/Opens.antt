@@ -9,7 +9,7 @@ use Rattle.spg_base.specs.declared.row_set.RowSet.{RowSet}
 use Rattle.spg_rows.specs.Vacuums.{newest_ends}
 use Rattle.spg_opclass.specs.Meaning.{Meaning}
 use Rattle.spg_rows.specs.declared.event.Event.{Event}
-use Rattle.spg_rows.specs.declared.event.Event.TheVariants.{OpenInsert, Drop, Kill, Leave}
+use Rattle.spg_rows.specs.declared.event.Event.TheVariants.{OpenInsert, Kill}
 use Rattle.spg_rows.specs.declared.event.Why.{Why}
 use Rattle.spg_rows.specs.declared.table.RowState.TheVariants as row_state
 use Rattle.spg_rows.specs.History.{Written}

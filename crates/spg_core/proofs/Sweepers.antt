@@ -13,8 +13,6 @@ use Rattle.spg_rows.specs.History.{Written, History, vacuuming, open_of}
 use Rattle.spg_rows.specs.Held.{or_then}
 use Rattle.spg_rows.specs.Vacuums.{AreBefore}
 use Rattle.spg_rows.proofs.Vacuums.{vacuums_in_order}
-use Rattle.spg_tree.specs.Table as pages
-use Rattle.spg_tree.specs.Table.{sheets_of}
 use Rattle.spg_vacuum.specs.declared.vacuum.Vacuum.{Vacuum}
 use Rattle.spg_seats.specs.Latching.{rest_of}
 use Rattle.spg_seats.specs.Opening.{opened_vacuum}

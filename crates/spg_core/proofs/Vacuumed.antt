@@ -1,5 +1,5 @@
 -- What a section of the vacuum in a seat's slot leaves of a state.
-use Rattle.std.proofs.Common.{◌≡◌, ◌⊎◌, ◌<◌, ◌≤◌, ◌+◌, ◌^◌, ◌||◌, ◌∷◌, ◌++◌, [], inl, inr, ⊎_elim, ℕ, zero, suc, Bool, true, false, List, length, get_or, set, map, reverse, Option, Some, None, Vec, Contains, refl, sym, ap, ◌∙◌, subst, arith, length-set, get_or-set_other}
+use Rattle.std.proofs.Common.{◌≡◌, ◌⊎◌, ◌<◌, ◌≤◌, ◌+◌, ◌^◌, ◌||◌, ◌∷◌, ◌++◌, [], inl, inr, ⊎_elim, ℕ, Bool, true, false, List, length, get_or, set, map, Option, Some, None, Vec, Contains, refl, sym, ap, ◌∙◌, subst, arith, length-set, get_or-set_other}
 use Rattle.std.specs.declared.alloc.Global.{Global}
 use Rattle.std.proofs.lemmas.Bool.{false≢true, cases_eq}
 use Rattle.std.proofs.lemmas.List.{length-reverse, append-nil}
@@ -25,7 +25,6 @@ use Rattle.spg_rows.specs.Table.{Table, IsKilledIn, SameKeys}
 use Rattle.spg_rows.specs.Vacuums.{newest_ends}
 use Rattle.spg_tree.specs.Table as pages
 use Rattle.spg_tree.specs.Table.{sheets_of, sheet_at, latch_at, tuples_at, with_touched}
-use Rattle.spg_vacuum.specs.declared.done.Work.TheVariants as works
 use Rattle.spg_vacuum.specs.declared.vacuum.Vacuum.{Vacuum}
 use Rattle.spg_vacuum.specs.Latch.{IsFree}
 use Rattle.spg_vacuum.specs.Handled.{HandlesBlock, HandlesPlace}
@@ -51,7 +50,6 @@ use Rattle.spg_core.specs.Stepping.{Grows}
 use Rattle.spg_core.specs.Sweeping.{DoesWork, KeepsWork, CanSweep, SweepsFrom, SetsSwept, LeaveSet}
 use Rattle.spg_core.proofs.Slots.{seen_as, set_twice, stages_set, stage_set, stage_get, logged_is, logged_all_is, moved_is, open_count-all, stages_count}
 use Rattle.spg_core.proofs.Steps.{with_all, with_fields, same_rows, held_on, past, stages, seats, fits, held, low}
-use Rattle.spg_core.proofs.Opens.{room_for_all}
 use Rattle.spg_core.proofs.Works.{Stays, next_place, block_stays, pending_stays, latched_stays}
 
 -- ---- the rows of a section

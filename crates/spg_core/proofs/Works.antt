@@ -1,21 +1,14 @@
 -- What a section of a vacuum leaves of a table.
-use Rattle.std.proofs.Common.{◌≡◌, ◌⊎◌, ◌≤◌, ⊎_elim, inl, inr, ℕ, Bool, true, false, List, [], ◌∷◌, length, set, Option, None, Some, nat_lt, refl, sym, ap, ◌∙◌, subst, arith, length-set}
+use Rattle.std.proofs.Common.{◌≡◌, ◌⊎◌, ⊎_elim, ℕ, Bool, true, false, List, [], ◌∷◌, length, Some, nat_lt, refl, ap}
 use Rattle.spg_base.specs.Row.{RowAt}
 use Rattle.spg_forest.specs.View.{Place}
-use Rattle.spg_forest.specs.Sheets.{with_tuples}
-use Rattle.spg_tree.specs.Table.{Table, sheet_at, latch_at, tuples_at, with_touched}
+use Rattle.spg_tree.specs.Table.{Table, sheet_at, with_touched}
 use Rattle.spg_vacuum.specs.declared.done.Done.TheVariants.{Swept, Latched}
 use Rattle.spg_vacuum.specs.declared.done.Work.TheVariants as works
 use Rattle.spg_vacuum.specs.declared.vacuum.Vacuum.{Vacuum}
-use Rattle.spg_vacuum.specs.Latch.{IsFree}
 use Rattle.spg_vacuum.specs.Listing.{first_place}
 use Rattle.spg_vacuum.specs.Handled.{HandlesBlock, HandlesPlace}
-use Rattle.spg_vacuum.specs.Vacuums.{work_at, work_of, BlockDone, PendingDone, FirstDone, IsBusy}
-use Rattle.spg_seats.specs.Descending.{ChangesHeld}
-use Rattle.spg_core.specs.Stepping.{Grows}
-use Rattle.spg_core.specs.declared.answer.VacuumOut.{VacuumOut}
-use Rattle.spg_core.specs.declared.answer.VacuumOut.TheVariants as outs
-use Rattle.spg_core.specs.Sweeping.{DoesWork}
+use Rattle.spg_vacuum.specs.Vacuums.{work_at, work_of, BlockDone, FirstDone}
 
 -- the latches and the limit are as they were
 abbrev pub Stays : Table → Table → Type 0

@@ -148,8 +148,8 @@ impl<O: OpClass> State<O> {
         self.table.clock()
     }
 
-    /// The blocks that the last section of an insert changed or added. A call that is none leaves it
-    /// empty.
+    /// The blocks that the last section of an insert or of a vacuum changed or added. A call that is
+    /// none leaves it empty.
     pub fn touched(&self) -> &Touched
         ensures { result.now ≡ self.now.table.touched }
     {
@@ -165,7 +165,8 @@ impl<O: OpClass> State<O> {
     }
 
     /// What the seat has open. It is what the journal says. An open insert carries its key to where it
-    /// stands, and what a scan holds covers the rows that it must give.
+    /// stands, what a scan holds covers the rows that it must give, and what a vacuum has still to see
+    /// covers the rows that it must sweep.
     pub fn open_of(&self, seat: SeatNo) -> OpenKind
         ensures kind { result ≡ kind_of (stage_at self.now seat) }
         ensures journal { IsStageOf (open_of seat (past_of self.now)) (stage_at self.now seat) }

@@ -1,4 +1,4 @@
-use Rattle.std.proofs.Common.{◌≡◌, ◌++◌, ◌∷◌, [], get_or, map, length, refl, sym, ap, ◌∙◌, subst, arith}
+use Rattle.std.proofs.Common.{◌≡◌, ◌++◌, ◌∷◌, [], get_or, length, refl, sym, ap, ◌∙◌, subst, arith}
 use Rattle.std.proofs.lemmas.Bool.{false≢true}
 use Rattle.spg_rows.specs.declared.event.Event.TheVariants.{Kill}
 use Rattle.spg_rows.specs.declared.table.RowState.TheVariants as row_state
@@ -10,7 +10,7 @@ use Rattle.spg_core.specs.Slot.{stage_of}
 use Rattle.spg_core.specs.Stage as stages
 use Rattle.spg_core.specs.Seen.{untouched}
 use Rattle.spg_core.specs.Kept.{IsState}
-use Rattle.spg_core.proofs.Slots.{stage_is, past_is, table_is, seen_as}
+use Rattle.spg_core.proofs.Slots.{stage_is, past_is, table_is}
 use Rattle.spg_core.proofs.Steps.{with_all, with_fields, kept_with, kept_later}
 use Rattle.spg_core.proofs.Opens.{kills, killed_seen}
 use Rattle.spg_core.proofs.state.State.kill.Goals as goal

@@ -1,13 +1,10 @@
-use Rattle.std.proofs.Common.{◌≡◌, ◌∷◌, ◌++◌, [], List, length, get_or, set, map, None, Some, refl, sym, ap, ap₂, ◌∙◌, subst}
-use Rattle.std.proofs.lemmas.Result.{err_from_is_err_and}
+use Rattle.std.proofs.Common.{◌≡◌, ◌∷◌, ◌++◌, [], List, length, get_or, set, map, None, refl, sym, ap, ap₂, ◌∙◌, subst}
 use Rattle.spg_rows.specs.declared.event.Event.TheVariants.{OpenVacuum}
 use Rattle.spg_rows.specs.Vacuums.{AreBefore}
 use Rattle.spg_tree.specs.Table.{Table, with_touched}
 use Rattle.spg_vacuum.specs.declared.vacuum.Vacuum.{Vacuum}
 use Rattle.spg_seats.specs.Opening.{opened_vacuum}
-use Rattle.spg_seats.specs.Slots.{IsKept}
 use Rattle.spg_seats.specs.Waiting.{is_sweeping, lowest_seat}
-use Rattle.spg_core.specs.declared.answer.VacuumRefused.TheVariants as refused
 use Rattle.spg_core.specs.declared.slot.Slot.{Slot}
 use Rattle.spg_core.specs.declared.slot.Slot.TheVariants as slot
 use Rattle.spg_core.specs.Slot.{stage_of}

@@ -1,17 +1,14 @@
-use Rattle.std.proofs.Common.{◌≡◌, ◌∷◌, ◌++◌, ◌≤◌, ◌<◌, ◌^◌, [], List, length, get_or, map, refl, sym, ap, ◌∙◌, subst, arith, Contains}
+use Rattle.std.proofs.Common.{◌∷◌, ◌++◌, ◌<◌, ◌^◌, [], List, length, get_or, refl, sym, ap, ◌∙◌, subst, arith, Contains}
 use Rattle.std.specs.BTreeSet.{contains}
 use Rattle.spg_base.specs.Row.{row_cmp}
 use Rattle.spg_rows.specs.declared.event.Event.TheVariants.{CloseVacuum}
 use Rattle.spg_rows.specs.Count.{IsOnce}
-use Rattle.spg_rows.specs.Table.{IsKilledIn, SameKeys}
 use Rattle.spg_rows.specs.Vacuums.{newest_ends}
 use Rattle.spg_seats.specs.Opening.{sweeps}
 use Rattle.spg_core.specs.declared.slot.Slot.TheVariants as slot
-use Rattle.spg_core.specs.Slot.{stage_of}
 use Rattle.spg_core.specs.Stage.{IsSweeping}
-use Rattle.spg_core.specs.Kept.{IsState}
-use Rattle.spg_core.specs.Sweeping.{SweepsSlot, SetsSwept, LeaveSet}
-use Rattle.spg_core.proofs.Slots.{seen_as, stage_is}
+use Rattle.spg_core.specs.Sweeping.{SetsSwept, LeaveSet}
+use Rattle.spg_core.proofs.Slots.{stage_is}
 use Rattle.spg_core.proofs.Steps.{with_fields, kept_with, kept_same}
 use Rattle.spg_core.proofs.Vacuumed as vacuumed
 use Rattle.spg_core.proofs.state.State.vacuum_step.Goals as goal
