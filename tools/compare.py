@@ -1,11 +1,14 @@
 #!/usr/bin/env python3
 """Compares the program with another model of it on random scripts.
 
-    compare.py --program 'PATH run' --model 'PATH run' [--count N] [--seed S] [--large PART] [--classes quad,kd]
+    compare.py --program 'PATH run' --model 'PATH run' [--count N] [--seed S] [--large PART] [--classes quad,kd,radix]
+        [--no-vacuum] [--no-save] [--no-stat] [--no-blank]
 
-Both commands read a script from standard input. They must write the same text, end with the same status and name the
-same bad line. A script on which they differ is left as NAME.differs. Small scripts have edges and bad lines; large ones
-have hundreds to thousands of inserts of one shape, with deletes and finds between and behind them.
+Both commands read a script from standard input, each in a folder of its own. They must write the same text, end with
+the same status, name the same bad line, and save the same images, byte by byte but for the free bytes of a page (those
+between its item pointers and its tuples), which may be anything; how many images differ there alone is told. A script
+on which they differ is left as NAME.differs. Small scripts have edges and bad lines; large ones have hundreds to thousands of inserts of one shape,
+with deletes, vacuums and finds between and behind them, and rows used again. The last four options leave lines out.
 """
 
 import argparse
@@ -13,10 +16,13 @@ import os
 import pathlib
 import random
 import shlex
+import struct
 import subprocess
 import sys
+import tempfile
 from concurrent.futures import ThreadPoolExecutor
 
+PAGE = 8192
 EDGES = [-2147483648, -2147483647, -1, 0, 1, 2147483646, 2147483647]
 PLAIN = set(range(32, 127)) - {34, 92} | set(range(128, 256))
 
@@ -126,24 +132,45 @@ def broken(rng, line):
     return line + rng.choice([b" ", b" and", b" and left 3", b",0", b".1", b'"'])
 
 
-def small(rng, classes):
+def name_of(rng):
+    """A name of an image: mostly one of a few, so that a name is saved over."""
+    if rng.random() < 0.8:
+        return rng.choice([b"a", b"town", b"_", b"0.-_"])
+    return bytes(rng.choice(b"az09_") for _ in range(1)) + bytes(
+        rng.choice(b"abcxyz0189_-.") for _ in range(rng.choice([0, 1, 10, 63]))
+    )
+
+
+def other(rng, kinds):
+    """A line that is no insert, delete or find."""
+    kind = rng.choice(kinds)
+    if kind == b"blank":
+        return rng.choice([b"", b"#", b"# a remark", b"#insert 1.1 0,0"])
+    return b"save " + name_of(rng) if kind == b"save" else kind
+
+
+def small(rng, classes, kinds):
     """A script, in one of five cases with a line changed."""
     name, keys = keys_of(rng, classes)
     lines = [b"class " + name.encode()]
     for i in range(rng.choice([0, 3, 10, 40, 350])):
         row = b"%d.%d" % (rng.choice([0, 1, 2, 4294967295]), rng.choice([1, 2, 3, 65535, rng.randint(1, 400)]))
         chance = rng.random()
-        if chance < 0.12:
+        if chance < 0.15:
             lines.append(b"delete " + row)
+        elif chance < 0.25 and kinds:
+            lines.append(other(rng, kinds))
         else:
-            lines.append(insert(rng, keys, i, row, 0.1) if chance < 0.74 else query(rng, keys))
+            lines.append(insert(rng, keys, i, row, 0.1) if chance < 0.8 else query(rng, keys))
+    if b"blank" in kinds and rng.random() < 0.2:
+        lines.insert(0, b"# before the class")
     if rng.random() < 0.2:
         at = rng.randrange(len(lines))
         lines[at] = broken(rng, lines[at])
     return b"\n".join(lines) + (b"" if rng.random() < 0.2 else b"\n")
 
 
-def large(rng, classes):
+def large(rng, classes, kinds):
     """Many inserts of one shape."""
     name, keys = keys_of(rng, classes)
     count = rng.choice([300, 400, 600, 1000, 1500, 2500, 4000])
@@ -151,23 +178,58 @@ def large(rng, classes):
     if rng.random() < 0.5:
         rng.shuffle(rows)
     nulls = rng.choice([0, 0, 0.1, 0.5, 0.9])
-    deletes = rng.choice([0, 0.02, 0.3])
+    deletes = rng.choice([0, 0.02, 0.3, 0.8])
+    reused = rng.choice([0.01, 0.01, 0.3])
+    others = rng.choice([2, 8, 40])
     lines = [b"class " + name.encode()]
     for i in range(count):
-        row = rows[i] if rng.random() < 0.99 else rng.randrange(count)
+        row = rows[i] if rng.random() >= reused else rows[rng.randrange(i + 1)]
         lines.append(insert(rng, keys, i, b"%d.%d" % (row // 300, row % 300 + 1), nulls))
         if rng.random() < deletes:
             row = rows[rng.randint(0, min(i + 3, count - 1))]
             lines.append(b"delete %d.%d" % (row // 300, row % 300 + 1))
         if rng.random() < 8 / count:
             lines.append(query(rng, keys))
-    lines += [query(rng, keys) for _ in range(rng.randint(1, 6))]
+        if kinds and rng.random() < others / count:
+            lines.append(other(rng, kinds))
+    for _ in range(rng.randint(1, 6)):
+        lines.append(query(rng, keys))
+        if kinds and rng.random() < 0.5:
+            lines.append(other(rng, kinds))
     return b"\n".join(lines) + b"\n"
 
 
 def ran(words, text):
-    done = subprocess.run(words, input=text, capture_output=True, check=False)
-    return done.returncode, done.stdout, done.stderr.splitlines()[:1]
+    """What a program answers and writes, and what it leaves in its folder."""
+    with tempfile.TemporaryDirectory() as folder:
+        done = subprocess.run(words, input=text, capture_output=True, check=False, cwd=folder)
+        images = {path.name: path.read_bytes() for path in pathlib.Path(folder).iterdir()}
+    return done.returncode, done.stdout, done.stderr.splitlines()[:1], images
+
+
+def without_free_bytes(image):
+    """The image with zeros in the free bytes of each page but the meta page."""
+    told = bytearray(image)
+    for page in range(PAGE, len(told) - PAGE + 1, PAGE):
+        items, upper = struct.unpack_from("<HH", told, page + 12)
+        begin, end = page + 24 + 4 * items, page + upper
+        if begin <= end <= page + PAGE:
+            told[begin:end] = bytes(end - begin)
+    return bytes(told)
+
+
+def is_same(ours, other):
+    """Whether two runs are the same, free bytes of images left aside."""
+    return ours[:3] == other[:3] and settled(ours[3]) == settled(other[3])
+
+
+def settled(images):
+    return {name: without_free_bytes(image) for name, image in images.items()}
+
+
+def apart_when_free(ours, other):
+    """How many images are the same but for their free bytes."""
+    return sum(name in ours and ours[name] != image for name, image in other.items())
 
 
 def show(name, text, ours, other):
@@ -176,24 +238,38 @@ def show(name, text, ours, other):
         if a != b:
             print(f"  line {number}: {a[:200]!r} and {b[:200]!r}")
             break
+    for image in sorted(ours[3].keys() | other[3].keys()):
+        a, b = settled(ours[3]).get(image), settled(other[3]).get(image)
+        if a != b:
+            at = next((i for i, (x, y) in enumerate(zip(a or b"", b or b"")) if x != y), None)
+            print(f"  image {image}: {a and len(a)} and {b and len(b)} bytes, first apart at {at}")
     pathlib.Path(f"{name}.differs").write_bytes(text)
+
+
+def kinds_of(options):
+    """The lines that stand between inserts, deletes and finds."""
+    kinds = [(options.vacuum, b"vacuum"), (options.save, b"save"), (options.stat, b"stat"), (options.blank, b"blank")]
+    return [kind for wanted, kind in kinds if wanted]
 
 
 def compare(options):
     program, model = shlex.split(options.program), shlex.split(options.model)
     classes = options.classes.split(",")
+    kinds = kinds_of(options)
 
     def one(number):
         rng = random.Random(f"{options.seed} {number}")
-        text = (large if rng.random() < options.large else small)(rng, classes)
+        text = (large if rng.random() < options.large else small)(rng, classes, kinds)
         ours, other = ran(program, text), ran(model, text)
-        if ours != other:
+        same = is_same(ours, other)
+        if not same:
             show(f"{number:05}", text, ours, other)
-        return text.count(b"\n"), other[0] != 0, ours != other
+        return text.count(b"\n"), other[0] != 0, len(other[3]), same and apart_when_free(ours[3], other[3]), not same
 
     with ThreadPoolExecutor(options.jobs) as pool:
-        lines, refused, bad = map(sum, zip(*pool.map(one, range(options.count))))
+        lines, refused, images, free, bad = map(sum, zip(*pool.map(one, range(options.count))))
     print(f"{options.count} scripts, {lines} lines, {refused} refused by the model, {bad} differ")
+    print(f"{images} images, {free} of them with other free bytes")
     return bad
 
 
@@ -204,7 +280,9 @@ def main():
     parser.add_argument("--count", type=int, default=300)
     parser.add_argument("--seed", default="1")
     parser.add_argument("--large", type=float, default=0.3, help="the part of scripts with many inserts")
-    parser.add_argument("--classes", default="quad,kd")
+    parser.add_argument("--classes", default="quad,kd,radix")
+    for kind in ("vacuum", "save", "stat", "blank"):
+        parser.add_argument(f"--{kind}", action=argparse.BooleanOptionalAction, default=True)
     parser.add_argument("--jobs", type=int, default=os.cpu_count())
     return 1 if compare(parser.parse_args()) else 0
 

@@ -1,62 +1,27 @@
--- From the run of commands to the answer of the program, and what the answers decide.
-use Rattle.std.proofs.Common.{◌≡◌, ◌⊎◌, ◌<◌, ◌≤◌, ◌+◌, ◌-◌, inl, inr, ℕ, List, [], ◌∷◌, ◌++◌, length, take, drop, Option, Some, None, refl, sym, ap, ◌∙◌, subst, arith, length-append, append-nil}
-use Rattle.std.specs.Prelude.{codes}
+-- What the answers of a run decide.
+use Rattle.std.proofs.Common.{◌≡◌, ◌⊎◌, ◌<◌, ◌≤◌, ◌+◌, ◌-◌, inl, inr, ℕ, List, [], ◌∷◌, ◌++◌, length, take, drop, Option, Some, None, Bool, true, false, ◌||◌, if◌then◌else◌, refl, sym, ap, ◌∙◌, subst, arith, length-append, append-nil}
 use Rattle.std.specs.Io.KnownBytes.{Consumes, IsAtEnd}
 use Rattle.std.proofs.lemmas.List.{append_assoc}
 use Rattle.std.proofs.Math.Seq.{take-add}
 use Rattle.std.proofs.lemmas.Bool.{cases_lt}
-use Rattle.spg_base.specs.declared.point.Point.{Point}
-use Rattle.spg_base.specs.declared.point.PointCond.{PointCond}
-use Rattle.spg_quad.specs.declared.class.Quad.{Quad}
-use Rattle.spg_quad.specs.declared.class.QuadRecon.{QuadRecon}
-use Rattle.spg_quad.specs.Quad.{quad_meaning}
-use Rattle.spg_kd.specs.declared.class.Kd.{Kd}
-use Rattle.spg_kd.specs.declared.class.KdRecon.{KdRecon}
-use Rattle.spg_kd.specs.Kd.{kd_meaning}
-use Rattle.spg_radix.specs.declared.radix.Radix.{Radix}
-use Rattle.spg_radix.specs.declared.recon.RadixRecon.{RadixRecon}
-use Rattle.spg_radix.specs.declared.condition.TextCond.{TextCond}
-use Rattle.spg_radix.specs.Radix.{radix_meaning}
 use Rattle.spg_io.specs.Causes.{Rose}
-use Rattle.spg_app.specs.declared.command.ClassName.TheVariants as class
-use Rattle.spg_app.specs.declared.command.Script.{Script}
+use Rattle.spg_script.specs.Blocks.{Script}
+use Rattle.spg_script.specs.Script.{lines_of, IsScript, CanGoOn, IsFirstBad}
+use Rattle.spg_report.specs.declared.outcome.Outcome.{Outcome}
+use Rattle.spg_report.specs.declared.outcome.Outcome.TheVariants as outcome
+use Rattle.spg_report.specs.declared.record.Record.{Record}
+use Rattle.spg_histories.specs.Ending.{Writing, all_taken, write_failed, memory_wanting, any_outcome, is_fault, is_memory, status_after}
+use Rattle.spg_histories.specs.declared.status.Status.{Status}
+use Rattle.spg_histories.specs.declared.status.Status.TheVariants.{Done, Usage, BadScript, ReadFault, WriteFault, ImageFault, Memory}
+use Rattle.spg_perform.specs.Session.{is_image_fault, image_faults, RoseBy}
 use Rattle.spg_app.specs.declared.end_state.EndState.{EndState}
 use Rattle.spg_app.specs.declared.end_state.EndState.TheVariants as state
-use Rattle.spg_app.specs.declared.session.Ending.{Ending}
-use Rattle.spg_app.specs.declared.session.Ending.TheVariants as ending
-use Rattle.spg_app.specs.declared.status.Status.{Status}
-use Rattle.spg_app.specs.declared.status.Status.TheVariants.{Done, Usage, BadScript, ReadFault, WriteFault, Memory}
 use Rattle.spg_app.specs.declared.stream.TheConstants.{LONGEST}
 use Rattle.spg_app.specs.Io.{ReadMore}
-use Rattle.spg_app.specs.Speech.{point_speech, text_speech}
-use Rattle.spg_app.specs.Script.{lines_of, IsScript, CanGoOn, IsFirstBad}
-use Rattle.spg_app.specs.Ending.{Ends}
-use Rattle.spg_app.specs.Headline.{Streams, GaveScript, GaveNoScript, EndsRun, IsAnswer, HoldsScript, HoldsNoScript, NoFault, ended}
-use Rattle.spg_app.proofs.ScriptLines.{no_script}
-
--- ---- the answer of a run of commands
-
-module _ (io : Streams) (script : Script) (gave : GaveScript io.left io.left_after script) where
-  pub quad_answers : script.class ≡ class.Quad → (how : Ending Quad Point QuadRecon PointCond) → Ends quad_meaning point_speech script.commands io.taken io.taken_after io.write_faults io.write_faults_after how
-      → IsAnswer io (codes "run" ∷ []) (ended state.Quad how).0 (ended state.Quad how).1
-  quad_answers is (ending.Done seen) ends = record { script = script; gave = gave; of_class = is; run = ends }
-  quad_answers is (ending.WriteFault seen) ends = (record { script = script; gave = gave; of_class = is; run = ends.0 }, ends.1)
-  quad_answers is ending.Memory (inl nothing) = inl nothing
-  quad_answers is ending.Memory (inr (seen, run)) = inr (state.Quad seen, record { script = script; gave = gave; of_class = is; run = run })
-
-  pub kd_answers : script.class ≡ class.Kd → (how : Ending Kd Point KdRecon PointCond) → Ends kd_meaning point_speech script.commands io.taken io.taken_after io.write_faults io.write_faults_after how
-      → IsAnswer io (codes "run" ∷ []) (ended state.Kd how).0 (ended state.Kd how).1
-  kd_answers is (ending.Done seen) ends = record { script = script; gave = gave; of_class = is; run = ends }
-  kd_answers is (ending.WriteFault seen) ends = (record { script = script; gave = gave; of_class = is; run = ends.0 }, ends.1)
-  kd_answers is ending.Memory (inl nothing) = inl nothing
-  kd_answers is ending.Memory (inr (seen, run)) = inr (state.Kd seen, record { script = script; gave = gave; of_class = is; run = run })
-
-  pub radix_answers : script.class ≡ class.Radix → (how : Ending Radix (List ℕ) RadixRecon TextCond) → Ends radix_meaning text_speech script.commands io.taken io.taken_after io.write_faults io.write_faults_after how
-      → IsAnswer io (codes "run" ∷ []) (ended state.Radix how).0 (ended state.Radix how).1
-  radix_answers is (ending.Done seen) ends = record { script = script; gave = gave; of_class = is; run = ends }
-  radix_answers is (ending.WriteFault seen) ends = (record { script = script; gave = gave; of_class = is; run = ends.0 }, ends.1)
-  radix_answers is ending.Memory (inl nothing) = inl nothing
-  radix_answers is ending.Memory (inr (seen, run)) = inr (state.Radix seen, record { script = script; gave = gave; of_class = is; run = run })
+use Rattle.spg_app.specs.Words.{IsRunLine}
+use Rattle.spg_app.specs.Ending.{Outlets}
+use Rattle.spg_app.specs.Headline.{Streams, GaveScript, GaveNoScript, IsBadScript, IsRefusal, EndsRun, IsRun, HoldsScript, HoldsNoScript, NoFault}
+use Rattle.spg_script.proofs.Scripts.{exact}
 
 -- ---- what a source that tells its bytes gave
 
@@ -68,24 +33,54 @@ no_shorter : (all : List ℕ) (left : Option (List ℕ)) (bytes : List ℕ) → 
 no_shorter all None bytes read = absurd read
 no_shorter all (Some rest) bytes read = omega (arith, ap length read, length-append bytes rest)
 
-gave_script : (left left_after : Option (List ℕ)) (n : ℕ) → HoldsScript left → GaveNoScript left left_after n ⊎ ((n ≡ 0) × ReadMore left left_after LONGEST) → ⊥
+gave_script : (left left_after : Option (List ℕ)) (n : ℕ) → HoldsScript left → IsBadScript left left_after n → ⊥
 gave_script None left_after n holds gave = holds
 gave_script (Some all) left_after n holds (inl refused) = refused.none holds.0.0 (subst (λ l. IsScript l holds.0.0) (whole all left_after refused.bytes refused.read.0 refused.read.1) holds.0.1)
 gave_script (Some all) left_after n holds (inr more) = omega (arith, no_shorter all left_after more.1.0 more.1.1, more.1.2, holds.1)
 
 -- ---- completeness
 
-pub complete : (io : Streams) (status : Status) (end : Option EndState) → IsAnswer io (codes "run" ∷ []) status end → HoldsScript io.left → NoFault io → (status ≡ Done) ⊎ (status ≡ Memory)
-complete io Done end answer holds no_fault = inl refl
-complete io Memory end answer holds no_fault = inr refl
-complete io Usage None answer holds no_fault = absurd (answer.0 refl)
-complete io Usage (Some end) answer holds no_fault = absurd answer
-complete io (BadScript n) None answer holds no_fault = absurd (gave_script io.left io.left_after n holds answer.0)
-complete io (BadScript n) (Some end) answer holds no_fault = absurd answer
-complete io ReadFault None answer holds no_fault = absurd (no_fault.reading answer.0)
-complete io ReadFault (Some end) answer holds no_fault = absurd answer
-complete io WriteFault None answer holds no_fault = absurd answer
-complete io WriteFault (Some end) answer holds no_fault = absurd (no_fault.writing answer.1)
+-- a record that says so is a fault of the images
+one_fault : (o : Outcome) (rest : Bool) (n : ℕ) → (rest ≡ true → 1 ≤ n) → is_fault o || rest ≡ true → 1 ≤ is_image_fault o + n
+one_fault outcome.ImageFault rest n more is = omega arith
+one_fault o rest n more is = omega (arith, more is)
+
+fault_counts : (records : List Record) → any_outcome is_fault records ≡ true → 1 ≤ image_faults records
+fault_counts [] is = absurd (cc)
+fault_counts (r ∷ records) is = one_fault r.outcome (any_outcome is_fault records) (image_faults records) (fault_counts records) is
+
+rose : (n before now : ℕ) → 1 ≤ n → RoseBy n before now → Rose before now
+rose n before now some by = omega (arith, by.1)
+
+decide : (fault memory : Bool) → (fault ≡ true → ⊥) → ((if fault then ImageFault else (if memory then Memory else Done)) ≡ Done) ⊎ ((if fault then ImageFault else (if memory then Memory else Done)) ≡ Memory)
+decide true memory not_so = absurd (not_so refl)
+decide false true not_so = inr refl
+decide false false not_so = inl refl
+
+done_or_memory : (writing : Writing) (records : List Record) (f f_after g g_after : ℕ) → (writing ≡ write_failed → Rose f f_after) → RoseBy (image_faults records) g g_after → (Rose f f_after → ⊥) → (Rose g g_after → ⊥)
+    → (status_after writing records ≡ Done) ⊎ (status_after writing records ≡ Memory)
+done_or_memory write_failed records f f_after g g_after cause by no_write no_image = absurd (no_write (cause refl))
+done_or_memory memory_wanting records f f_after g g_after cause by no_write no_image = inr refl
+done_or_memory all_taken records f f_after g g_after cause by no_write no_image =
+    decide (any_outcome is_fault records) (any_outcome is_memory records) (λ is. no_image (rose (image_faults records) g g_after (fault_counts records is) by))
+
+ran_complete : (limit : ℕ) (io : Streams) (out : Outlets) (status : Status) (end : EndState) → EndsRun limit io out status end → NoFault io out → (status ≡ Done) ⊎ (status ≡ Memory)
+ran_complete limit io out status (state.Quad seen) ran no_fault =
+    subst (λ s. (s ≡ Done) ⊎ (s ≡ Memory)) (sym ran.run.status_is) (done_or_memory ran.run.writing ran.run.records _ _ _ _ ran.run.cause ran.run.session.faults no_fault.writing no_fault.saving)
+ran_complete limit io out status (state.Kd seen) ran no_fault =
+    subst (λ s. (s ≡ Done) ⊎ (s ≡ Memory)) (sym ran.run.status_is) (done_or_memory ran.run.writing ran.run.records _ _ _ _ ran.run.cause ran.run.session.faults no_fault.writing no_fault.saving)
+ran_complete limit io out status (state.Radix seen) ran no_fault =
+    subst (λ s. (s ≡ Done) ⊎ (s ≡ Memory)) (sym ran.run.status_is) (done_or_memory ran.run.writing ran.run.records _ _ _ _ ran.run.cause ran.run.session.faults no_fault.writing no_fault.saving)
+
+pub complete : (limit : ℕ) (io : Streams) (out : Outlets) (status : Status) (end : Option EndState) → IsRun limit io out status end → HoldsScript io.left → NoFault io out → (status ≡ Done) ⊎ (status ≡ Memory)
+complete limit io out status (Some end) run holds no_fault = ran_complete limit io out status end run no_fault
+complete limit io out Done None run holds no_fault = inl refl
+complete limit io out Memory None run holds no_fault = inr refl
+complete limit io out Usage None run holds no_fault = absurd run.0
+complete limit io out (BadScript n) None run holds no_fault = absurd (gave_script io.left io.left_after n holds run.0)
+complete limit io out ReadFault None run holds no_fault = absurd (no_fault.reading run.0)
+complete limit io out WriteFault None run holds no_fault = absurd run.0
+complete limit io out ImageFault None run holds no_fault = absurd run.0
 
 -- ---- the first bad line is one line
 
@@ -108,31 +103,28 @@ one_line bytes m n bad other = elim (cases_lt m n) [
 
 no_script_given : (left left_after : Option (List ℕ)) (n : ℕ) (script : Script) → HoldsNoScript left n → GaveScript left left_after script → ⊥
 no_script_given None left_after n script holds gave = holds
-no_script_given (Some all) left_after n script (inl bad) gave = no_script all n bad.1 script (subst (λ l. IsScript l script) (sym (whole all left_after gave.bytes gave.read.0 gave.read.1)) gave.is_script)
+no_script_given (Some all) left_after n script (inl bad) gave = exact.not_bad all n bad.1 script (subst (λ l. IsScript l script) (sym (whole all left_after gave.bytes gave.read.0 gave.read.1)) gave.is_script)
 no_script_given (Some all) left_after n script (inr long) gave = omega (arith, gave.short, long.0, ap length (whole all left_after gave.bytes gave.read.0 gave.read.1))
 
-no_run : (io : Streams) (n : ℕ) (IsText : List ℕ → Type 0) (end : EndState) → HoldsNoScript io.left n → EndsRun io IsText end → ⊥
-no_run io n IsText (state.Quad seen) holds ran = no_script_given io.left io.left_after n ran.script holds ran.gave
-no_run io n IsText (state.Kd seen) holds ran = no_script_given io.left io.left_after n ran.script holds ran.gave
-no_run io n IsText (state.Radix seen) holds ran = no_script_given io.left io.left_after n ran.script holds ran.gave
+no_run : (limit : ℕ) (io : Streams) (out : Outlets) (status : Status) (n : ℕ) (end : EndState) → HoldsNoScript io.left n → EndsRun limit io out status end → ⊥
+no_run limit io out status n (state.Quad seen) holds ran = no_script_given io.left io.left_after n ran.script holds ran.gave
+no_run limit io out status n (state.Kd seen) holds ran = no_script_given io.left io.left_after n ran.script holds ran.gave
+no_run limit io out status n (state.Radix seen) holds ran = no_script_given io.left io.left_after n ran.script holds ran.gave
 
-same_line : (left left_after : Option (List ℕ)) (m n : ℕ) → HoldsNoScript left n → GaveNoScript left left_after m ⊎ ((m ≡ 0) × ReadMore left left_after LONGEST) → m ≡ n
+same_line : (left left_after : Option (List ℕ)) (m n : ℕ) → HoldsNoScript left n → IsBadScript left left_after m → m ≡ n
 same_line None left_after m n holds gave = absurd holds
 same_line (Some all) left_after m n (inl bad) (inl gave) = one_line all m n (subst (λ l. IsFirstBad l m) (sym (whole all left_after gave.bytes gave.read.0 gave.read.1)) gave.first_bad) bad.1
 same_line (Some all) left_after m n (inl bad) (inr more) = absurd (omega (arith, no_shorter all left_after more.1.0 more.1.1, more.1.2, bad.0))
 same_line (Some all) left_after m n (inr long) (inl gave) = absurd (omega (arith, gave.short, long.0, ap length (whole all left_after gave.bytes gave.read.0 gave.read.1)))
 same_line (Some all) left_after m n (inr long) (inr more) = more.0 ∙ sym long.1
 
-pub refused : (io : Streams) (status : Status) (end : Option EndState) → IsAnswer io (codes "run" ∷ []) status end → (n : ℕ) → HoldsNoScript io.left n → (Rose io.read_faults io.read_faults_after → ⊥)
+pub refused : (limit : ℕ) (io : Streams) (out : Outlets) (status : Status) (end : Option EndState) → IsRun limit io out status end → (n : ℕ) → HoldsNoScript io.left n → (Rose io.read_faults io.read_faults_after → ⊥)
     → (status ≡ BadScript n) ⊎ (status ≡ Memory)
-refused io Memory end answer n holds no_fault = inr refl
-refused io (BadScript m) None answer n holds no_fault = inl (ap (λ k. BadScript k) (same_line io.left io.left_after m n holds answer.0))
-refused io (BadScript m) (Some end) answer n holds no_fault = absurd answer
-refused io Done None answer n holds no_fault = absurd answer
-refused io Done (Some end) answer n holds no_fault = absurd (no_run io n _ end holds answer)
-refused io Usage None answer n holds no_fault = absurd (answer.0 refl)
-refused io Usage (Some end) answer n holds no_fault = absurd answer
-refused io ReadFault None answer n holds no_fault = absurd (no_fault answer.0)
-refused io ReadFault (Some end) answer n holds no_fault = absurd answer
-refused io WriteFault None answer n holds no_fault = absurd answer
-refused io WriteFault (Some end) answer n holds no_fault = absurd (no_run io n _ end holds answer.0)
+refused limit io out status (Some end) run n holds no_fault = absurd (no_run limit io out status n end holds run)
+refused limit io out Memory None run n holds no_fault = inr refl
+refused limit io out (BadScript m) None run n holds no_fault = inl (ap (λ k. BadScript k) (same_line io.left io.left_after m n holds run.0))
+refused limit io out Done None run n holds no_fault = absurd run.0
+refused limit io out Usage None run n holds no_fault = absurd run.0
+refused limit io out ReadFault None run n holds no_fault = absurd (no_fault run.0)
+refused limit io out WriteFault None run n holds no_fault = absurd run.0
+refused limit io out ImageFault None run n holds no_fault = absurd run.0

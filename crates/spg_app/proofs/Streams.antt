@@ -1,14 +1,18 @@
 -- Reading and writing in several calls.
-use Rattle.std.proofs.Common.{◌≡◌, ◌<◌, ◌+◌, ℕ, List, [], ◌++◌, drop, length, get_or, Result, Ok, Err, OnErr, refl, sym, ap, ◌∙◌}
+use Rattle.std.proofs.Common.{◌≡◌, ◌<◌, ◌+◌, ℕ, List, [], ◌∷◌, ◌++◌, drop, length, get_or, Result, Ok, Err, OnErr, refl, sym, ap, subst, ◌∙◌}
 use Rattle.std.specs.declared.option.Option.{Option}
 use Rattle.std.proofs.lemmas.List.{append_assoc, append-nil, at_drop_more}
 use Rattle.std.specs.Io.KnownBytes.{Appends}
 use Rattle.std.proofs.KnownBytes.{Appends-trans, Appends-nil}
 use Rattle.spg_app.specs.Io.{Wrote, WroteSome}
 use Rattle.spg_rows.specs.declared.event.Event.{Event}
-use Rattle.spg_app.specs.declared.record.Record.{Record}
-use Rattle.spg_app.specs.Speech.{Speech}
-use Rattle.spg_app.specs.Text.{text, journal_line, result_line, result_lines, event_line, event_lines}
+use Rattle.spg_report.specs.declared.record.Record.{Record}
+use Rattle.spg_script.specs.Speech.{Speech}
+use Rattle.spg_report.specs.Text.{text, ended, journal_text, result_text, result_lines, event_text, event_lines}
+
+pub ended-append : (xs ys : List (List ℕ)) → ended (xs ++ ys) ≡ ended xs ++ ended ys
+ended-append [] ys = refl
+ended-append (x ∷ xs) ys = ap (λ l. (x ++ 10 ∷ []) ++ l) (ended-append xs ys) ∙ sym (append_assoc (x ++ 10 ∷ []) (ended xs) (ended ys))
 
 pub Wrote-more : (a b c : Option (List ℕ)) (text rest left piece : List ℕ) → Wrote a b text rest → Appends b c piece → rest ≡ piece ++ left → Wrote a c text left
 Wrote-more a b c text rest left piece wrote next is =
@@ -29,42 +33,51 @@ pub OnErr-always : {T E : Type 0} (r : Result T E) (P : Type 0) → P → OnErr 
 OnErr-always (Ok x) P p = tt
 OnErr-always (Err e) P p = p
 
+-- a text that is put on a line without bytes is the line
+pub put_on_clear : (clear line text : List ℕ) → clear ≡ [] → line ≡ clear ++ text → line ≡ text
+put_on_clear clear line text is put = put ∙ ap (λ l. l ++ text) is
+
 -- ---- the lines of a run
 
 pub result_lines-more : (number : ℕ) (records : List Record) (i : ℕ) (one : Record) → i < length records → one ≡ get_or records i one
-    → result_lines number (drop i records) ≡ result_line number one ++ result_lines (number + 1) (drop (i + 1) records)
+    → ended (result_lines number (drop i records)) ≡ (result_text number one ++ 10 ∷ []) ++ ended (result_lines (number + 1) (drop (i + 1) records))
 result_lines-more number records i one within is =
-    at_drop_more (result_lines number) records i one within ∙ ap (λ (r : Record). result_line number r ++ result_lines (number + 1) (drop (i + 1) records)) (sym is)
+    at_drop_more (λ rs. ended (result_lines number rs)) records i one within ∙ ap (λ (r : Record). (result_text number r ++ 10 ∷ []) ++ ended (result_lines (number + 1) (drop (i + 1) records))) (sym is)
 
 module _ {O Key Recon Cond : Type 0} (speech : Speech Key Cond) where
   pub event_lines-more : (at : ℕ) (events : List (Event O Key Recon Cond)) (i : ℕ) (one : Event O Key Recon Cond) → i < length events → one ≡ get_or events i one
-      → event_lines speech at (drop i events) ≡ event_line speech at one ++ event_lines speech (at + 1) (drop (i + 1) events)
+      → ended (event_lines speech at (drop i events)) ≡ (event_text speech at one ++ 10 ∷ []) ++ ended (event_lines speech (at + 1) (drop (i + 1) events))
   event_lines-more at events i one within is =
-      at_drop_more (event_lines speech at) events i one within ∙ ap (λ (e : Event O Key Recon Cond). event_line speech at e ++ event_lines speech (at + 1) (drop (i + 1) events)) (sym is)
+      at_drop_more (λ es. ended (event_lines speech at es)) events i one within ∙ ap (λ (e : Event O Key Recon Cond). (event_text speech at e ++ 10 ∷ []) ++ ended (event_lines speech (at + 1) (drop (i + 1) events))) (sym is)
 
   -- ---- the three parts of a text, one after another
 
-  module _ (journal : List (Event O Key Recon Cond)) (records : List Record) (a b c d : Option (List ℕ)) (results : Appends a b (result_lines 1 records)) where
+  module _ (journal : List (Event O Key Recon Cond)) (records : List Record) (a b c d : Option (List ℕ)) (results : Appends a b (ended (result_lines 1 records))) where
     abbrev whole : List ℕ
     whole = text speech journal records
 
     abbrev line : List ℕ
-    line = journal_line (length journal)
+    line = journal_text (length journal) ++ 10 ∷ []
 
     abbrev events : List ℕ
-    events = event_lines speech 0 journal
+    events = ended (event_lines speech 0 journal)
 
-    split : whole ≡ result_lines 1 records ++ (line ++ events)
-    split = append_assoc (result_lines 1 records) line events
+    split : whole ≡ ended (result_lines 1 records) ++ (line ++ events)
+    split = ended-append (result_lines 1 records) (journal_text (length journal) ∷ event_lines speech 0 journal)
 
     pub wrote_results : Wrote a b whole (line ++ events)
-    wrote_results = Wrote-more a a b whole whole (line ++ events) (result_lines 1 records) (Wrote-none a whole) results split
+    wrote_results = Wrote-more a a b whole whole (line ++ events) (ended (result_lines 1 records)) (Wrote-none a whole) results split
 
     pub wrote_line : Appends b c line → Wrote a c whole events
     wrote_line next = Wrote-more a b c whole (line ++ events) events line wrote_results next refl
 
     pub line_fails : WroteSome b c line → WroteSome a c whole
     line_fails some = WroteSome-more a b c whole (line ++ events) events line wrote_results some refl
+
+    pub all_wrote : Appends b c line → Appends c d events → Appends a d whole
+    all_wrote next last =
+        let wrote = Wrote-more a c d whole events [] events (wrote_line next) last (sym (append-nil events)) in
+        subst (λ w. Appends a d w) (sym (wrote.2 ∙ append-nil wrote.0)) wrote.1
 
     pub events_fail : Appends b c line → WroteSome c d events → WroteSome a d whole
     events_fail next some = WroteSome-more a c d whole events [] events (wrote_line next) some (sym (append-nil events))

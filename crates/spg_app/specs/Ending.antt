@@ -1,30 +1,67 @@
 -- How the commands of a script end.
-use Rattle.std.specs.Prelude.{◌≡◌, ◌⊎◌, List, ℕ, Option}
-use Rattle.std.specs.Io.KnownBytes.{Appends}
-use Rattle.spg_opclass.specs.Meaning.{Meaning}
-use Rattle.spg_rows.specs.Right.{Right}
-use Rattle.spg_core.specs.Seen.{Seen}
+use Rattle.std.specs.Prelude.{◌≡◌, ℕ, false, List, [], Option, Some, None, Result, Ok, Err}
+use Rattle.spg_base.specs.declared.recorded.Origin.{Origin}
+use Rattle.spg_io.specs.Held.{Holding}
 use Rattle.spg_io.specs.Causes.{Rose}
-use Rattle.spg_app.specs.declared.command.Command.{Command}
-use Rattle.spg_app.specs.declared.record.Record.{Record}
-use Rattle.spg_app.specs.declared.session.Ending.{Ending}
-use Rattle.spg_app.specs.declared.session.Ending.TheVariants.{Done, WriteFault, Memory}
-use Rattle.spg_app.specs.Speech.{Speech}
-use Rattle.spg_app.specs.Run.{RunTo, made_with}
-use Rattle.spg_app.specs.Text.{text}
-use Rattle.spg_app.specs.Io.{WroteSome}
+use Rattle.spg_io.specs.declared.sink.IoRefused.{IoRefused}
+use Rattle.spg_io.specs.declared.sink.IoRefused.TheVariants as refused
+use Rattle.spg_opclass.specs.Meaning.{Meaning}
+use Rattle.spg_core.specs.Seen.{Seen}
+use Rattle.spg_script.specs.Blocks.{Script}
+use Rattle.spg_script.specs.Speech.{Speech}
+use Rattle.spg_report.specs.declared.record.Record.{Record}
+use Rattle.spg_report.specs.Text.{text}
+use Rattle.spg_histories.specs.Tasks.{tasks_of}
+use Rattle.spg_histories.specs.Ending.{Writing, all_taken, write_failed, memory_wanting, status_after}
+use Rattle.spg_histories.specs.Answer.{Wrote}
+use Rattle.spg_histories.specs.declared.status.Status.{Status}
+use Rattle.spg_histories.specs.declared.status.Status.TheVariants as answer
+use Rattle.spg_perform.specs.Session.{Outside, Session}
 
--- the commands were done on a new state and led to this one, its journal is right, and the text of the run is such
-pub record RanCommands {O Key Recon Cond : Type 0} (m : Meaning Key Recon Cond) (speech : Speech Key Cond) (commands : List Command) (IsText : List ℕ → Type 0) (seen : Seen O Key Recon Cond) : Type 0 where
+-- with what the state of a run is made
+abbrev pub made_with : ℕ → Origin
+made_with limit = record { limit = limit; pages = 3; clock = 0; loaded = false }
+
+-- what writing the text met
+abbrev pub writing_of : Result Unit IoRefused → Writing
+writing_of (Ok done) = all_taken
+writing_of (Err refused.Failed) = write_failed
+writing_of (Err refused.Memory) = memory_wanting
+
+-- what a sink and images tell before and after
+pub record Outlets : Type 0 where
+  pub taken : Option (List ℕ)
+  pub taken_after : Option (List ℕ)
+  pub write_faults : ℕ
+  pub write_faults_after : ℕ
+  pub images : Outside
+  pub images_after : Outside
+
+abbrev pub outlets : Option (List ℕ) → Option (List ℕ) → ℕ → ℕ → Option Holding → Option Holding → ℕ → ℕ → Outlets
+outlets taken taken_after f f_after held held_after g g_after = record {
+  taken = taken;
+  taken_after = taken_after;
+  write_faults = f;
+  write_faults_after = f_after;
+  images = record { held = held; faults = g };
+  images_after = record { held = held_after; faults = g_after };
+}
+
+-- The commands of the script were done on a new state of this limit, and led to this one. The sink took the text of the run, or a front of it where it failed or memory was wanting; the status is the first that applies
+pub record RanCommands {O Key Recon Cond : Type 0} (m : Meaning Key Recon Cond) (speech : Speech Key Cond) (code limit : ℕ) (script : Script) (out : Outlets) (status : Status) (seen : Seen O Key Recon Cond) : Type 0 where
   pub records : List Record
-  pub made : seen.origin ≡ made_with
-  pub run : RunTo m speech commands seen records
-  pub right : Right m seen.journal
-  pub texts : IsText (text speech seen.journal records)
+  pub session : Session m speech code [] (made_with limit) out.images out.images_after (tasks_of script) seen records
+  pub writing : Writing
+  pub wrote : Wrote writing out.taken out.taken_after (text speech seen.journal records)
+  pub cause : writing ≡ write_failed → Rose out.write_faults out.write_faults_after
+  pub status_is : status ≡ status_after writing records
 
--- commands were run, and the text of the run was taken, or its front; want of memory came before or while it was taken
-abbrev pub Ends : {O Key Recon Cond : Type 0} → Meaning Key Recon Cond → Speech Key Cond → List Command → (taken taken_after : Option (List ℕ)) (write_faults write_faults_after : ℕ) → Ending O Key Recon Cond → Type 0
-Ends m speech commands t t_after g g_after (Done seen) = RanCommands m speech commands (Appends t t_after) seen
-Ends m speech commands t t_after g g_after (WriteFault seen) = RanCommands m speech commands (WroteSome t t_after) seen × Rose g g_after
-Ends {O} {Key} {Recon} {Cond} m speech commands t t_after g g_after Memory =
-    (t_after ≡ t) ⊎ ((seen : Seen O Key Recon Cond) × RanCommands m speech commands (WroteSome t t_after) seen)
+-- the sink took nothing, and the images are as they were
+pub record LeftAlone (out : Outlets) : Type 0 where
+  pub sink : out.taken_after ≡ out.taken
+  pub images : out.images_after ≡ out.images
+
+-- no state is handed back where memory was wanting before the first command
+abbrev pub Ends : {O Key Recon Cond : Type 0} → Meaning Key Recon Cond → Speech Key Cond → ℕ → ℕ → Script → Outlets → Status → Option (Seen O Key Recon Cond) → Type 0
+Ends m speech code limit script out status (Some seen) = RanCommands m speech code limit script out status seen
+Ends m speech code limit script out status None = (status ≡ answer.Memory) × LeftAlone out

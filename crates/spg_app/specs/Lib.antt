@@ -1,15 +1,4 @@
-pub mod Spelling
-pub mod Quoted
-pub mod Line
-pub mod Script
-pub mod Reading
-pub mod Refusal
-pub mod Speech
-pub mod Text
 pub mod Io
-pub mod Status
-pub mod Walks
-pub mod Run
-pub mod Underway
+pub mod Words
 pub mod Ending
 pub mod Headline

@@ -1,47 +1,47 @@
-ghost use Rattle.std.specs.Prelude.{◌≡◌, ◌≢◌, ◌⊎◌, ◌↔◌, [], ◌∷◌, ℕ, IsTrue, IfOk, IfErr, map, codes, string_bytes};
+ghost use Rattle.std.specs.Prelude.{◌≡◌, ◌≤◌, ◌⊎◌, ℕ, Some, None, IfOk, IfErr, map, string_bytes};
 ghost use Rattle.spg_io.specs.Causes.{Rose};
-ghost use Rattle.spg_app.specs.Headline.{GaveScript, IsRefusal, IsAnswer, HoldsScript, HoldsNoScript, NoFault, streams, ended};
+ghost use Rattle.spg_app.specs.Words.{IsRunLine};
+ghost use Rattle.spg_app.specs.Ending.{outlets};
+ghost use Rattle.spg_app.specs.Headline.{GaveScript, IsRefusal, IsRun, IsAnswer, HoldsScript, HoldsNoScript, NoFault, streams, ended};
 ghost use Rattle.spg_app.specs.declared.end_state.EndState.TheVariants as state;
 
-use crate::command::{ClassName, Script};
 use crate::end_state::EndState;
-use crate::parse::{ScriptRefused, parse};
-use crate::session::{Ending, run_commands};
-use crate::status::Status;
+use crate::session::run_commands;
 use crate::stream::{ReadRefused, read_all};
-use spg_io::{Sink, Source};
+use crate::words::limit_of;
+use spg_core::State;
+use spg_histories::Status;
+use spg_io::{Images, Sink, Source};
 use spg_kd::Kd;
 use spg_quad::Quad;
 use spg_radix::Radix;
+use spg_script::{ClassName, Script, ScriptRefused, parse};
 use std::alloc::Global;
 
-fn quad_ended(ending: Ending<Quad>) -> (Status, Option<EndState>)
+fn quad_ended(ending: (Status, Option<State<Quad>>)) -> (Status, Option<EndState>)
     ensures { result ≡ ended state.Quad ending }
 {
     match ending {
-        Ending::Done(state) => (Status::Done, Some(EndState::Quad(state))),
-        Ending::WriteFault(state) => (Status::WriteFault, Some(EndState::Quad(state))),
-        Ending::Memory => (Status::Memory, None),
+        (status, Some(state)) => (status, Some(EndState::Quad(state))),
+        (status, None) => (status, None),
     }
 }
 
-fn kd_ended(ending: Ending<Kd>) -> (Status, Option<EndState>)
+fn kd_ended(ending: (Status, Option<State<Kd>>)) -> (Status, Option<EndState>)
     ensures { result ≡ ended state.Kd ending }
 {
     match ending {
-        Ending::Done(state) => (Status::Done, Some(EndState::Kd(state))),
-        Ending::WriteFault(state) => (Status::WriteFault, Some(EndState::Kd(state))),
-        Ending::Memory => (Status::Memory, None),
+        (status, Some(state)) => (status, Some(EndState::Kd(state))),
+        (status, None) => (status, None),
     }
 }
 
-fn radix_ended(ending: Ending<Radix>) -> (Status, Option<EndState>)
+fn radix_ended(ending: (Status, Option<State<Radix>>)) -> (Status, Option<EndState>)
     ensures { result ≡ ended state.Radix ending }
 {
     match ending {
-        Ending::Done(state) => (Status::Done, Some(EndState::Radix(state))),
-        Ending::WriteFault(state) => (Status::WriteFault, Some(EndState::Radix(state))),
-        Ending::Memory => (Status::Memory, None),
+        (status, Some(state)) => (status, Some(EndState::Radix(state))),
+        (status, None) => (status, None),
     }
 }
 
@@ -64,70 +64,65 @@ fn read_script<S: Source>(alloc: Global, source: &mut S) -> Result<Script, Statu
 }
 
 /// Reads a script, does its commands and writes the text of the run.
-fn run_script<S: Source, K: Sink>(
+fn run_script<S: Source, K: Sink, M: Images>(
     alloc: Global,
+    limit: u32,
     source: &mut S,
     out: &mut K,
+    images: &mut M,
 ) -> (Status, Option<EndState>)
-    ensures { IsAnswer (streams (S.left source.old) (S.left source.new) (S.faults source.old) (S.faults source.new)
-        (K.contents out.old) (K.contents out.new) (K.faults out.old) (K.faults out.new))
-        (codes "run" ∷ []) result.0 result.1 }
+    requires from { 4 ≤ limit }
+    requires to { limit ≤ 131072 }
+    ensures { IsRun limit (streams (S.left source.old) (S.left source.new) (S.faults source.old) (S.faults source.new))
+        (outlets (K.contents out.old) (K.contents out.new) (K.faults out.old) (K.faults out.new)
+        (M.held images.old) (M.held images.new) (M.faults images.old) (M.faults images.new)) result.0 result.1 }
 {
     let script = match read_script(alloc, source) {
         Ok(script) => script,
         Err(status) => return (status, None),
     };
-    let commands = script.commands.as_slice();
-    match script.class {
-        ClassName::Quad => quad_ended(run_commands(alloc, Quad, commands, out)),
-        ClassName::Kd => kd_ended(run_commands(alloc, Kd, commands, out)),
-        ClassName::Radix => radix_ended(run_commands(alloc, Radix, commands, out)),
-    }
-}
-
-fn is_run(words: &[String]) -> bool
-    ensures { IsTrue result ↔ (map string_bytes words.now ≡ codes "run" ∷ []) }
-{
-    match words {
-        [word] => word.as_str() == "run",
-        _ => false,
+    match script.class() {
+        ClassName::Quad => quad_ended(run_commands(alloc, Quad, limit, &script, out, images)),
+        ClassName::Kd => kd_ended(run_commands(alloc, Kd, limit, &script, out, images)),
+        ClassName::Radix => radix_ended(run_commands(alloc, Radix, limit, &script, out, images)),
     }
 }
 
 /// The program: reads a script from the source, does its commands and writes the text of the run
-/// to the sink. `Usage` exactly where the words are not the one word `run`. `ReadFault` and
-/// `WriteFault` come only where a call on the source or the sink failed. `BadScript(n)` comes exactly
-/// where the bytes are no script, and line `n`, counted from 1, is the first at which none can go on;
-/// `BadScript(0)` exactly where there are more than 67,108,864 bytes. The state after the last
-/// command is handed back with `Done` and `WriteFault`.
-pub fn run<R: AllocGlobal, S: Source, K: Sink>(
+/// to the sink; what the script saves goes to the images. The words are `run`, `run --limit N` or
+/// `run --limit=N`, with N from 4 to 131,072 pages; without it N is 65,536. `Usage` comes exactly
+/// where they are none of these. `ReadFault` comes only where the source failed. `BadScript(n)` comes
+/// exactly where the bytes are no script, and line `n`, counted from 1, is the first at which none can
+/// go on; `BadScript(0)` exactly where there are more than 67,108,864 bytes. Nothing is written then.
+/// Once the commands have begun the state after the last one is handed back, and the status is the
+/// first of these that applies: `WriteFault` where the sink failed, `Memory` where there was none for
+/// writing, `ImageFault` and `Memory` where a record says so, else `Done`.
+pub fn run<R: AllocGlobal, S: Source, K: Sink, M: Images>(
     rt: &R,
     words: &[String],
     script: &mut S,
     out: &mut K,
+    images: &mut M,
 ) -> (Status, Option<EndState>)
     // Each answer, with its cause.
-    ensures answer { IsAnswer (streams (S.left script.old) (S.left script.new) (S.faults script.old) (S.faults script.new)
-        (K.contents out.old) (K.contents out.new) (K.faults out.old) (K.faults out.new))
-        (map string_bytes words.now) result.0 result.1 }
-
-    // Wrong words are always refused.
-    ensures usage { map string_bytes words.now ≢ codes "run" ∷ [] → result.0 ≡ Status.Usage }
+    ensures answer { IsAnswer (map string_bytes words.now) (streams (S.left script.old) (S.left script.new) (S.faults script.old) (S.faults script.new))
+        (outlets (K.contents out.old) (K.contents out.new) (K.faults out.old) (K.faults out.new)
+        (M.held images.old) (M.held images.new) (M.faults images.old) (M.faults images.new)) result.0 result.1 }
 
     // A script is run, where no call fails.
-    ensures complete { map string_bytes words.now ≡ codes "run" ∷ [] → HoldsScript (S.left script.old)
-        → NoFault (streams (S.left script.old) (S.left script.new) (S.faults script.old) (S.faults script.new)
-        (K.contents out.old) (K.contents out.new) (K.faults out.old) (K.faults out.new))
+    ensures complete { (limit : ℕ) → IsRunLine limit (map string_bytes words.now) → HoldsScript (S.left script.old)
+        → NoFault (streams (S.left script.old) (S.left script.new) (S.faults script.old) (S.faults script.new))
+        (outlets (K.contents out.old) (K.contents out.new) (K.faults out.old) (K.faults out.new)
+        (M.held images.old) (M.held images.new) (M.faults images.old) (M.faults images.new))
         → (result.0 ≡ Status.Done) ⊎ (result.0 ≡ Status.Memory) }
 
     // What is no script is refused with its first bad line, where no read fails.
-    ensures no_script { map string_bytes words.now ≡ codes "run" ∷ [] → (n : ℕ) → HoldsNoScript (S.left script.old) n
+    ensures no_script { (limit : ℕ) → IsRunLine limit (map string_bytes words.now) → (n : ℕ) → HoldsNoScript (S.left script.old) n
         → ¬ Rose (S.faults script.old) (S.faults script.new)
         → (result.0 ≡ Status.BadScript n) ⊎ (result.0 ≡ Status.Memory) }
 {
-    if is_run(words) {
-        run_script(rt.alloc(), script, out)
-    } else {
-        (Status::Usage, None)
+    match limit_of(words) {
+        Some(limit) => run_script(rt.alloc(), limit, script, out, images),
+        None => (Status::Usage, None),
     }
 }

@@ -1,88 +1,99 @@
-ghost use Rattle.std.specs.Prelude.{◌≡◌, IfOk, All};
-ghost use Rattle.spg_core.specs.Sections.{IsNew};
-ghost use Rattle.spg_rows.specs.Right.{Right};
-ghost use Rattle.spg_app.specs.Speech.{IsKnown};
-ghost use Rattle.spg_app.specs.Run.{RunTo, made_with};
-ghost use Rattle.spg_app.specs.Ending.{Ends};
+ghost use Rattle.std.specs.Prelude.{◌≡◌, ◌≤◌};
+ghost use Rattle.spg_histories.specs.Ending.{any_outcome, is_fault, is_memory, status_after};
+ghost use Rattle.spg_perform.specs.Session.{IsOfClass};
+ghost use Rattle.spg_app.specs.Ending.{writing_of, outlets, Ends};
 
-use crate::command::Command;
-use crate::perform::perform;
-use crate::record::Records;
-use crate::speech::Spoken;
 use crate::writing::write_text;
-use spg_base::{List, Memory};
 use spg_core::State;
-use spg_io::{IoRefused, Sink};
-use spg_opclass::OpClass;
+use spg_histories::Status;
+use spg_io::{Images, IoRefused, Sink};
+use spg_perform::perform;
+use spg_report::{Outcome, Record};
+use spg_script::{Script, Spoken};
 use std::alloc::Global;
 
-/// The greatest number of pages of an index.
-const MOST_PAGES: u32 = 65_536;
-
-/// Does commands one after another, on a new index.
-fn perform_all<O: Spoken>(
-    alloc: Global,
-    state: &mut State<O>,
-    commands: &[Command],
-) -> Result<Records, Memory>
-    requires known { All (IsKnown O.speech) commands.now }
-    requires is_new { IsNew MOST_PAGES state.old }
-    ensures run { IfOk result (RunTo O.meaning O.speech commands.now state.new) }
-    ensures origin { IfOk result (λ _. state.new.origin ≡ state.old.origin) }
+fn is_fault(outcome: &Outcome) -> bool
+    ensures { result ≡ is_fault outcome.now }
 {
-    let mut records = List::new(alloc);
-    for command in commands {
-        let one = perform(alloc, state, command)?;
-        records.push(one)?;
+    matches!(outcome, Outcome::ImageFault)
+}
+
+fn is_memory(outcome: &Outcome) -> bool
+    ensures { result ≡ is_memory outcome.now }
+{
+    matches!(outcome, Outcome::Memory)
+}
+
+/// Whether the images failed in a command.
+#[tactic(auto, using(crate::proofs::Outcomes::any_from))]
+fn any_fault(records: &[Record]) -> bool
+    ensures { result ≡ any_outcome is_fault records.now }
+{
+    for one in records {
+        if is_fault(&one.outcome) {
+            return true;
+        }
     }
-    Ok(records)
+    false
 }
 
-/// The state and the records after the commands of a script.
-pub fn perform_script<O: Spoken>(
-    alloc: Global,
-    class: O,
-    commands: &[Command],
-) -> Result<(State<O>, Records), Memory>
-    requires known { All (IsKnown O.speech) commands.now }
-    ensures made { IfOk result (λ done. done.0.origin ≡ made_with) }
-    ensures run { IfOk result (λ done. RunTo O.meaning O.speech commands.now done.0 done.1) }
-    ensures right { IfOk result (λ done. Right O.meaning done.0.journal) }
+/// Whether a command had no memory.
+#[tactic(auto, using(crate::proofs::Outcomes::any_from))]
+fn any_memory(records: &[Record]) -> bool
+    ensures { result ≡ any_outcome is_memory records.now }
 {
-    let mut state = State::new(alloc, class, MOST_PAGES)?;
-    let records = perform_all(alloc, &mut state, commands)?;
-    let _ = state.journal();
-    Ok((state, records))
+    for one in records {
+        if is_memory(&one.outcome) {
+            return true;
+        }
+    }
+    false
 }
 
-/// How the commands of a script ended.
-#[derive(Drop)]
-pub enum Ending<O: OpClass> {
-    /// All were done, and the text was written.
-    Done(State<O>),
-    /// All were done, and the sink failed.
-    WriteFault(State<O>),
-    /// There was no memory.
-    Memory,
+/// The status of a run whose text was written so.
+fn status_after(written: Result<(), IoRefused>, records: &[Record]) -> Status
+    ensures { result ≡ status_after (writing_of written) records.now }
+{
+    match written {
+        Err(IoRefused::Failed) => Status::WriteFault,
+        Err(IoRefused::Memory) => Status::Memory,
+        Ok(()) => if any_fault(records) {
+            Status::ImageFault
+        } else if any_memory(records) {
+            Status::Memory
+        } else {
+            Status::Done
+        },
+    }
 }
 
-/// Does the commands of a script and writes the text of their run.
-pub fn run_commands<O: Spoken, K: Sink>(
+/// Does the commands of a script on a new state of at most so many pages, then writes the text of the
+/// run. The state after the last command is handed back; there is none where memory was wanting before
+/// the first one.
+pub fn run_commands<O: Spoken, K: Sink, M: Images>(
     alloc: Global,
     class: O,
-    commands: &[Command],
+    limit: u32,
+    script: &Script,
     out: &mut K,
-) -> Ending<O>
-    requires { All (IsKnown O.speech) commands.now }
-    ensures { Ends O.meaning O.speech commands.now (K.contents out.old) (K.contents out.new) (K.faults out.old) (K.faults out.new) result }
+    images: &mut M,
+) -> (Status, Option<State<O>>)
+    requires of_class { IsOfClass O.speech script.now.class }
+    requires from { 4 ≤ limit }
+    requires to { limit ≤ 131072 }
+    ensures { Ends O.meaning O.speech O.code_number limit script.now
+        (outlets (K.contents out.old) (K.contents out.new) (K.faults out.old) (K.faults out.new)
+        (M.held images.old) (M.held images.new) (M.faults images.old) (M.faults images.new)) result.0 result.1 }
 {
-    let Ok((state, records)) = perform_script(alloc, class, commands) else {
-        return Ending::Memory;
+    let Ok(state) = State::new(alloc, class, limit) else {
+        return (Status::Memory, None);
     };
-    let journal = state.journal().as_slice();
-    match write_text(alloc, &class, journal, records.as_slice(), out) {
-        Ok(()) => Ending::Done(state),
-        Err(IoRefused::Failed) => Ending::WriteFault(state),
-        Err(IoRefused::Memory) => Ending::Memory,
+    match perform(alloc, state, script, images) {
+        Ok((state, records)) => {
+            let events = state.journal().as_slice();
+            let written = write_text(alloc, state.class(), events, records.as_slice(), out);
+            (status_after(written, records.as_slice()), Some(state))
+        }
+        Err(_) => (Status::Memory, None),
     }
 }

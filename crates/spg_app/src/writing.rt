@@ -1,30 +1,39 @@
-ghost use Rattle.std.specs.Prelude.{OnOk, OnErr};
+ghost use Rattle.std.specs.Prelude.{◌++◌, ◌∷◌, [], OnOk, OnErr};
 ghost use Rattle.std.specs.Io.KnownBytes.{Appends};
 ghost use Rattle.spg_io.specs.Causes.{HasCauseIfFailed};
+ghost use Rattle.spg_report.specs.Text.{text, ended, result_lines, event_lines};
 ghost use Rattle.spg_app.specs.Io.{WroteSome};
-ghost use Rattle.spg_app.specs.Text.{text, result_lines, event_lines};
 
-use crate::line::Line;
-use crate::record::Record;
-use crate::report::{event_line, journal_line, result_line};
-use crate::speech::Spoken;
 use crate::stream::write_all;
 use spg_io::{IoRefused, Sink};
+use spg_report::{Line, Record, push_event, push_journal, push_result};
 use spg_rows::Event;
+use spg_script::Spoken;
 use std::alloc::Global;
+
+/// Writes a line with its end.
+fn write_line<K: Sink>(line: &mut Line, sink: &mut K) -> Result<(), IoRefused>
+    ensures ok { OnOk result (Appends (K.contents sink.old) (K.contents sink.new) (line.old ++ 10 ∷ [])) }
+    ensures err { OnErr result (WroteSome (K.contents sink.old) (K.contents sink.new) (line.old ++ 10 ∷ [])) }
+    ensures cause { HasCauseIfFailed (K.faults sink.old) (K.faults sink.new) result }
+{
+    line.push(b'\n')?;
+    write_all(sink, line.as_slice())
+}
 
 fn write_results<K: Sink>(
     line: &mut Line,
     records: &[Record],
     sink: &mut K,
 ) -> Result<(), IoRefused>
-    ensures ok { OnOk result (Appends (K.contents sink.old) (K.contents sink.new) (result_lines 1 records.now)) }
-    ensures err { OnErr result (WroteSome (K.contents sink.old) (K.contents sink.new) (result_lines 1 records.now)) }
+    ensures ok { OnOk result (Appends (K.contents sink.old) (K.contents sink.new) (ended (result_lines 1 records.now))) }
+    ensures err { OnErr result (WroteSome (K.contents sink.old) (K.contents sink.new) (ended (result_lines 1 records.now))) }
     ensures cause { HasCauseIfFailed (K.faults sink.old) (K.faults sink.new) result }
 {
     for (index, one) in records.iter().enumerate() {
-        result_line(line, index as u64 + 1, one)?;
-        write_all(sink, line.as_slice())?;
+        line.clear();
+        push_result(line, index as u64 + 1, one)?;
+        write_line(line, sink)?;
     }
     Ok(())
 }
@@ -36,13 +45,14 @@ fn write_events<O: Spoken, K: Sink>(
     journal: &[Event<O>],
     sink: &mut K,
 ) -> Result<(), IoRefused>
-    ensures ok { OnOk result (Appends (K.contents sink.old) (K.contents sink.new) (event_lines O.speech 0 journal.now)) }
-    ensures err { OnErr result (WroteSome (K.contents sink.old) (K.contents sink.new) (event_lines O.speech 0 journal.now)) }
+    ensures ok { OnOk result (Appends (K.contents sink.old) (K.contents sink.new) (ended (event_lines O.speech 0 journal.now))) }
+    ensures err { OnErr result (WroteSome (K.contents sink.old) (K.contents sink.new) (ended (event_lines O.speech 0 journal.now))) }
     ensures cause { HasCauseIfFailed (K.faults sink.old) (K.faults sink.new) result }
 {
     for (at, event) in journal.iter().enumerate() {
-        event_line(alloc, class, line, at as u64, event)?;
-        write_all(sink, line.as_slice())?;
+        line.clear();
+        push_event(alloc, class, line, at as u64, event)?;
+        write_line(line, sink)?;
     }
     Ok(())
 }
@@ -61,7 +71,8 @@ pub fn write_text<O: Spoken, K: Sink>(
 {
     let mut line = Line::new(alloc);
     write_results(&mut line, records, sink)?;
-    journal_line(&mut line, journal.len() as u64)?;
-    write_all(sink, line.as_slice())?;
+    line.clear();
+    push_journal(&mut line, journal.len() as u64)?;
+    write_line(&mut line, sink)?;
     write_events(alloc, class, &mut line, journal, sink)
 }

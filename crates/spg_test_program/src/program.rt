@@ -1,32 +1,71 @@
 use spg_app::{Status, run};
-use spg_base::Bytes;
-use spg_io::{PlainSink, PlainSource, Sink, Source};
+use spg_base::{Bytes, List};
+use spg_io::{FaultyImages, FaultySink, FaultySource};
 use std::alloc::AllocError;
 use std::test::Fail;
 
-/// The one word of the command line.
-pub(crate) fn one_word<R: AllocGlobal>(rt: &R) -> Result<Vec<String>, AllocError> {
-    let mut words = Vec::new(rt.alloc());
-    words.push(String::from_str(rt.alloc(), "run")?)?;
-    Ok(words)
+/// The most bytes of a read.
+const MOST: usize = 40;
+
+/// The numbers of the calls that fail, counted from 1; 0 where none does.
+#[derive(Clone, Copy)]
+pub(crate) struct Fails {
+    pub(crate) read: u64,
+    pub(crate) write: u64,
+    pub(crate) image: u64,
 }
 
-/// Runs the program, and lets go of the state that it hands back.
-pub(crate) fn status_of<R: AllocGlobal, S: Source, K: Sink>(
-    rt: &R,
-    words: &[String],
-    source: &mut S,
-    sink: &mut K,
-) -> Status {
-    let (status, _state) = run(rt, words, source, sink);
-    status
+/// How a run ended, what it wrote, and the images after it.
+#[derive(Drop)]
+pub(crate) struct Ended {
+    pub(crate) status: Status,
+    pub(crate) text: Vec<u8>,
+    pub(crate) images: FaultyImages,
 }
 
-/// What the program answers and writes for a script, which comes seven bytes at a time.
-pub(crate) fn ran(rt: &HostRuntime, script: &[u8]) -> Result<(Status, Vec<u8>), Fail> {
-    let mut source = PlainSource::new(Bytes::copy(rt.alloc(), script)?, 7);
-    let mut sink = PlainSink::new(rt.alloc());
-    let words = one_word(rt)?;
-    let status = status_of(rt, &words, &mut source, &mut sink);
-    Ok((status, sink.taken().to_vec(rt.alloc())?))
+pub(crate) fn no_fails() -> Fails {
+    Fails {
+        read: 0,
+        write: 0,
+        image: 0,
+    }
+}
+
+/// The words of a run without options.
+pub(crate) fn run_word() -> [&'static str; 1] {
+    ["run"]
+}
+
+fn owned<R: AllocGlobal>(rt: &R, words: &[&str]) -> Result<Vec<String>, AllocError> {
+    let mut owned = Vec::new(rt.alloc());
+    for word in words {
+        owned.push(String::from_str(rt.alloc(), word)?)?;
+    }
+    Ok(owned)
+}
+
+fn one_call<R: AllocGlobal>(rt: &R, call: u64) -> Result<List<u64>, Fail> {
+    let mut calls = List::new(rt.alloc());
+    calls.push(call)?;
+    Ok(calls)
+}
+
+/// Runs the program on a script.
+pub(crate) fn ran(
+    rt: &HostRuntime,
+    words: &[&str],
+    script: &[u8],
+    fails: Fails,
+) -> Result<Ended, Fail> {
+    let script = Bytes::copy(rt.alloc(), script)?;
+    let mut source = FaultySource::new(script, MOST, one_call(rt, fails.read)?);
+    let mut sink = FaultySink::new(rt.alloc(), one_call(rt, fails.write)?);
+    let mut images = FaultyImages::new(rt.alloc(), one_call(rt, fails.image)?);
+    let words = owned(rt, words)?;
+    let (status, _state) = run(rt, &words, &mut source, &mut sink, &mut images);
+    Ok(Ended {
+        status,
+        text: sink.taken().to_vec(rt.alloc())?,
+        images,
+    })
 }

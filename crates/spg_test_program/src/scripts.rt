@@ -1,14 +1,9 @@
-ghost use Rattle.std.specs.Prelude.{Some};
-
-use crate::program::{one_word, ran, status_of};
+use crate::program::{no_fails, ran, run_word};
 use spg_app::Status;
-use spg_base::{Bytes, List};
-use spg_io::{FaultySink, FaultySource, IoRefused, PlainSink, PlainSource, Sink};
-use std::alloc::{AllocError, Global};
 use std::test::Fail;
 
 /// Scripts, and the texts of their runs.
-const RUNS: [(&[u8], &[u8]); 12] = [
+const RUNS: [(&[u8], &[u8]); 16] = [
     (b"class quad", b"journal 0\n"),
     (b"class kd\n", b"journal 0\n"),
     (
@@ -51,67 +46,42 @@ const RUNS: [(&[u8], &[u8]); 12] = [
         b"class radix\ninsert 1.1 \"ab\"\ninsert 1.2 \"ab\"\nfind where starts \"a\"\ndelete 1.2\nfind where starts \"a\"\ndelete 1.1\nfind where eq \"ab\"\n",
         b"1 0 2 added\n2 2 4 added\n3 4 6 found 2 walk 2 1.1 1.2\n4 6 7 killed\n5 7 9 found 1 walk 2 1.1\n6 9 10 killed\n7 10 12 found 0 walk 2\njournal 12\n0 0 open insert 1.1 \"ab\"\n1 0 put 1.1\n2 0 open insert 1.2 \"ab\"\n3 0 put 1.2\n4 0 open scan where starts \"a\"\n5 0 close scan 2\n6 0 kill 1.2\n7 0 open scan where starts \"a\"\n8 0 close scan 1\n9 0 kill 1.1\n10 0 open scan where eq \"ab\"\n11 0 close scan 0\n",
     ),
+    (
+        b"class quad\ninsert 1.1 3,4\nfind all\n",
+        b"1 0 2 added\n2 2 4 found 1 walk 1 1.1\njournal 4\n0 0 open insert 1.1 3,4\n1 0 put 1.1\n2 0 open scan all\n3 0 close scan 1\n",
+    ),
+    (
+        b"\n# a town\nclass quad\n\n#insert 1.1 0,0\ninsert 1.2 0,0\n\nstat\n# end",
+        b"1 0 2 added\n2 2 2 stat pages 3 inner 0 leaf 1 redirect 0 dead 0 placeholder 0 clock 0\njournal 2\n0 0 open insert 1.2 0,0\n1 0 put 1.2\n",
+    ),
+    (
+        b"class quad\ntogether\nlane\ninsert 1.1 0,0\nfind all\nend\n",
+        b"1 0 2 added\n2 2 4 found 1 1.1\njournal 4\n0 0 open insert 1.1 0,0\n1 0 put 1.1\n2 0 open scan all\n3 0 close scan 1\n",
+    ),
+    (
+        b"class quad\ninsert 1.1 1,1\ntogether\nlane\ninsert 1.2 2,2\nfind all\ninsert 1.2 0,0\nlane\ndelete 1.1\nfind null\nlane\nend\nfind all\n",
+        b"1 0 2 added\n2 2 4 added\n3 4 6 found 2 1.1 1.2\n4 6 6 row used\n5 6 7 killed\n6 7 9 found 0\n7 9 11 found 1 walk 2 1.2\njournal 11\n0 0 open insert 1.1 1,1\n1 0 put 1.1\n2 0 open insert 1.2 2,2\n3 0 put 1.2\n4 0 open scan all\n5 0 close scan 2\n6 1 kill 1.1\n7 1 open scan null\n8 1 close scan 0\n9 0 open scan all\n10 0 close scan 1\n",
+    ),
 ];
 
 #[test]
 fn prints_the_run(rt: HostRuntime) -> Result<(), Fail> {
     for (script, text) in RUNS {
-        let (status, taken) = ran(&rt, script)?;
-        assert_eq!(rt; status, Status::Done);
-        assert_eq!(rt; taken.as_slice(), text);
+        let ended = ran(&rt, &run_word(), script, no_fails())?;
+        assert_eq!(rt; ended.status, Status::Done);
+        assert_eq!(rt; ended.text.as_slice(), text);
     }
-    Ok(())
-}
-
-/// 292 points on a line. The last one divides the root, and then a chain.
-fn line_of_points(alloc: Global) -> Result<String, AllocError> {
-    let mut script = String::from_str(alloc, "class quad\n")?;
-    for i in 1..293u16 {
-        let line = format!(in alloc; "insert 1.{i} {i},0\n")?;
-        script.push_str(line.as_str())?;
-    }
-    Ok(script)
-}
-
-#[test]
-fn divides_the_root(rt: HostRuntime) -> Result<(), Fail> {
-    let mut script = line_of_points(rt.alloc())?;
-    script.push_str("find all\n")?;
-    let (status, taken) = ran(&rt, script.as_bytes())?;
-    assert_eq!(rt; status, Status::Done);
-    let mut lines = taken.as_slice().split(|b| *b == b'\n').skip(291);
-    assert_eq!(rt; lines.next(), Some(b"292 582 584 added".as_slice()));
-    let found = lines.next().unwrap_or(b"");
-    assert_eq!(rt;
-        found.starts_with(b"293 584 586 found 292 walk 294 1.1 1.2 "),
-        true
-    );
-    assert_eq!(rt; found.ends_with(b" 1.291 1.292"), true);
-    Ok(())
-}
-
-#[test]
-fn adds_below_a_divided_root(rt: HostRuntime) -> Result<(), Fail> {
-    let mut script = line_of_points(rt.alloc())?;
-    script.push_str("insert 2.1 200,-5\n")?;
-    let (status, taken) = ran(&rt, script.as_bytes())?;
-    assert_eq!(rt; status, Status::Done);
-    let mut lines = taken.as_slice().split(|b| *b == b'\n').skip(292);
-    assert_eq!(rt; lines.next(), Some(b"293 584 586 added".as_slice()));
     Ok(())
 }
 
 /// Bytes that break one rule of the grammar each, and their first bad line.
-const BAD: [(&[u8], u32); 70] = [
+const BAD: [(&[u8], u32); 82] = [
     (b"", 1),
-    (b"\nclass quad", 1),
     (b"class", 1),
     (b"class quad ", 1),
     (b"class bush\n", 1),
     (b"find all\n", 1),
     (b"class kd\nclass kd\n", 2),
-    (b"class quad\n\nfind all\n", 2),
-    (b"class quad\n#\n", 2),
     (b"class quad\ninsert 1.1 3,04\n", 2),
     (b"class quad\ninsert 01.1 3,4\n", 2),
     (b"class quad\ninsert 1.0 3,4\n", 2),
@@ -176,134 +146,29 @@ const BAD: [(&[u8], u32); 70] = [
     (b"class kd\ndelete 1.1 3,4\n", 2),
     (b"class radix\ndelete  1.1\n", 2),
     (b"class radix\ndelete 1.1\ndelete 1.01\n", 3),
+    (b"class quad\n\n# x\ninsert 1.1 0,0\nbad\n", 5),
+    (b"class quad\ntogether\nlane\n", 4),
+    (b"class quad\ntogether\nend\n", 3),
+    (b"class quad\ntogether\nlane\nstat\nend\n", 4),
+    (b"class quad\ntogether\nlane\nsave a\nend\n", 4),
+    (b"class kd\ntogether\ninsert 1.1 0,0\n", 3),
+    (b"class kd\nsave .town\n", 2),
+    (b"class kd\nsave\n", 2),
+    (b"class kd\nend\n", 2),
+    (b"class kd\nlane\n", 2),
+    (b"class kd\n vacuum\n", 2),
+    (b"class kd\nstat \n", 2),
+    (b"class kd\nsave Town\n", 2),
+    (b"class kd\n #\n", 2),
+    (b"\n#\n", 3),
 ];
 
 #[test]
-fn names_the_first_bad_line(rt: HostRuntime) -> Result<(), Fail> {
+fn tells_the_first_bad_line(rt: HostRuntime) -> Result<(), Fail> {
     for (script, line) in BAD {
-        let (status, taken) = ran(&rt, script)?;
-        assert_eq!(rt; status, Status::BadScript(line));
-        assert_eq!(rt; taken.is_empty(), true);
+        let ended = ran(&rt, &run_word(), script, no_fails())?;
+        assert_eq!(rt; ended.status, Status::BadScript(line));
+        assert_eq!(rt; ended.text.is_empty(), true);
     }
-    Ok(())
-}
-
-/// A script that asks for a text of so many bytes.
-fn asks_for_length(alloc: Global, length: usize) -> Result<String, AllocError> {
-    let mut script = String::from_str(alloc, "class radix\nfind where eq \"\\x41")?;
-    for _ in 1..length {
-        script.push_str("b")?;
-    }
-    script.push_str("\"\n")?;
-    Ok(script)
-}
-
-#[test]
-fn takes_texts_of_3900_bytes(rt: HostRuntime) -> Result<(), Fail> {
-    let script = asks_for_length(rt.alloc(), 3900)?;
-    assert_eq!(rt; ran(&rt, script.as_bytes())?.0, Status::Done);
-    let script = asks_for_length(rt.alloc(), 3901)?;
-    assert_eq!(rt; ran(&rt, script.as_bytes())?.0, Status::BadScript(2));
-    Ok(())
-}
-
-/// A sink that takes one byte of each piece.
-#[derive(Drop)]
-struct OneByteSink {
-    inner: PlainSink,
-}
-
-impl Sink for OneByteSink {
-    ghost contents = { λ s. Some s.inner };
-
-    ghost faults = { λ _. 0 };
-
-    fn write(&mut self, piece: &[u8]) -> Result<usize, IoRefused> {
-        if piece.is_empty() {
-            return Ok(0);
-        }
-        self.inner.write(&piece[..1])
-    }
-}
-
-const SCRIPT: &[u8] = b"class quad\ninsert 1.1 3,4\n";
-
-const TEXT: &[u8] = b"1 0 2 added\njournal 2\n0 0 open insert 1.1 3,4\n1 0 put 1.1\n";
-
-/// How a run ends whose source fails at one call. Each call gives at most so many bytes.
-fn ran_from(rt: &HostRuntime, most: usize, call: u64) -> Result<(Status, Vec<u8>), Fail> {
-    let mut fails = List::new(rt.alloc());
-    fails.push(call)?;
-    let bytes = Bytes::copy(rt.alloc(), SCRIPT)?;
-    let mut source = FaultySource::new(bytes, most.max(1), fails);
-    let mut sink = PlainSink::new(rt.alloc());
-    let words = one_word(rt)?;
-    let status = status_of(rt, &words, &mut source, &mut sink);
-    Ok((status, sink.taken().to_vec(rt.alloc())?))
-}
-
-/// How a run ends whose sink fails at one call.
-fn ran_into(rt: &HostRuntime, call: u64) -> Result<(Status, Vec<u8>), Fail> {
-    let mut fails = List::new(rt.alloc());
-    fails.push(call)?;
-    let mut source = PlainSource::new(Bytes::copy(rt.alloc(), SCRIPT)?, 4096);
-    let mut sink = FaultySink::new(rt.alloc(), fails);
-    let words = one_word(rt)?;
-    let status = status_of(rt, &words, &mut source, &mut sink);
-    Ok((status, sink.taken().to_vec(rt.alloc())?))
-}
-
-#[test]
-fn tells_faults(rt: HostRuntime) -> Result<(), Fail> {
-    // Most bytes of a read, and the call that fails: in the middle of lines, and at the end.
-    for (most, call) in [
-        (7, 1),
-        (7, 2),
-        (7, 3),
-        (7, 4),
-        (7, 5),
-        (1, 15),
-        (1, 27),
-        (4096, 2),
-    ] {
-        let (status, taken) = ran_from(&rt, most, call)?;
-        assert_eq!(rt; status, Status::ReadFault);
-        assert_eq!(rt; taken.is_empty(), true);
-    }
-    assert_eq!(rt; ran_from(&rt, 7, 6)?.0, Status::Done);
-
-    // The write that fails, and what was taken before.
-    for (call, length) in [(1, 0), (3, 22)] {
-        let (status, taken) = ran_into(&rt, call)?;
-        assert_eq!(rt; status, Status::WriteFault);
-        assert_eq!(rt; taken.as_slice(), &TEXT[..length]);
-    }
-    assert_eq!(rt; ran_into(&rt, 5)?.0, Status::Done);
-    Ok(())
-}
-
-#[test]
-fn offers_again_what_was_not_taken(rt: HostRuntime) -> Result<(), Fail> {
-    let mut source = PlainSource::new(Bytes::copy(rt.alloc(), SCRIPT)?, 1);
-    let mut sink = OneByteSink {
-        inner: PlainSink::new(rt.alloc()),
-    };
-    let words = one_word(&rt)?;
-    let status = status_of(&rt, &words, &mut source, &mut sink);
-    assert_eq!(rt; status, Status::Done);
-    assert_eq!(rt; sink.inner.taken(), TEXT);
-    Ok(())
-}
-
-#[test]
-fn refuses_other_words(rt: HostRuntime) -> Result<(), Fail> {
-    let mut words = one_word(&rt)?;
-    words.push(String::from_str(rt.alloc(), "fast")?)?;
-    let mut source = PlainSource::new(Bytes::copy(rt.alloc(), SCRIPT)?, 7);
-    let mut sink = PlainSink::new(rt.alloc());
-    let status = status_of(&rt, &words, &mut source, &mut sink);
-    assert_eq!(rt; status, Status::Usage);
-    assert_eq!(rt; sink.taken().is_empty(), true);
-    assert_eq!(rt; Status::BadScript(7).code(), 3);
     Ok(())
 }

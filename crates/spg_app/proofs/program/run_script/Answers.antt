@@ -1,26 +1,17 @@
-use Rattle.std.proofs.Common.{refl}
-use Rattle.spg_app.specs.declared.command.ClassName.TheVariants.{Quad, Kd}
-use Rattle.spg_app.proofs.Complete.{quad_answers, kd_answers, radix_answers}
-use Rattle.spg_app.proofs.Known.{known_points, known_texts}
+use Rattle.std.proofs.Common.{◌≡◌, sym, ◌∙◌, subst}
+use Rattle.spg_perform.specs.Session.{IsOfClass}
+use Rattle.spg_perform.proofs.OfClass.{quad_is_of_class, kd_is_of_class, radix_is_of_class}
 use Rattle.spg_app.proofs.program.run_script.Goals as goal
 
-pub run_commands-requires : goal.run_commands-requires
-run_commands-requires g c = rw c.as_slice-commands.ensures (known_points c.in-Ok.ensures.script.bytes c.in-Ok.script Quad c.in-Quad.is refl c.in-Ok.ensures.script.is_script)
+-- src/program.rt:85:39
+pub run_commands-requires-clause-of_class : goal.run_commands-requires-clause-of_class
+run_commands-requires-clause-of_class g c = subst (IsOfClass _) (sym (sym c.class.ensures.class ∙ c.in-Quad.is)) quad_is_of_class
 
-pub run_commands-requires-in-Kd : goal.run_commands-requires-in-Kd
-run_commands-requires-in-Kd g c = rw c.as_slice-commands.ensures (known_points c.in-Ok.ensures.script.bytes c.in-Ok.script Kd c.in-Kd.is refl c.in-Ok.ensures.script.is_script)
+-- src/program.rt:86:35
+pub run_commands-requires-in-Kd-clause-of_class : goal.run_commands-requires-in-Kd-clause-of_class
+run_commands-requires-in-Kd-clause-of_class g c = subst (IsOfClass _) (sym (sym c.class.ensures.class ∙ c.in-Kd.is)) kd_is_of_class
 
-pub run_commands-requires-in-Radix : goal.run_commands-requires-in-Radix
-run_commands-requires-in-Radix g c = rw c.as_slice-commands.ensures (known_texts c.in-Ok.ensures.script.bytes c.in-Ok.script c.in-Radix.is c.in-Ok.ensures.script.is_script)
-
-pub returns-in-Quad : goal.returns-in-Quad
-returns-in-Quad g c = rw c.quad_ended.ensures
-    (quad_answers _ c.in-Ok.script c.in-Ok.ensures.script c.in-Quad.is c.run_commands.result (rw c.as_slice-commands.ensures at c.run_commands.ensures))
-
-pub returns-in-Kd : goal.returns-in-Kd
-returns-in-Kd g c = rw c.kd_ended.ensures
-    (kd_answers _ c.in-Ok.script c.in-Ok.ensures.script c.in-Kd.is c.run_commands-in-Kd.result (rw c.as_slice-commands.ensures at c.run_commands-in-Kd.ensures))
-
-pub returns : goal.returns
-returns g c = rw c.radix_ended.ensures
-    (radix_answers _ c.in-Ok.script c.in-Ok.ensures.script c.in-Radix.is c.run_commands-in-Radix.result (rw c.as_slice-commands.ensures at c.run_commands-in-Radix.ensures))
+-- src/program.rt:87:41
+pub run_commands-requires-in-Radix-clause-of_class :
+    goal.run_commands-requires-in-Radix-clause-of_class
+run_commands-requires-in-Radix-clause-of_class g c = subst (IsOfClass _) (sym (sym c.class.ensures.class ∙ c.in-Radix.is)) radix_is_of_class

@@ -1,17 +1,17 @@
-use Rattle.std.proofs.Common.{◌+◌, ◌++◌, drop, sym, ap, ◌∙◌, arith}
-use Rattle.spg_app.specs.Text.{result_lines}
-use Rattle.spg_app.proofs.Streams.{Wrote-more, WroteSome-more, OnErr-always, result_lines-more}
+use Rattle.std.proofs.Common.{◌≡◌, ◌+◌, ◌++◌, ◌∷◌, [], drop, sym, ap, ◌∙◌, arith}
+use Rattle.spg_report.specs.Text.{ended, result_text, result_lines}
+use Rattle.spg_app.proofs.Streams.{Wrote-more, WroteSome-more, OnErr-always, result_lines-more, put_on_clear}
 use Rattle.spg_app.proofs.writing.write_results.Goals as goal
 
-pub returns-in_err-write_all-clause-err : goal.returns-in_err-write_all-clause-err
-returns-in_err-write_all-clause-err g c = OnErr-always _ _ (WroteSome-more _ _ _ _ _ _ _ c.loop-index.invariant.wrote c.in_err-write_all.ensures.err
+pub returns-in_err-write_line-clause-err : goal.returns-in_err-write_line-clause-err
+returns-in_err-write_line-clause-err g c = OnErr-always _ _ (WroteSome-more _ _ _ _ _ _ _ c.loop-index.invariant.wrote c.in_err-write_line.ensures.err
     (result_lines-more (c.loop-index.index + 1) c.args.records.now c.loop-index.index c.index-records-index.result (omega arith) c.index-records-index.is
-    ∙ ap (λ l. l ++ result_lines ((c.loop-index.index + 1) + 1) (drop (c.loop-index.index + 1) c.args.records.now)) (sym (c.as_slice.ensures ∙ c.in_ok-result_line.ensures))))
+    ∙ ap (λ l. (l ++ 10 ∷ []) ++ ended (result_lines ((c.loop-index.index + 1) + 1) (drop (c.loop-index.index + 1) c.args.records.now))) (sym (put_on_clear _ _ _ c.clear.ensures c.in_ok-push_result.ensures))))
 
 pub loop-index-preserved : goal.loop-index-preserved
 loop-index-preserved g c = record {
-  wrote = Wrote-more _ _ _ _ _ _ _ c.loop-index.invariant.wrote c.in_ok-write_all.ensures.ok
+  wrote = Wrote-more _ _ _ _ _ _ _ c.loop-index.invariant.wrote c.in_ok-write_line.ensures.ok
       (result_lines-more (c.loop-index.index + 1) c.args.records.now c.loop-index.index c.index-records-index.result (omega arith) c.index-records-index.is
-      ∙ ap (λ l. l ++ result_lines ((c.loop-index.index + 1) + 1) (drop (c.loop-index.index + 1) c.args.records.now)) (sym (c.as_slice.ensures ∙ c.in_ok-result_line.ensures)));
-  later = omega (arith, c.loop-index.invariant.later, c.in_ok-write_all.ensures.cause.later);
+      ∙ ap (λ l. (l ++ 10 ∷ []) ++ ended (result_lines ((c.loop-index.index + 1) + 1) (drop (c.loop-index.index + 1) c.args.records.now))) (sym (put_on_clear _ _ _ c.clear.ensures c.in_ok-push_result.ensures)));
+  later = omega (arith, c.loop-index.invariant.later, c.in_ok-write_line.ensures.cause.later);
 }

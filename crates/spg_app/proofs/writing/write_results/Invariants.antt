@@ -1,10 +1,10 @@
 use Rattle.std.proofs.Common.{◌≤◌, ◌+◌, drop}
 use Rattle.spg_app.specs.Io.{Wrote}
-use Rattle.spg_app.specs.Text.{result_lines}
+use Rattle.spg_report.specs.Text.{ended, result_lines}
 use Rattle.spg_app.proofs.writing.write_results.Given as goal
 
 abbrev pub invariant-loop-index : goal.invariant-loop-index
 invariant-loop-index g l = record {
-  wrote : Wrote (g.K.Sink.contents l.initial.sink) (g.K.Sink.contents l.sink) (result_lines 1 l.records) (result_lines (l.index + 1) (drop l.index l.records));
+  wrote : Wrote (g.K.Sink.contents l.initial.sink) (g.K.Sink.contents l.sink) (ended (result_lines 1 l.records)) (ended (result_lines (l.index + 1) (drop l.index l.records)));
   later : g.K.Sink.faults l.initial.sink ≤ g.K.Sink.faults l.sink;
 }

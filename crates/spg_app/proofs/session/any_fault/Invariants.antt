@@ -1,0 +1,7 @@
+use Rattle.std.proofs.Common.{◌≡◌, drop}
+use Rattle.spg_histories.specs.Ending.{any_outcome, is_fault}
+use Rattle.spg_app.proofs.session.any_fault.Given as goal
+
+-- no record so far has it
+abbrev pub invariant-loop-one : goal.invariant-loop-one
+invariant-loop-one l = any_outcome is_fault l.records ≡ any_outcome is_fault (drop l.one-index l.records)

@@ -1,7 +1,0 @@
-use Rattle.std.proofs.Common.{◌≡◌, ◌∷◌, take}
-use Rattle.std.specs.List.{flat_map}
-use Rattle.spg_app.specs.Quoted.{byte_text}
-use Rattle.spg_app.proofs.spelling.quoted.Given as goal
-
-abbrev pub invariant-loop-b : goal.invariant-loop-b
-invariant-loop-b l = l.printed ≡ 34 ∷ flat_map byte_text (take l.b-index l.text)

@@ -1,0 +1,11 @@
+pub mod Lists
+pub mod Alone
+pub mod Going
+pub mod Rows
+pub mod Acting
+pub mod Deleting
+pub mod Inserting
+pub mod Reading
+pub mod Finding
+pub mod KnownConds
+pub mod OfClass

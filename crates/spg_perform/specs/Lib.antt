@@ -1,0 +1,5 @@
+pub mod Session
+pub mod Acted
+pub mod Saved
+pub mod Underway
+pub mod Noted

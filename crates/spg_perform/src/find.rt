@@ -1,0 +1,103 @@
+ghost use Rattle.std.specs.Prelude.{◌≡◌, ◌≢◌, ℕ, Some, None, OnOk, OnErr, if◌then◌else◌};
+ghost use Rattle.spg_rows.specs.History.{nothing, open_of};
+ghost use Rattle.spg_forest.specs.Shape.{Shape};
+ghost use Rattle.spg_tree.specs.Table.{sheets_of};
+ghost use Rattle.spg_core.specs.Stage.{free, held_count};
+ghost use Rattle.spg_core.specs.Seen.{stage_at, past_of};
+ghost use Rattle.spg_script.specs.Speech.{IsKnown};
+ghost use Rattle.spg_script.specs.declared.command.Command.TheVariants.{Find};
+ghost use Rattle.spg_perform.specs.Acted.{Acts};
+ghost use Rattle.spg_perform.specs.Session.{AllClosed};
+ghost use Rattle.spg_perform.specs.Underway.{IsScanning, ReadsOn, ReadsToEnd};
+
+use crate::asking::query_in;
+use crate::position::{only_own, position, recorded};
+use spg_base::{Memory, SeatNo};
+use spg_core::{OpenKind, ReadOut, State};
+use spg_report::{Outcome, Record};
+use spg_rows::Why;
+use spg_script::{AnyQuery, Spoken};
+use std::alloc::Global;
+
+/// How many items the seat's scan holds.
+fn held<O: Spoken>(state: &State<O>, seat: SeatNo) -> usize
+    ensures { result ≡ held_count (stage_at state.now seat) }
+{
+    match state.open_of(seat) {
+        OpenKind::Scan { held } => held,
+        _ => 0,
+    }
+}
+
+/// Reads what a scan holds, the last item first, until it holds nothing. No other seat has anything
+/// open.
+fn read_on<O: Spoken>(state: &mut State<O>, seat: SeatNo) -> Result<(), Memory>
+    requires alone { (other : ℕ) → other ≢ seat → open_of other (past_of state.old) ≡ nothing }
+    requires scanning { IsScanning (stage_at state.old seat) }
+    requires shape { Shape O.meaning (sheets_of state.old.table) }
+    ensures ok { OnOk result (ReadsToEnd O.meaning state.old state.new seat) }
+    ensures err { OnErr result (ReadsOn O.meaning state.old state.new seat) }
+{
+    // No clause of a read says that a scan comes to its end, so the loop has a bound, which no run
+    // reaches.
+    for _ in 0..u64::MAX {
+        let held = held(state, seat);
+        if held == 0 {
+            return Ok(());
+        }
+        match state.scan_read(seat, held - 1)? {
+            ReadOut::Read => {}
+            ReadOut::Latched { block, by } => {
+                only_own(state, seat, block, by);
+                unreachable!()
+            }
+        }
+    }
+    Err(Memory)
+}
+
+/// How many tuples a scan met, which is told outside lanes.
+fn told(alone: bool, met: u64) -> Option<u64>
+    ensures { result ≡ if alone then Some met else None }
+{
+    if alone { Some(met) } else { None }
+}
+
+/// Finds rows by a scan that is opened, read to its end and closed. Where there is no memory, it is
+/// given up. No seat has anything open.
+pub(crate) fn find<O: Spoken>(
+    alloc: Global,
+    state: &mut State<O>,
+    seat: SeatNo,
+    alone: bool,
+    query: &AnyQuery,
+) -> Record
+    requires free { stage_at state.old seat ≡ free }
+    requires closed { AllClosed (past_of state.old) }
+    requires known { IsKnown O.speech (Find query.now) }
+    ensures { Acts O.meaning O.speech state.old state.new seat alone (Find query.now) result }
+{
+    let from = position(state);
+    let query = match query_in(alloc, state.class(), query) {
+        Ok(Some(query)) => query,
+        Ok(None) => unreachable!(),
+        Err(Memory) => return recorded(state, from, Outcome::Memory),
+    };
+    let Ok(()) = state.open_scan(seat, query) else {
+        return recorded(state, from, Outcome::Memory);
+    };
+    let _ = state.pages();
+    let Ok(()) = read_on(state, seat) else {
+        state.abandon(seat, Why::Given);
+        return recorded(state, from, Outcome::Memory);
+    };
+    let Ok(closed) = state.close_scan(seat) else {
+        state.abandon(seat, Why::Given);
+        return recorded(state, from, Outcome::Memory);
+    };
+    let outcome = Outcome::Found {
+        rows: closed.rows,
+        walk: told(alone, closed.met),
+    };
+    recorded(state, from, outcome)
+}

@@ -1,0 +1,53 @@
+ghost use Rattle.std.specs.Prelude.{◌≡◌, ◌≤◌, [], length, IfOk, IfErr};
+ghost use Rattle.spg_core.specs.Seen.{past_of};
+ghost use Rattle.spg_histories.specs.Tasks.{parts_tasks};
+ghost use Rattle.spg_perform.specs.Session.{AllClosed, IsOfClass, Performs, standing};
+
+use crate::blocks::parts;
+use crate::book::Book;
+use crate::count::count_commands;
+use spg_base::Memory;
+use spg_core::State;
+use spg_io::Images;
+use spg_report::Records;
+use spg_script::{Part, Script, Spoken};
+use std::alloc::Global;
+
+/// An empty book with room for the records of all commands of these blocks.
+fn book_for(alloc: Global, blocks: &[Part]) -> Result<Book, Memory>
+    ensures records { IfOk result (λ book. book.records ≡ []) }
+    ensures room { IfOk result (λ book. length (parts_tasks 0 blocks.now) ≤ book.spare) }
+{
+    let Some(count) = count_commands(blocks) else {
+        return Err(Memory);
+    };
+    Book::with_room(alloc, count)
+}
+
+/// Does the commands of a script on a state of its class in which nothing is open, one after another
+/// in the order of their numbers: the lanes of a block in turn, lane i with seat i. It goes on
+/// whatever becomes of a command: the record says it, and `Memory` there means that what the command
+/// had opened was given up. `Memory` comes only before the first command: the state is handed back as
+/// it was then, and the images are as they were.
+pub fn perform<O: Spoken, M: Images>(
+    alloc: Global,
+    state: State<O>,
+    script: &Script,
+    images: &mut M,
+) -> Result<(State<O>, Records), (State<O>, Memory)>
+    requires of_class { IsOfClass O.speech script.now.class }
+    requires closed { AllClosed (past_of state) }
+    ensures ok { IfOk result (λ done. Performs O.meaning O.speech O.code_number script.now
+        (standing state (M.held images.old) (M.faults images.old) [])
+        (standing done.0 (M.held images.new) (M.faults images.new) done.1)) }
+    ensures err { IfErr result (λ refused. (refused.0 ≡ state) × (images.new ≡ images.old)) }
+{
+    let mut state = state;
+    let blocks = script.parts();
+    let Ok(mut book) = book_for(alloc, blocks) else {
+        return Err((state, Memory));
+    };
+    let _ = state.journal();
+    parts(alloc, &mut state, images, &mut book, blocks);
+    Ok((state, book.into_records()))
+}

@@ -1,0 +1,105 @@
+use crate::program::{Ended, Fails, no_fails, ran, run_word};
+use spg_app::Status;
+use std::test::Fail;
+
+/// A town: houses of which one is pulled down, and the pages saved.
+const TOWN: &[u8] =
+    b"class radix\ninsert 0.1 \"12 High Street, Oxford\"\ninsert 0.2 \"14 High Street, Oxford\"\ninsert 0.3 \"3 Mill Lane, Ely\"\ninsert 0.4 null\nfind where starts \"1\"\ndelete 0.2\nfind where starts \"1\"\nfind all\nsave town\n";
+
+/// The text of its run up to the result of `save`.
+const BEFORE: &[u8] =
+    b"1 0 2 added\n2 2 4 added\n3 4 6 added\n4 6 8 added\n5 8 10 found 2 walk 3 0.1 0.2\n6 10 11 killed\n7 11 13 found 1 walk 3 0.1\n8 13 15 found 3 walk 4 0.1 0.3 0.4\n";
+
+/// The result of `save`, and where the images fail.
+const SAVED: &[u8] = b"9 15 15 saved 3\n";
+
+const FAULT: &[u8] = b"9 15 15 image fault\n";
+
+/// The text of its run behind the result of `save`.
+const BEHIND: &[u8] =
+    b"journal 15\n0 0 open insert 0.1 \"12 High Street, Oxford\"\n1 0 put 0.1\n2 0 open insert 0.2 \"14 High Street, Oxford\"\n3 0 put 0.2\n4 0 open insert 0.3 \"3 Mill Lane, Ely\"\n5 0 put 0.3\n6 0 open insert 0.4 null\n7 0 put 0.4\n8 0 open scan where starts \"1\"\n9 0 close scan 2\n10 0 kill 0.2\n11 0 open scan where starts \"1\"\n12 0 close scan 1\n13 0 open scan all\n14 0 close scan 3\n";
+
+fn town(rt: &HostRuntime, fails: Fails) -> Result<Ended, Fail> {
+    ran(rt, &run_word(), TOWN, fails)
+}
+
+/// The text of the town's run with this result of `save`.
+fn text(rt: &HostRuntime, saved: &[u8]) -> Result<Vec<u8>, Fail> {
+    let mut text = BEFORE.to_vec(rt.alloc())?;
+    text.extend_from_slice(saved)?;
+    text.extend_from_slice(BEHIND)?;
+    Ok(text)
+}
+
+#[test]
+fn saves_a_town(rt: HostRuntime) -> Result<(), Fail> {
+    let ended = town(&rt, no_fails())?;
+    assert_eq!(rt; ended.status, Status::Done);
+    assert_eq!(rt; ended.text.as_slice(), text(&rt, SAVED)?.as_slice());
+    assert_eq!(rt;
+        ended.images.bytes("town").map(|image| image.len()),
+        Some(24576)
+    );
+    Ok(())
+}
+
+/// Each failing write, and how many bytes the lines before it have.
+const WRITES: [(u64, usize); 6] = [(1, 0), (2, 12), (3, 24), (4, 36), (5, 48), (6, 78)];
+
+#[test]
+fn tells_failing_writes(rt: HostRuntime) -> Result<(), Fail> {
+    for (call, length) in WRITES {
+        let ended = town(
+            &rt,
+            Fails {
+                write: call,
+                ..no_fails()
+            },
+        )?;
+        assert_eq!(rt; ended.status, Status::WriteFault);
+        assert_eq!(rt; ended.text.as_slice(), &BEFORE[..length]);
+    }
+    Ok(())
+}
+
+/// Each failing call of the images, `clear` before the puts, and the bytes that were saved before.
+const PUTS: [(u64, Option<usize>); 4] = [
+    (1, None),
+    (2, Some(0)),
+    (3, Some(8192)),
+    (4, Some(16384)),
+];
+
+#[test]
+fn tells_failing_images(rt: HostRuntime) -> Result<(), Fail> {
+    for (call, length) in PUTS {
+        let ended = town(
+            &rt,
+            Fails {
+                image: call,
+                ..no_fails()
+            },
+        )?;
+        assert_eq!(rt; ended.status, Status::ImageFault);
+        assert_eq!(rt; ended.text.as_slice(), text(&rt, FAULT)?.as_slice());
+        assert_eq!(rt; ended.images.bytes("town").map(|image| image.len()), length);
+    }
+    Ok(())
+}
+
+#[test]
+fn tells_failing_reads(rt: HostRuntime) -> Result<(), Fail> {
+    for call in 1..5 {
+        let ended = town(
+            &rt,
+            Fails {
+                read: call,
+                ..no_fails()
+            },
+        )?;
+        assert_eq!(rt; ended.status, Status::ReadFault);
+        assert_eq!(rt; ended.text.is_empty(), true);
+        assert_eq!(rt; ended.images.bytes("town").is_none(), true);
+    }
+    Ok(())
+}

@@ -1,0 +1,273 @@
+use crate::program::{no_fails, ran};
+use spg_app::Status;
+use std::alloc::{AllocError, Global};
+use std::test::Fail;
+
+/// A line of a text: its start, the offsets from, to and apart of the rows of block 1 that follow, and
+/// its end.
+type Line = (&'static str, (u16, u16, u16), &'static str);
+
+/// No rows.
+const NONE: (u16, u16, u16) = (1, 0, 1);
+
+/// Many inserts of rows 1.1, 1.2 and so on, and what comes behind them. An `N` at the start of a key
+/// stands for the offset of the row.
+#[derive(Clone, Copy)]
+struct Filled {
+    words: &'static [&'static str],
+    class: &'static str,
+    count: u16,
+    odd: &'static str,
+    even: &'static str,
+    behind: &'static str,
+    ends: &'static [Line],
+}
+
+const FILLED: [Filled; 9] = [
+    Filled {
+        words: &["run"],
+        class: "quad",
+        count: 292,
+        odd: "N,0",
+        even: "N,0",
+        behind: "find all\nfind where eq 292,0\nstat\n",
+        ends: &[
+            ("292 582 584 added", NONE, ""),
+            ("293 584 586 found 292 walk 294", (1, 292, 1), ""),
+            ("294 586 588 found 1 walk 75", (292, 292, 1), ""),
+            (
+                "295 588 588 stat pages 6 inner 2 leaf 292 redirect 1 dead 0 placeholder 71 clock 1",
+                NONE,
+                "",
+            ),
+            ("journal 588", NONE, ""),
+        ],
+    },
+    Filled {
+        words: &["run"],
+        class: "quad",
+        count: 300,
+        odd: "0,0",
+        even: "0,0",
+        behind: "find all\nstat\n",
+        ends: &[
+            ("300 598 600 added", NONE, ""),
+            ("301 600 602 found 300 walk 301", (1, 300, 1), ""),
+            (
+                "302 602 602 stat pages 5 inner 1 leaf 300 redirect 1 dead 0 placeholder 29 clock 1",
+                NONE,
+                "",
+            ),
+        ],
+    },
+    Filled {
+        words: &["run"],
+        class: "quad",
+        count: 292,
+        odd: "0,0",
+        even: "1,0",
+        behind: "find where eq 1,0\nfind where eq 0,0\nstat\n",
+        ends: &[
+            ("292 582 584 added", NONE, ""),
+            ("293 584 586 found 146 walk 148", (2, 292, 2), ""),
+            ("294 586 588 found 146 walk 147", (1, 291, 2), ""),
+            (
+                "295 588 588 stat pages 6 inner 2 leaf 292 redirect 1 dead 0 placeholder 16 clock 1",
+                NONE,
+                "",
+            ),
+        ],
+    },
+    Filled {
+        words: &["run"],
+        class: "kd",
+        count: 292,
+        odd: "N,5",
+        even: "N,5",
+        behind: "find where eq 100,5\n",
+        ends: &[
+            ("292 582 584 added", NONE, ""),
+            ("293 584 586 found 1 walk 221", (100, 100, 1), ""),
+        ],
+    },
+    Filled {
+        words: &["run"],
+        class: "quad",
+        count: 292,
+        odd: "-2147483648,-2147483648",
+        even: "2147483647,2147483647",
+        behind: "find where in -2147483648,-2147483648,2147483647,2147483647\nfind where left -2147483648\n",
+        ends: &[
+            ("292 582 584 added", NONE, ""),
+            ("293 584 586 found 292 walk 294", (1, 292, 1), ""),
+            ("294 586 588 found 0 walk 1", NONE, ""),
+        ],
+    },
+    Filled {
+        words: &["run"],
+        class: "quad",
+        count: 409,
+        odd: "null",
+        even: "null",
+        behind: "find null\nfind all\nstat\n",
+        ends: &[
+            ("409 816 818 added", NONE, ""),
+            ("410 818 820 found 409 walk 410", (1, 409, 1), ""),
+            ("411 820 822 found 409 walk 410", (1, 409, 1), ""),
+            (
+                "412 822 822 stat pages 5 inner 1 leaf 409 redirect 1 dead 0 placeholder 50 clock 1",
+                NONE,
+                "",
+            ),
+        ],
+    },
+    Filled {
+        words: &["run"],
+        class: "radix",
+        count: 292,
+        odd: "\"abc\"",
+        even: "\"abc\"",
+        behind: "insert 2.1 \"\"\ninsert 2.2 \"a\"\ninsert 2.3 \"ab\"\ninsert 2.4 \"abx\"\ninsert 2.5 \"abcd\"\nfind where starts \"abc\"\nfind where lt \"ab\"\nstat\n",
+        ends: &[
+            ("292 582 584 added", NONE, ""),
+            ("293 584 586 added", NONE, ""),
+            ("294 586 588 added", NONE, ""),
+            ("295 588 590 added", NONE, ""),
+            ("296 590 592 added", NONE, ""),
+            ("297 592 594 added", NONE, ""),
+            ("298 594 596 found 293 walk 298", (1, 292, 1), " 2.5"),
+            ("299 596 598 found 2 walk 4 2.1 2.2", NONE, ""),
+            (
+                "300 598 598 stat pages 6 inner 5 leaf 297 redirect 0 dead 0 placeholder 0 clock 0",
+                NONE,
+                "",
+            ),
+        ],
+    },
+    Filled {
+        words: &["run", "--limit", "5"],
+        class: "quad",
+        count: 292,
+        odd: "N,0",
+        even: "N,0",
+        behind: "find all\nstat\n",
+        ends: &[
+            ("292 582 584 full", NONE, ""),
+            ("293 584 586 found 291 walk 292", (1, 291, 1), ""),
+            (
+                "294 586 586 stat pages 4 inner 1 leaf 291 redirect 0 dead 0 placeholder 0 clock 0",
+                NONE,
+                "",
+            ),
+        ],
+    },
+    Filled {
+        words: &["run", "--limit=5"],
+        class: "quad",
+        count: 292,
+        odd: "N,0",
+        even: "N,0",
+        behind: "stat\n",
+        ends: &[
+            ("292 582 584 full", NONE, ""),
+            (
+                "293 584 584 stat pages 4 inner 1 leaf 291 redirect 0 dead 0 placeholder 0 clock 0",
+                NONE,
+                "",
+            ),
+            ("journal 584", NONE, ""),
+        ],
+    },
+];
+
+fn push_inserts(alloc: Global, script: &mut String, filled: &Filled) -> Result<(), AllocError> {
+    for number in 1..=filled.count {
+        let key = if number % 2 == 1 {
+            filled.odd
+        } else {
+            filled.even
+        };
+        let line = match key.strip_prefix("N") {
+            Some(rest) => format!(in alloc; "insert 1.{number} {number}{rest}\n")?,
+            None => format!(in alloc; "insert 1.{number} {key}\n")?,
+        };
+        script.push_str(line.as_str())?;
+    }
+    Ok(())
+}
+
+fn script_of(alloc: Global, filled: &Filled) -> Result<String, AllocError> {
+    let class = filled.class;
+    let mut script = format!(in alloc; "class {class}\n")?;
+    push_inserts(alloc, &mut script, filled)?;
+    script.push_str(filled.behind)?;
+    Ok(script)
+}
+
+fn line_of(alloc: Global, line: Line) -> Result<String, AllocError> {
+    let (start, (from, to, apart), end) = line;
+    let mut told = String::from_str(alloc, start)?;
+    for number in from..=to {
+        if (number - from) % apart == 0 {
+            let row = format!(in alloc; " 1.{number}")?;
+            told.push_str(row.as_str())?;
+        }
+    }
+    told.push_str(end)?;
+    Ok(told)
+}
+
+#[test]
+fn fills_pages(rt: HostRuntime) -> Result<(), Fail> {
+    for filled in &FILLED {
+        let script = script_of(rt.alloc(), filled)?;
+        let ended = ran(&rt, filled.words, script.as_bytes(), no_fails())?;
+        assert_eq!(rt; ended.status, Status::Done);
+        let before = usize::from(filled.count) - 1;
+        let mut lines = ended.text.as_slice().split(|b| *b == b'\n').skip(before);
+        for line in filled.ends {
+            let line = line_of(rt.alloc(), *line)?;
+            assert_eq!(rt; lines.next(), Some(line.as_bytes()));
+        }
+    }
+    Ok(())
+}
+
+/// Three texts of `a`, the second of so many bytes, the others of 3,900.
+fn long_texts(alloc: Global, second: usize) -> Result<String, AllocError> {
+    let mut script = String::from_str(alloc, "class radix\n")?;
+    for (number, length) in [(1, 3900), (2, second), (3, 3900)] {
+        let start = format!(in alloc; "insert 1.{number} \"")?;
+        script.push_str(start.as_str())?;
+        for _ in 0..length {
+            script.push_str("a")?;
+        }
+        script.push_str("\"\n")?;
+    }
+    script.push_str("find all\nstat\n")?;
+    Ok(script)
+}
+
+#[test]
+fn takes_texts_of_3900_bytes(rt: HostRuntime) -> Result<(), Fail> {
+    let script = long_texts(rt.alloc(), 3900)?;
+    let ended = ran(&rt, &["run"], script.as_bytes(), no_fails())?;
+    assert_eq!(rt; ended.status, Status::Done);
+    let mut lines = ended.text.as_slice().split(|b| *b == b'\n').skip(3);
+    assert_eq!(rt;
+        lines.next(),
+        Some(b"4 6 8 found 3 walk 4 1.1 1.2 1.3".as_slice())
+    );
+    assert_eq!(rt;
+        lines.next(),
+        Some(
+            b"5 8 8 stat pages 4 inner 1 leaf 3 redirect 0 dead 0 placeholder 0 clock 0".as_slice()
+        )
+    );
+    let script = long_texts(rt.alloc(), 3901)?;
+    assert_eq!(rt;
+        ran(&rt, &["run"], script.as_bytes(), no_fails())?.status,
+        Status::BadScript(3)
+    );
+    Ok(())
+}
