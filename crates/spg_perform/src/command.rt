@@ -10,10 +10,11 @@ use crate::insert::insert;
 use crate::position::{position, recorded};
 use crate::save::save;
 use crate::stat::stat;
+use crate::vacuum::vacuum;
 use spg_base::SeatNo;
 use spg_core::State;
 use spg_io::Images;
-use spg_report::{Outcome, Record};
+use spg_report::Record;
 use spg_script::{Command, Spoken};
 use std::alloc::Global;
 
@@ -44,6 +45,6 @@ pub(crate) fn command<O: Spoken, M: Images>(
             recorded(state, position(state), outcome)
         }
         Command::Stat => stat(state, seat),
-        Command::Vacuum => recorded(state, position(state), Outcome::Memory),
+        Command::Vacuum => vacuum(state, seat),
     }
 }

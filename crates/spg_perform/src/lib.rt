@@ -13,5 +13,6 @@ mod position;
 mod save;
 mod script;
 mod stat;
+mod vacuum;
 
 pub use script::perform;
