@@ -11,3 +11,4 @@ pub mod KnownConds
 pub mod OfClass
 pub mod StatRows
 pub mod Counting
+pub mod Tasks
