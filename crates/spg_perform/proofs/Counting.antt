@@ -40,6 +40,9 @@ leaves_counted : (sheets : List Sheet) → count_in is_live sheets ≡ leaves_fr
 leaves_counted [] = refl
 leaves_counted (s ∷ sheets) = omega (arith, lives_counted s.tuples, leaves_counted sheets)
 
+count_shown : (t : Table) (counts : Stat) → IsStat t counts → IsCount (sheets_of t) counts
+count_shown t counts is = record { pages = is.pages; inner = is.inner; leaf = is.leaf; redirect = is.redirect; dead = is.dead; placeholder = is.placeholder; clock = is.clock }
+
 -- ---- the rows of the leaf tuples are those that are present
 
 -- a row that is present has a key or a null
@@ -57,9 +60,6 @@ module _ {O Key Recon Cond : Type 0} (m : Meaning Key Recon Cond) where
       let back : (r : RowAt) → HasRow present.rows r → HasRow (rows_in S) r =
       λ r h. let is = (present.each r).0 (contains_from present.rows r h) in let (key, with_key) = keyed (lives r past) is in (each r).1 (key, (represents.entries r key).1 (is, with_key)) in
       sym leaves ∙ as_long (rows_in S) present.rows distinct (distinct_from present.rows present.once) into back ∙ present.count
-
-  count_shown : (t : Table) (counts : Stat) → IsStat t counts → IsCount (sheets_of t) counts
-  count_shown t counts is = record { pages = is.pages; inner = is.inner; leaf = is.leaf; redirect = is.redirect; dead = is.dead; placeholder = is.placeholder; clock = is.clock }
 
   -- nothing is done, and the pages are told
   pub counted : (speech : Speech Key Cond) (s : Seen O Key Recon Cond) (seat : ℕ) (alone : Bool) (r : Record) (counts : Stat) → Right m s.journal → Represents m (sheets_of s.table) (IsPresentWith (past_of s)) → IsStat s.table counts → stage_at s seat ≡ free
