@@ -1,5 +1,5 @@
 -- A count: its leaf tuples are as many as the rows that are present.
-use Rattle.std.proofs.Common.{◌≡◌, ◌+◌, ℕ, Bool, true, false, List, [], ◌∷◌, length, Option, Some, refl, sym, ap, ◌∙◌, arith}
+use Rattle.std.proofs.Common.{◌≡◌, ◌+◌, ℕ, Bool, true, List, [], ◌∷◌, length, Option, Some, refl, sym, ap, ◌∙◌, arith}
 use Rattle.spg_base.specs.Row.{RowAt}
 use Rattle.spg_base.specs.declared.recorded.Stat.{Stat}
 use Rattle.spg_opclass.specs.Meaning.{Meaning}
@@ -15,7 +15,7 @@ use Rattle.spg_rows.specs.Legal.{IsLegal}
 use Rattle.spg_rows.specs.Lives.{Life, lives}
 use Rattle.spg_rows.specs.Present.{IsPresentWith}
 use Rattle.spg_rows.specs.Right.{Right}
-use Rattle.spg_rows.specs.Rows.{present_in, key_in, is_present, key_of, present_count}
+use Rattle.spg_rows.specs.Rows.{present_in, key_in, present_count}
 use Rattle.spg_rows.proofs.Present.{present_counted}
 use Rattle.spg_tree.specs.Table.{Table, sheets_of}
 use Rattle.spg_core.specs.Counts.{count_on, count_in, IsStat}

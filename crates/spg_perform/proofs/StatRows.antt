@@ -1,5 +1,5 @@
 -- Two lists of rows, each without a row twice, that have the same rows are of one length.
-use Rattle.std.proofs.Common.{◌≡◌, ◌≤◌, ◌⊎◌, inl, inr, ℕ, zero, suc, List, [], ◌∷◌, length, Contains, refl, sym, ap, ◌∙◌, subst, arith}
+use Rattle.std.proofs.Common.{◌≡◌, ◌≤◌, ◌⊎◌, inl, inr, zero, suc, List, [], ◌∷◌, length, Contains, refl, sym, ap, ◌∙◌, subst, arith}
 use Rattle.spg_base.specs.Row.{RowAt}
 use Rattle.spg_forest.specs.Steps.{HasRow}
 use Rattle.spg_forest.specs.Counts.{AreDistinct}
