@@ -9,3 +9,5 @@ pub mod Reading
 pub mod Finding
 pub mod KnownConds
 pub mod OfClass
+pub mod SavingNames
+pub mod Saving
