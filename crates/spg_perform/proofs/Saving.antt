@@ -1,14 +1,13 @@
--- What a save of the image leaves, in the words of its outcome.
-use Rattle.std.proofs.Common.{◌≡◌, ◌<◌, ◌≤◌, ◌⊎◌, inl, inr, ⊎_elim, ℕ, false, List, [], ◌∷◌, length, get_or, drop, Option, Some, None, Ok, Err, refl, sym, ap, ◌∙◌, arith}
+-- A saved image reads back as the pages of the table.
+use Rattle.std.proofs.Common.{◌≡◌, ◌<◌, ℕ, false, List, [], ◌∷◌, length, get_or, drop, Option, Some, None, Ok, refl, sym, ap, ◌∙◌, arith}
 use Rattle.spg_forest.specs.Sheets.{Sheet, Sheets, blank}
 use Rattle.spg_tree.specs.Table.{Table, IsSound, sheets_of}
-use Rattle.spg_io.specs.Held.{Holding, Stays, Changes}
-use Rattle.spg_image.specs.declared.refused.SaveRefused.TheVariants as refused
-use Rattle.spg_image.specs.Image.{Image, image_of, sheets_in}
-use Rattle.spg_image.specs.Saving.{HoldsImage, HoldsFirst, HoldsFirstAndFront, Saves, HasCauseIfFault}
+use Rattle.spg_io.specs.Held.{Holding, Changes}
+use Rattle.spg_image.specs.Image.{image_of, sheets_in}
+use Rattle.spg_image.specs.Saving.{HoldsImage, Saves}
 use Rattle.spg_report.specs.declared.outcome.Outcome.TheVariants as outcome
-use Rattle.spg_perform.specs.Session.{ReadsBack, RoseBy}
-use Rattle.spg_perform.specs.Saved.{TouchesOnly, IsSaved}
+use Rattle.spg_perform.specs.Session.{ReadsBack}
+use Rattle.spg_perform.specs.Saved.{IsSaved}
 
 -- a change tells less
 changes_less : (old now : Option Holding) (name : List ℕ) (P R : Option (List ℕ) → Option (List ℕ) → Type 0) → Changes old now name P → ((x y : Option (List ℕ)) → P x y → R x y) → Changes old now name R
@@ -30,21 +29,8 @@ sheets_same code t sound = ap (λ ss. sheets t.clock ss) (pages_same code t soun
     sheets : ℕ → List Sheet → Sheets
     sheets clock ss = record { clock = clock; sheets = ss }
 
-module _ (code : ℕ) (t : Table) (old now : Option Holding) (name : List ℕ) where
-  pub saved : (pages : ℕ) → IsSound t → Saves (image_of code t) old now name (Ok pages) → IsSaved code t old now name (outcome.Saved pages)
-  saved pages sound h = (
-    h.0 ∙ ap length (pages_same code t sound),
-    changes_less old now name (λ _ held. HoldsImage (image_of code t) held) (λ _ held. ReadsBack code (Some held) (sheets_of t)) h.1 (λ x held is. (image_of code t, is, refl, sheets_same code t sound)),
-  )
-
-  touches_only : (P : Option (List ℕ) → Option (List ℕ) → Type 0) → Stays old now ⊎ Changes old now name P → TouchesOnly old now name
-  touches_only P h = ⊎_elim (λ stays. inl stays) (λ changes. inr (changes_less old now name P (λ _ _. Unit {0}) changes (λ x y q. tt))) h
-
-  pub failed : Saves (image_of code t) old now name (Err refused.ImageFault) → IsSaved code t old now name outcome.ImageFault
-  failed h = touches_only (λ _ held. HoldsFirstAndFront (image_of code t) held) h
-
-  pub no_memory : Saves (image_of code t) old now name (Err refused.Memory) → IsSaved code t old now name outcome.Memory
-  no_memory h = touches_only (λ _ held. HoldsFirst (image_of code t) held) h
-
-pub rose_none : (before now : ℕ) → before ≤ now → RoseBy 0 before now
-rose_none before now later = (later, omega arith)
+pub saved : (code : ℕ) (t : Table) (old now : Option Holding) (name : List ℕ) (pages : ℕ) → IsSound t → Saves (image_of code t) old now name (Ok pages) → IsSaved code t old now name (outcome.Saved pages)
+saved code t old now name pages sound h = (
+  h.0 ∙ ap length (pages_same code t sound),
+  changes_less old now name (λ _ held. HoldsImage (image_of code t) held) (λ _ held. ReadsBack code (Some held) (sheets_of t)) h.1 (λ x held is. (image_of code t, is, refl, sheets_same code t sound)),
+)
