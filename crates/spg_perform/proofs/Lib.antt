@@ -12,3 +12,5 @@ pub mod OfClass
 pub mod StatRows
 pub mod Counting
 pub mod Tasks
+pub mod SavingNames
+pub mod Saving
