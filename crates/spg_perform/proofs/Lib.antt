@@ -9,3 +9,4 @@ pub mod Reading
 pub mod Finding
 pub mod KnownConds
 pub mod OfClass
+pub mod Vacuuming
