@@ -16,6 +16,7 @@ use Rattle.spg_tree.specs.Table.{Table, sheets_of, latch_at}
 use Rattle.spg_vacuum.specs.declared.vacuum.Vacuum.{Vacuum as Sweeper}
 use Rattle.spg_vacuum.specs.Vacuums.{IsBusy}
 use Rattle.spg_seats.specs.Opening.{sweeps}
+use Rattle.spg_seats.specs.Slots.{horizon_of}
 use Rattle.spg_seats.proofs.SweptRows.{sweeps_turned, sweeps_open, sweeps_counted}
 use Rattle.spg_core.specs.declared.answer.VacuumOut.{VacuumOut}
 use Rattle.spg_core.specs.declared.answer.VacuumOut.TheVariants.{Block, Pending, Latched, Finished}
@@ -104,7 +105,7 @@ module _ {O Key Recon Cond : Type 0} where
       go free h = absurd h
       go (descending key d) h = absurd h
       go (reading s) h = absurd h
-      go (sweeping v) (v2, rows, test, targets, does, at) = let (latched, apart) = busy s1.table s2.table v v2 test _ seat block by rows does in ((others by block apart).1 latched, apart)
+      go (sweeping v) (v2, rows, test, targets, does, at) = let (latched, apart) = busy s1.table s2.table v v2 test (horizon_of s1.stages v.stamp) seat block by rows does in ((others by block apart).1 latched, apart)
 
   -- ---- the vacuum is closed
 
