@@ -1,6 +1,6 @@
 -- A vacuum.
 use Rattle.std.specs.Prelude.{map}
-use Rattle.std.proofs.Common.{◌≡◌, ◌≢◌, ◌+◌, ⊎_elim, inl, inr, ℕ, Bool, List, [], ◌∷◌, ◌++◌, length, reverse, Some, refl, sym, ap, ◌∙◌, subst, arith}
+use Rattle.std.proofs.Common.{◌≡◌, ◌≢◌, ◌+◌, inl, inr, ℕ, Bool, List, [], ◌∷◌, ◌++◌, length, reverse, Some, refl, sym, ap, ◌∙◌, subst, arith}
 use Rattle.std.specs.List.{AllByRecursion}
 use Rattle.std.proofs.lemmas.List.{append_assoc, append-nil, reverse-append, length-reverse}
 use Rattle.spg_base.specs.Row.{RowAt}
@@ -13,18 +13,14 @@ use Rattle.spg_rows.specs.Right.{Right, AnswersRight, VacuumRight}
 use Rattle.spg_rows.specs.Rows.{sweep_count}
 use Rattle.spg_rows.proofs.Opened.{itself_opens}
 use Rattle.spg_tree.specs.Table.{Table, sheets_of, latch_at}
-use Rattle.spg_vacuum.specs.declared.vacuum.Vacuum.{Vacuum as Sweeper}
-use Rattle.spg_vacuum.specs.Vacuums.{IsBusy}
 use Rattle.spg_seats.specs.Opening.{sweeps}
-use Rattle.spg_seats.specs.Slots.{horizon_of}
 use Rattle.spg_seats.proofs.SweptRows.{sweeps_turned, sweeps_open, sweeps_counted}
 use Rattle.spg_core.specs.declared.answer.VacuumOut.{VacuumOut}
 use Rattle.spg_core.specs.declared.answer.VacuumOut.TheVariants.{Block, Pending, Latched, Finished}
 use Rattle.spg_core.specs.Stage.{Stage, free, descending, reading, sweeping, given_up, IsSweeping}
 use Rattle.spg_core.specs.Seen.{Seen, stage_at, past_of}
 use Rattle.spg_core.specs.Stepping.{Grows}
-use Rattle.spg_core.specs.Sweeping.{DoesWork}
-use Rattle.spg_core.specs.Sections.{OpensVacuum, IsAfterWork, StepsFor, StepsVacuum, GivesUp, OthersHold}
+use Rattle.spg_core.specs.Sections.{OpensVacuum, StepsFor, StepsVacuum, GivesUp, OthersHold}
 use Rattle.spg_core.proofs.Growing.{grows_as, grows_then}
 use Rattle.spg_core.proofs.Works.{next_place}
 use Rattle.spg_script.specs.declared.command.Command.TheVariants.{Vacuum}
@@ -44,19 +40,12 @@ use Rattle.spg_perform.proofs.Alone.{OthersClosed, others_stay}
 abbrev pub IsOpen : VacuumOut → Type 0
 IsOpen out = (n : ℕ) → out ≡ Finished n → ⊥
 
--- another seat has latched the block at which the vacuum is
-busy : (t t2 : Table) (v v2 : Sweeper) (test : RowAt → Bool) (horizon seat block by : ℕ) (rows : List RowAt) → DoesWork t t2 v v2 test horizon seat (Latched block by) rows → (latch_at t block ≡ Some by) × (by ≢ seat)
-busy t t2 v v2 test horizon seat block by rows (none, does) = ⊎_elim (λ (next, D). at v.next D) (λ (next, F). let (p, is) = next_place v t next in at p.block (F p is)) does
-  where
-    at : (b : ℕ) → IsBusy t t2 v v2 b seat block by → (latch_at t block ≡ Some by) × (by ≢ seat)
-    at b B = (ap (latch_at t) B.at ∙ B.held, B.other)
+sweeps_by : (O Key Recon Cond : Type 0) (seat : ℕ) (rows : List RowAt) → AllByRecursion (λ (e : Event O Key Recon Cond). seat_of e ≡ seat) (sweeps seat rows)
+sweeps_by O Key Recon Cond seat [] = tt
+sweeps_by O Key Recon Cond seat (row ∷ rows) = (refl, sweeps_by O Key Recon Cond seat rows)
 
 module _ {O Key Recon Cond : Type 0} where
   -- ---- the sections, one after another
-
-  sweeps_by : (seat : ℕ) (rows : List RowAt) → AllByRecursion (λ (e : Event O Key Recon Cond). seat_of e ≡ seat) (sweeps seat rows)
-  sweeps_by seat [] = tt
-  sweeps_by seat (row ∷ rows) = (refl, sweeps_by seat rows)
 
   sweeps_joined : (seat : ℕ) (xs ys : List RowAt) → ◌≡◌ {A = History O Key Recon Cond} (sweeps seat (xs ++ ys)) (sweeps seat xs ++ sweeps seat ys)
   sweeps_joined seat [] ys = refl
@@ -65,20 +54,17 @@ module _ {O Key Recon Cond : Type 0} where
   pub sweeps_nothing : (s : Seen O Key Recon Cond) (seat : ℕ) → SweepsOn s s seat
   sweeps_nothing s seat = record { rows = []; journal = sym (append-nil s.journal); origin = refl; grows = grows_as s.table s.table (refl, refl); sweeping = λ is. is }
 
-  told : (s1 s2 : Seen O Key Recon Cond) (seat : ℕ) (v2 : Sweeper) (rows : List RowAt) → Grows s1.table s2.table → s2.journal ≡ s1.journal ++ sweeps seat rows → s2.origin ≡ s1.origin → stage_at s2 seat ≡ sweeping v2 → SweepsOn s1 s2 seat
-  told s1 s2 seat v2 rows grows journal origin stage = record { rows = rows; journal = journal; origin = origin; grows = grows; sweeping = λ was. subst (λ (x : Stage O Key Recon Cond). IsSweeping x) (sym stage) tt }
-
-  after : (s1 s2 : Seen O Key Recon Cond) (seat : ℕ) (v2 : Sweeper) (rows : List RowAt) (out : VacuumOut) → IsOpen out → Grows s1.table s2.table → IsAfterWork s1 s2 seat v2 rows out → SweepsOn s1 s2 seat
-  after s1 s2 seat v2 rows Block more grows (is, stage) = told s1 s2 seat v2 rows grows (ap (λ s. s.journal) is) (ap (λ s. s.origin) is) stage
-  after s1 s2 seat v2 rows Pending more grows (is, stage) = told s1 s2 seat v2 rows grows (ap (λ s. s.journal) is) (ap (λ s. s.origin) is) stage
-  after s1 s2 seat v2 rows (Latched block by) more grows (is, stage) = told s1 s2 seat v2 [] grows (ap (λ s. s.journal) is ∙ sym (append-nil s1.journal)) (ap (λ s. s.origin) is) stage
-  after s1 s2 seat v2 rows (Finished n) more grows is = absurd (more n refl)
+  told : (s1 s2 : Seen O Key Recon Cond) (seat : ℕ) (stage : Stage O Key Recon Cond) (rows : List RowAt) → Grows s1.table s2.table → s2.journal ≡ s1.journal ++ sweeps seat rows → s2.origin ≡ s1.origin → IsSweeping stage → stage_at s2 seat ≡ stage → SweepsOn s1 s2 seat
+  told s1 s2 seat stage rows grows journal origin open_still is = record { rows = rows; journal = journal; origin = origin; grows = grows; sweeping = λ was. subst (λ (x : Stage O Key Recon Cond). IsSweeping x) (sym is) open_still }
 
   section_of : (s1 s2 : Seen O Key Recon Cond) (seat : ℕ) (out : VacuumOut) (stage : Stage O Key Recon Cond) → IsOpen out → Grows s1.table s2.table → StepsFor s1 s2 seat out stage → SweepsOn s1 s2 seat
   section_of s1 s2 seat out free more grows is = absurd is
   section_of s1 s2 seat out (descending key d) more grows is = absurd is
   section_of s1 s2 seat out (reading s) more grows is = absurd is
-  section_of s1 s2 seat out (sweeping v) more grows (v2, rows, test, targets, does, is) = after s1 s2 seat v2 rows out more grows is
+  section_of s1 s2 seat Block (sweeping v) more grows (v2, rows, test, targets, does, (is, stage)) = told s1 s2 seat (sweeping v2) rows grows (ap (λ s. s.journal) is) (ap (λ s. s.origin) is) tt stage
+  section_of s1 s2 seat Pending (sweeping v) more grows (v2, rows, test, targets, does, (is, stage)) = told s1 s2 seat (sweeping v2) rows grows (ap (λ s. s.journal) is) (ap (λ s. s.origin) is) tt stage
+  section_of s1 s2 seat (Latched block by) (sweeping v) more grows (v2, rows, test, targets, does, (is, stage)) = told s1 s2 seat (sweeping v2) [] grows (ap (λ s. s.journal) is ∙ sym (append-nil s1.journal)) (ap (λ s. s.origin) is) tt stage
+  section_of s1 s2 seat (Finished n) (sweeping v) more grows is = absurd (more n refl)
 
   pub sweeps_further : (s0 s1 s2 : Seen O Key Recon Cond) (seat : ℕ) (out : VacuumOut) → SweepsOn s0 s1 seat → StepsVacuum s1 s2 seat out → Grows s1.table s2.table → IsOpen out → SweepsOn s0 s2 seat
   sweeps_further s0 s1 s2 seat out A is grows more =
@@ -94,7 +80,7 @@ module _ {O Key Recon Cond : Type 0} where
 
   -- nobody else has opened anything since
   pub still_alone : (s0 s1 : Seen O Key Recon Cond) (seat : ℕ) → OthersClosed seat (past_of s0) → SweepsOn s0 s1 seat → OthersClosed seat (past_of s1)
-  still_alone s0 s1 seat alone A = λ other apart. others_stay seat other apart s0.journal s1.journal (sweeps seat A.rows) A.journal (sweeps_by seat A.rows) ∙ alone other apart
+  still_alone s0 s1 seat alone A = λ other apart. others_stay seat other apart s0.journal s1.journal (sweeps seat A.rows) A.journal (sweeps_by O Key Recon Cond seat A.rows) ∙ alone other apart
 
   -- ---- a section finds the block latched
 
@@ -105,7 +91,11 @@ module _ {O Key Recon Cond : Type 0} where
       go free h = absurd h
       go (descending key d) h = absurd h
       go (reading s) h = absurd h
-      go (sweeping v) (v2, rows, test, targets, does, at) = let (latched, apart) = busy s1.table s2.table v v2 test (horizon_of s1.stages v.stamp) seat block by rows does in ((others by block apart).1 latched, apart)
+      go (sweeping v) (v2, rows, test, targets, (none, inl (next, B)), after) = ((others by block B.other).1 (ap (latch_at s1.table) B.at ∙ B.held), B.other)
+      go (sweeping v) (v2, rows, test, targets, (none, inr (next, F)), after) =
+          let (p, first) = next_place v s1.table next in
+          let B = F p first in
+          ((others by block B.other).1 (ap (latch_at s1.table) B.at ∙ B.held), B.other)
 
   -- ---- the vacuum is closed
 
@@ -171,7 +161,7 @@ module _ {O Key Recon Cond : Type 0} where
     all_by : (rows : List RowAt) (last : Event O Key Recon Cond) → seat_of last ≡ seat → AllByRecursion (λ (e : Event O Key Recon Cond). seat_of e ≡ seat) (OpenVacuum seat ∷ (map (λ r. Sweep seat r) rows ++ last ∷ []))
     all_by rows last by = (
       refl,
-      each_append (λ (e : Event O Key Recon Cond). seat_of e ≡ seat) (map (λ r. Sweep seat r) rows) (last ∷ []) (subst (AllByRecursion (λ (e : Event O Key Recon Cond). seat_of e ≡ seat)) (sweeps_map seat rows) (sweeps_by seat rows)) (by, tt),
+      each_append (λ (e : Event O Key Recon Cond). seat_of e ≡ seat) (map (λ r. Sweep seat r) rows) (last ∷ []) (subst (AllByRecursion (λ (e : Event O Key Recon Cond). seat_of e ≡ seat)) (sweeps_map seat rows) (sweeps_by O Key Recon Cond seat rows)) (by, tt),
     )
 
     -- the newest first
