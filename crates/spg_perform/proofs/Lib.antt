@@ -14,3 +14,4 @@ pub mod Counting
 pub mod Tasks
 pub mod SavingNames
 pub mod Saving
+pub mod Vacuuming

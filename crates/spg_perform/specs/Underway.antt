@@ -1,15 +1,17 @@
 -- How far the command of a seat has come.
-use Rattle.std.specs.Prelude.{◌≡◌, ◌<◌, ℕ, is_none, Option, ⊤}
+use Rattle.std.specs.Prelude.{◌≡◌, ◌<◌, ◌++◌, ℕ, List, [], ◌∷◌, is_none, Option, ⊤}
 use Rattle.spg_base.specs.Row.{RowAt}
 use Rattle.spg_opclass.specs.Meaning.{Meaning}
 use Rattle.spg_opclass.specs.declared.query.Query.{Query}
 use Rattle.spg_forest.specs.Sheets.{Sheets}
 use Rattle.spg_forest.specs.Walk.{weight_of}
+use Rattle.spg_rows.specs.declared.event.Event.TheVariants.{CloseVacuum}
 use Rattle.spg_tree.specs.Table.{sheets_of}
 use Rattle.spg_scan.specs.Scanning.{counted}
 use Rattle.spg_scan.specs.Rest.{IsAtRest}
-use Rattle.spg_core.specs.Stage.{Stage, free, descending, reading, sweeping, IsRead}
-use Rattle.spg_core.specs.Stepping.{SamePages}
+use Rattle.spg_seats.specs.Opening.{sweeps}
+use Rattle.spg_core.specs.Stage.{Stage, free, descending, reading, sweeping, IsRead, IsSweeping}
+use Rattle.spg_core.specs.Stepping.{SamePages, Grows}
 use Rattle.spg_core.specs.Through.{IsInsertOf}
 use Rattle.spg_core.specs.Seen.{Seen, stage_at, past_of}
 use Rattle.spg_core.specs.Weight.{opened_keys}
@@ -44,3 +46,19 @@ pub record ReadsOn {O Key Recon Cond : Type 0} (m : Meaning Key Recon Cond) (old
 pub record ReadsToEnd {O Key Recon Cond : Type 0} (m : Meaning Key Recon Cond) (old new : Seen O Key Recon Cond) (seat : ℕ) : Type 0 where
   pub reads : ReadsOn m old new seat
   pub end : IsRead (stage_at new seat)
+
+-- the seat's vacuum swept these rows one after another, and goes on if it was open: no other event was written since, no page was lost, and the clock did not go back
+pub record SweepsOn {O Key Recon Cond : Type 0} (old new : Seen O Key Recon Cond) (seat : ℕ) : Type 0 where
+  pub rows : List RowAt
+  pub journal : new.journal ≡ old.journal ++ sweeps seat rows
+  pub origin : new.origin ≡ old.origin
+  pub grows : Grows old.table new.table
+  pub sweeping : IsSweeping (stage_at old seat) → IsSweeping (stage_at new seat)
+
+-- it swept these rows one after another, and then was closed with this number
+pub record SweepsToEnd {O Key Recon Cond : Type 0} (old new : Seen O Key Recon Cond) (seat swept : ℕ) : Type 0 where
+  pub rows : List RowAt
+  pub journal : new.journal ≡ old.journal ++ (sweeps seat rows ++ CloseVacuum seat swept ∷ [])
+  pub origin : new.origin ≡ old.origin
+  pub grows : Grows old.table new.table
+  pub end : stage_at new seat ≡ free
