@@ -171,9 +171,6 @@ module _ {O Key Recon Cond : Type 0} where
         ∙ ap (λ (l : List (Event O Key Recon Cond)). (last ∷ l) ++ reverse s1.journal) (sweeps_turned seat rows)
         ∙ ap (λ (l : List (Event O Key Recon Cond)). last ∷ sweeps seat (reverse rows) ++ l) (past_with s0.journal s1.journal (OpenVacuum seat) opened_journal)
 
-    pub not_free : (s2 : Seen O Key Recon Cond) → SweepsOn s1 s2 seat → stage_at s2 seat ≡ free → ⊥
-    not_free s2 A idle = subst (λ (x : Stage O Key Recon Cond). IsSweeping x) idle (A.sweeping opened_sweeping)
-
   module _ (m : Meaning Key Recon Cond) (speech : Speech Key Cond) (s0 : Seen O Key Recon Cond) (seat : ℕ) (alone : Bool) (r : Record) where
     pub no_memory : (s1 : Seen O Key Recon Cond) → s1 ≡ s0 → stage_at s0 seat ≡ free → Spans r Memory (length s0.journal) (length s1.journal) → Acts m speech s0 s1 seat alone Vacuum r
     no_memory s1 same idle spans = rests m speech s0 s1 seat alone Vacuum Memory r spans same idle (λ block. inl refl) tt tt (λ q. tt) tt tt

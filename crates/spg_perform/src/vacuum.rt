@@ -15,7 +15,7 @@ use spg_report::{Outcome, Record};
 use spg_rows::Why;
 use spg_script::Spoken;
 
-/// Where no seat has anything open, none has a vacuum open. Nothing is done here.
+/// Where no seat has anything open, this one is free. Nothing is done here.
 fn none_open<O: OpClass>(state: &State<O>, by: SeatNo)
     requires closed { AllClosed (past_of state.now) }
     ensures { stage_at state.now by ≡ free }

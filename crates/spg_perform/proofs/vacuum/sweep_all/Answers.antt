@@ -1,11 +1,12 @@
-use Rattle.std.proofs.Common.{rules, ◌≡◌, ℕ}
-use Rattle.spg_core.specs.declared.answer.VacuumOut.{VacuumOut}
-use Rattle.spg_core.specs.declared.answer.VacuumOut.TheVariants.{Finished}
+use Rattle.std.proofs.Common.{rules}
 use Rattle.spg_perform.proofs.Vacuuming.{IsOpen, sweeps_nothing, sweeps_further, sweeps_out, still_alone, latched_by}
 use Rattle.spg_perform.proofs.vacuum.sweep_all.Goals as goal
 
 pub loop-init : goal.loop-init
 loop-init g c = sweeps_nothing c.args.state.now c.args.seat
+
+pub returns-in-Finished-clause-ok : goal.returns-in-Finished-clause-ok
+returns-in-Finished-clause-ok g c = sweeps_out c.args.state.now c.loop.state c.vacuum_step.new.self c.args.seat c.in_ok-swept.field-0 c.in-Finished.swept c.loop.invariant c.in_ok-swept.ensures.ok c.vacuum_step.ensures.grows c.in-Finished.is
 
 pub only_own-requires-clause-alone : goal.only_own-requires-clause-alone
 only_own-requires-clause-alone g c =

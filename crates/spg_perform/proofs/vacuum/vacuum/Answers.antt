@@ -1,7 +1,7 @@
 use Rattle.std.proofs.Common.{◌≡◌, Result, Ok, Err, OnOk, OnErr, length, subst, ◌∙◌}
 use Rattle.spg_report.specs.declared.outcome.Outcome.TheVariants.{Vacuumed, Memory}
 use Rattle.spg_perform.proofs.Acting.{Spans}
-use Rattle.spg_perform.proofs.Vacuuming.{no_memory, given_memory, vacuumed, not_free}
+use Rattle.spg_perform.proofs.Vacuuming.{no_memory, given_memory, vacuumed}
 use Rattle.spg_perform.proofs.vacuum.vacuum.Goals as goal
 
 on_err_of : {T E : Type 0} {P : Type 0} (r : Result T E) (e : E) → r ≡ Err e → OnErr r P → P
