@@ -9,3 +9,6 @@ pub mod Reading
 pub mod Finding
 pub mod KnownConds
 pub mod OfClass
+pub mod LeadingImages
+pub mod Leading
+pub mod LeadingSave
