@@ -12,3 +12,4 @@ pub mod OfClass
 pub mod LeadingImages
 pub mod Leading
 pub mod LeadingSave
+pub mod LeadingCommand
