@@ -65,7 +65,7 @@ module _ {O Key Recon Cond : Type 0} (m : Meaning Key Recon Cond) (speech : Spee
         let law : CausesGrow O Key Recon Cond = causes_grow O Key Recon Cond in
         let caused : IsCaused origin.limit (sheets_of s1.table) r.outcome = subst (λ (o : Origin). IsCaused o.limit (sheets_of s1.table) r.outcome) made acted.caused in
         subst (λ (j : List (Event O Key Recon Cond)). Causes m origin (sheets_of s1.table) j (tasks ++ t ∷ []) (records ++ r ∷ [])) (sym acted.performed.journal)
-            (law.goes_on m speech origin loaded s0.journal acted.performed.events (sheets_of s0.table) (sheets_of s1.table) tasks records t r run causes acted.grew (due_in origin made) caused acted.prints)
+        (law.goes_on m speech origin loaded s0.journal acted.performed.events (sheets_of s0.table) (sheets_of s1.table) tasks records t r run causes acted.grew (due_in origin made) caused acted.prints)
 
     module _ (code : ℕ) (held held2 : Option Holding) (faults faults2 : ℕ) (outward : Outward m speech code s1.journal (sheets_of s0.table) held held2 faults faults2 t r) (start : Option Holding) (still : StillTell start held) where
       step : StepDone O m speech (ReadsBack code) longer (told_of start held) (told_of start held2) (sheets_of s0.table) (sheets_of s1.table) t r
@@ -75,9 +75,9 @@ module _ {O Key Recon Cond : Type 0} (m : Meaning Key Recon Cond) (speech : Spee
             let same : sheets_of s1.table ≡ sheets_of s0.table = acted.quiet parts.1 in
             (same, subst (λ (S : Sheets). TellsOf O m speech S t.command r.outcome) same (acted.tells parts.0));
         saved = λ name is. (
-            outward.quiet name is,
-            subst (λ (j : List (Event O Key Recon Cond)). SaveGave O m speech (ReadsBack code) (HoldsAt m j) (sheets_of s0.table) r.span.from (told_of start held2 name) r.outcome) acted.performed.journal (outward.saved start still name is),
-          );
+          outward.quiet name is,
+          subst (λ (j : List (Event O Key Recon Cond)). SaveGave O m speech (ReadsBack code) (HoldsAt m j) (sheets_of s0.table) r.span.from (told_of start held2 name) r.outcome) acted.performed.journal (outward.saved start still name is),
+        );
         kept = λ name is. outward.kept start still name is;
         leaf = subst (λ (p : History O Key Recon Cond). LeafIs (present_count p) r.outcome) (sym from_past) acted.leaf;
       }

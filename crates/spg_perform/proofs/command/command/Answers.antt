@@ -16,7 +16,13 @@ goes g c = elim c.match-command.branch [
   | in-Insert w ↦ rw (w.state-is, w.images-is, w.done-is, w.in-Insert.is) (goes_inward g.O.OpClass.meaning g.O.Spoken.speech g.O.OpClass.code_number c.args.seat c.args.state.now w.insert-done.new.state (g.M.Images.held c.args.images.now) (g.M.Images.faults c.args.images.now) c.args.alone _ w.insert-done.result tt (w.insert-done.ensures c.args.alone))
   | in-Delete w ↦ rw (w.state-is, w.images-is, w.done-is, w.in-Delete.is) (goes_inward g.O.OpClass.meaning g.O.Spoken.speech g.O.OpClass.code_number c.args.seat c.args.state.now w.delete-done.new.state (g.M.Images.held c.args.images.now) (g.M.Images.faults c.args.images.now) c.args.alone _ w.delete-done.result tt (w.delete-done.ensures c.args.alone))
   | in-Find w ↦ rw (w.state-is, w.images-is, w.done-is, w.in-Find.is) (goes_inward g.O.OpClass.meaning g.O.Spoken.speech g.O.OpClass.code_number c.args.seat c.args.state.now w.find-done.new.state (g.M.Images.held c.args.images.now) (g.M.Images.faults c.args.images.now) c.args.alone _ w.find-done.result tt w.find-done.ensures)
-  | in-Save w ↦ ?
+  | in-Save w ↦
+      let lane : c.args.alone ≡ false → IsLaneCommand (Save w.in-Save.name) = λ e. subst IsLaneCommand w.in-Save.is (c.requires.can.in_lane e) in
+      let holds : Represents g.O.OpClass.meaning (sheets_of c.args.state.now.table) (IsPresentWith (past_of c.args.state.now)) =
+      subst (λ (s : Seen g.row.O.Denot g.row.O-Key.Denot g.row.O-Recon.Denot g.row.O-Cond.Denot). Represents g.O.OpClass.meaning (sheets_of s.table) (IsPresentWith (past_of s))) w.state-is c.pages.ensures.represents in
+      rw (w.state-is, w.images-is, w.done-is, w.in-Save.is)
+      (goes_saved g.O.OpClass.meaning g.O.Spoken.speech g.O.OpClass.code_number c.args.seat c.args.state.now (g.M.Images.held c.args.images.now) (g.M.Images.held w.saved-done.new.images) (g.M.Images.faults c.args.images.now) (g.M.Images.faults w.saved-done.new.images) c.args.alone _
+      w.saved-done.result lane w.saved-done.ensures.acts w.saved-done.ensures.saved w.saved-done.ensures.faults holds)
   | in-Stat w ↦ rw (w.state-is, w.images-is, w.done-is, w.in-Stat.is) (goes_inward g.O.OpClass.meaning g.O.Spoken.speech g.O.OpClass.code_number c.args.seat c.args.state.now c.args.state.now (g.M.Images.held c.args.images.now) (g.M.Images.faults c.args.images.now) c.args.alone _ w.stat-done.result tt (w.stat-done.ensures c.args.alone))
   | in-Vacuum w ↦ rw (w.state-is, w.images-is, w.done-is, w.in-Vacuum.is) (goes_inward g.O.OpClass.meaning g.O.Spoken.speech g.O.OpClass.code_number c.args.seat c.args.state.now w.vacuum-done.new.state (g.M.Images.held c.args.images.now) (g.M.Images.faults c.args.images.now) c.args.alone _ w.vacuum-done.result tt (w.vacuum-done.ensures c.args.alone))
 ]
