@@ -1,5 +1,5 @@
 -- One command of a seat: from what it did to what all commands so far did.
-use Rattle.std.proofs.Common.{◌≡◌, ◌&&◌, ℕ, Bool, true, false, List, [], ◌∷◌, ◌++◌, length, reverse, Option, refl, sym, ap, ◌∙◌, subst, arith}
+use Rattle.std.proofs.Common.{◌≡◌, ◌&&◌, ℕ, Bool, true, false, List, [], ◌∷◌, ◌++◌, reverse, Option, refl, sym, ap, ◌∙◌, subst, arith}
 use Rattle.std.proofs.lemmas.List.{take_at, take_all}
 use Rattle.spg_base.specs.declared.recorded.Origin.{Origin}
 use Rattle.spg_opclass.specs.Meaning.{Meaning}
@@ -12,19 +12,18 @@ use Rattle.spg_rows.specs.Rows.{present_count}
 use Rattle.spg_tree.specs.Table.{sheets_of}
 use Rattle.spg_core.specs.Stage.{Stage, IsStageOf}
 use Rattle.spg_core.specs.Seen.{Seen, stage_at, past_of}
-use Rattle.spg_script.specs.declared.command.Command.{Command}
 use Rattle.spg_script.specs.Speech.{Speech}
 use Rattle.spg_report.specs.declared.record.Record.{Record}
 use Rattle.spg_histories.specs.Tasks.{Task}
 use Rattle.spg_histories.specs.Run.{Entry, RunOf, past_at}
-use Rattle.spg_histories.specs.Pages.{HoldsAt, present_at}
-use Rattle.spg_histories.specs.Telling.{is_quiet_command, IsQuiet, LeafIs, is_save, TellsOf, TellAll, SaveGave, StepDone}
+use Rattle.spg_histories.specs.Pages.{HoldsAt}
+use Rattle.spg_histories.specs.Telling.{is_quiet_command, LeafIs, TellsOf, TellAll, SaveGave, StepDone}
 use Rattle.spg_histories.specs.Causes.{IsDue, IsDueIn, IsCaused, Causes, CausesGrow}
 use Rattle.spg_histories.proofs.Blocks.{run_goes_on, alone_block}
 use Rattle.spg_histories.proofs.Causes.{causes_grow}
 use Rattle.spg_histories.proofs.Telling.{one_more}
 use Rattle.spg_perform.specs.Acted.{Acted}
-use Rattle.spg_perform.specs.Session.{AllClosed, Outside, told_of, ReadsBack, StillTell, is_image_fault, image_faults, RoseBy, LeadsOn, Session, standing}
+use Rattle.spg_perform.specs.Session.{AllClosed, told_of, ReadsBack, StillTell, is_image_fault, image_faults, RoseBy, LeadsOn, standing}
 use Rattle.spg_perform.proofs.Alone.{closed_again}
 use Rattle.spg_perform.proofs.LeadingImages.{faults_append, rose_then, Outward}
 

@@ -2,8 +2,7 @@ use Rattle.std.proofs.Common.{◌≡◌, false, subst}
 use Rattle.spg_forest.specs.Shape.{Represents}
 use Rattle.spg_tree.specs.Table.{sheets_of}
 use Rattle.spg_core.specs.Seen.{Seen, past_of, IsPresentWith}
-use Rattle.spg_script.specs.declared.command.Command.{Command}
-use Rattle.spg_script.specs.declared.command.Command.TheVariants.{Insert, Delete, Find, Vacuum, Save, Stat}
+use Rattle.spg_script.specs.declared.command.Command.TheVariants.{Save}
 use Rattle.spg_script.specs.Script.{IsLaneCommand}
 use Rattle.spg_perform.proofs.LeadingCommand.{Goes, goes_inward, goes_saved, goes_closed, goes_on}
 use Rattle.spg_perform.proofs.command.command.Given.{Over}
