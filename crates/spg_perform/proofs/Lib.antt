@@ -15,3 +15,7 @@ pub mod Tasks
 pub mod SavingNames
 pub mod Saving
 pub mod Vacuuming
+pub mod LeadingImages
+pub mod Leading
+pub mod LeadingSave
+pub mod LeadingCommand

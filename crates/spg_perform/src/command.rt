@@ -1,8 +1,12 @@
-ghost use Rattle.std.specs.Prelude.{◌++◌, [], ◌∷◌, ℕ, List as Items};
-ghost use Rattle.spg_core.specs.Seen.{past_of};
+ghost use Rattle.std.specs.Prelude.{◌≡◌, ◌++◌, [], ◌∷◌, ℕ, true, List as Items};
+ghost use Rattle.spg_core.specs.Stage.{free};
+ghost use Rattle.spg_core.specs.Seen.{stage_at, past_of};
+ghost use Rattle.spg_script.specs.Line.{is_name};
+ghost use Rattle.spg_script.specs.declared.command.Command.TheVariants as asked;
 ghost use Rattle.spg_report.specs.declared.record.Record.{Record as Done};
-ghost use Rattle.spg_perform.specs.Session.{AllClosed, LeadsOn, standing};
-ghost use Rattle.spg_perform.specs.Acted.{CanBeDone, task_of};
+ghost use Rattle.spg_perform.specs.Session.{AllClosed, LeadsOn, RoseBy, is_image_fault, standing};
+ghost use Rattle.spg_perform.specs.Saved.{IsSaved};
+ghost use Rattle.spg_perform.specs.Acted.{Acts, CanBeDone, task_of};
 
 use crate::delete::delete;
 use crate::find::find;
@@ -11,12 +15,30 @@ use crate::position::{position, recorded};
 use crate::save::save;
 use crate::stat::stat;
 use crate::vacuum::vacuum;
-use spg_base::SeatNo;
+use spg_base::{Bytes, SeatNo};
 use spg_core::State;
 use spg_io::Images;
 use spg_report::Record;
 use spg_script::{Command, Spoken};
 use std::alloc::Global;
+
+/// Saves the pages under a name. The journal is as it was.
+fn saved<O: Spoken, M: Images>(
+    state: &State<O>,
+    images: &mut M,
+    seat: SeatNo,
+    name: &Bytes,
+) -> Record
+    requires free { stage_at state.now seat ≡ free }
+    requires named { is_name name.now ≡ true }
+    ensures acts { Acts O.meaning O.speech state.now state.now seat true (asked.Save name.now) result }
+    ensures saved { IsSaved O.code_number state.now.table (M.held images.old) (M.held images.new) name.now result.outcome }
+    ensures faults { RoseBy (is_image_fault result.outcome) (M.faults images.old) (M.faults images.new) }
+{
+    let from = position(state);
+    let outcome = save(state, images, name);
+    recorded(state, from, outcome)
+}
 
 /// Does one command of a seat.
 pub(crate) fn command<O: Spoken, M: Images>(
@@ -35,16 +57,18 @@ pub(crate) fn command<O: Spoken, M: Images>(
         (task_of block seat alone command.now ∷ []) }
     ensures closed { AllClosed (past_of state.new) }
 {
+    // A seat that has nothing open is free, before and after.
     let _ = state.open_of(seat);
-    match command {
+    let done = match command {
         Command::Insert { row, key } => insert(state, seat, *row, key),
         Command::Delete { row } => delete(state, seat, *row),
         Command::Find { query } => find(alloc, state, seat, alone, query),
-        Command::Save { name } => {
-            let outcome = save(state, images, name);
-            recorded(state, position(state), outcome)
-        }
+        Command::Save { name } => saved(state, images, seat, name),
         Command::Stat => stat(state, seat),
         Command::Vacuum => vacuum(state, seat),
-    }
+    };
+    let _ = state.open_of(seat);
+    let _ = state.journal();
+    let _ = state.pages();
+    done
 }
