@@ -9,3 +9,6 @@ pub mod Reading
 pub mod Finding
 pub mod KnownConds
 pub mod OfClass
+pub mod BlocksTasks
+pub mod Blocks
+pub mod Beginning
