@@ -22,10 +22,10 @@ module _ {O Key Recon Cond : Type 0} (m : Meaning Key Recon Cond) (speech : Spee
   leads_none a = λ loaded origin start tasks s. subst (λ (ts : List Task). Session m speech code loaded origin start a.outside ts a.seen a.records) (sym (append-nil tasks)) s
 
   -- commands that lead on, and then others
-  pub leads_then : (a b c : Standing O Key Recon Cond) (first then_ all : List Task) → all ≡ first ++ then_ → LeadsOn m speech code a b first → LeadsOn m speech code b c then_ → LeadsOn m speech code a c all
-  leads_then a b c first then_ all is one two = λ loaded origin start tasks s.
-      let both : Session m speech code loaded origin start c.outside (tasks ++ (first ++ then_)) c.seen c.records =
-      subst (λ (ts : List Task). Session m speech code loaded origin start c.outside ts c.seen c.records) (append_assoc tasks first then_) (two loaded origin start (tasks ++ first) (one loaded origin start tasks s)) in
+  pub leads_then : (a b c : Standing O Key Recon Cond) (first more all : List Task) → all ≡ first ++ more → LeadsOn m speech code a b first → LeadsOn m speech code b c more → LeadsOn m speech code a c all
+  leads_then a b c first more all is one two = λ loaded origin start tasks s.
+      let both : Session m speech code loaded origin start c.outside (tasks ++ (first ++ more)) c.seen c.records =
+      subst (λ (ts : List Task). Session m speech code loaded origin start c.outside ts c.seen c.records) (append_assoc tasks first more) (two loaded origin start (tasks ++ first) (one loaded origin start tasks s)) in
       subst (λ (ts : List Task). Session m speech code loaded origin start c.outside (tasks ++ ts) c.seen c.records) (sym is) both
 
   pub lane_leads : (a b c : Standing O Key Recon Cond) (seat : ℕ) (alone : Bool) (commands : List Command) (i : ℕ) (d : Command) → i < length commands → d ≡ get_or commands i d
