@@ -10,5 +10,5 @@ pub mod Finding
 pub mod KnownConds
 pub mod OfClass
 pub mod BlocksTasks
-pub mod Blocks
+pub mod BlocksLeading
 pub mod Beginning
