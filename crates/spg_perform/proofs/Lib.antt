@@ -19,3 +19,6 @@ pub mod LeadingImages
 pub mod Leading
 pub mod LeadingSave
 pub mod LeadingCommand
+pub mod BlocksTasks
+pub mod BlocksLeading
+pub mod Beginning
