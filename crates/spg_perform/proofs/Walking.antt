@@ -20,6 +20,7 @@ use Rattle.spg_scan.specs.Scanning.{Scanning, replaced}
 use Rattle.spg_scan.specs.Reading.{ReadsSpot, Reads, followed_at, met_of}
 use Rattle.spg_scan.specs.Reading as read
 use Rattle.spg_scan.specs.Rest.{IsAtRest, places_of, to_meet}
+use Rattle.spg_scan.specs.declared.walk.ReadOut.{ReadOut}
 use Rattle.spg_scan.specs.declared.walk.ReadOut.TheVariants.{Read}
 use Rattle.spg_scan.proofs.CoverLists.{around, at_right}
 use Rattle.spg_scan.proofs.CoverNodes.{child_from}
@@ -35,7 +36,7 @@ sum_same f g [] h = refl
 sum_same f g (x ∷ xs) h = let a = h 0 x refl in let b = sum_same f g xs (λ i y e. h (suc i) y e) in omega (arith, a, b)
 
 sum_append : {X : Type 0} (f : X → ℕ) (xs ys : List X) → sum_of f (xs ++ ys) ≡ sum_of f xs + sum_of f ys
-sum_append f [] ys = refl
+sum_append f [] ys = omega arith
 sum_append f (x ∷ xs) ys = let a = sum_append f xs ys in omega (arith, a)
 
 -- where fewer take the place of one, the sum falls
@@ -139,13 +140,14 @@ module _ {O Key Recon Cond : Type 0} (m : Meaning Key Recon Cond) where
   fewer_at s1 s2 seat item free H rest is = absurd is
   fewer_at s1 s2 seat item (descending key d) H rest is = absurd is
   fewer_at s1 s2 seat item (sweeping v) H rest is = absurd is
-  fewer_at s1 s2 seat item (reading s) H (query, asked, few, rest) (z, table, states, (is_free, R), new, stage) =
+  fewer_at s1 s2 seat item (reading s) H (query, (asked, few, rest)) (z, table, states, (is_free, R), new, stage) =
       subst (λ (x : Stage O Key Recon Cond). reads_left m (sheets_of s1.table) x < reads_left m (sheets_of s1.table) (reading s)) (sym stage) (read_falls (sheets_of s1.table) table s z item H rest R)
 
   -- after reads of a scan at rest, one more leaves fewer
-  pub fewer_left : (s0 s1 s2 : Seen O Key Recon Cond) (seat item : ℕ) → Shape m (sheets_of s0.table) → IsRestingFor m (sheets_of s0.table) (stage_at s0 seat) → ReadsOn m s0 s1 seat → ReadsItem m s1 s2 seat item Read → reads_left m (sheets_of s0.table) (stage_at s2 seat) < reads_left m (sheets_of s0.table) (stage_at s1 seat)
-  fewer_left s0 s1 s2 seat item H (query, rest) R is =
+  pub fewer_left : (s0 s1 s2 : Seen O Key Recon Cond) (seat item : ℕ) (out : ReadOut) → Shape m (sheets_of s0.table) → IsRestingFor m (sheets_of s0.table) (stage_at s0 seat) → ReadsOn m s0 s1 seat → ReadsItem m s1 s2 seat item out → out ≡ Read →
+      reads_left m (sheets_of s0.table) (stage_at s2 seat) < reads_left m (sheets_of s0.table) (stage_at s1 seat)
+  fewer_left s0 s1 s2 seat item out H (query, rest) R is read =
       let same : sheets_of s0.table ≡ sheets_of s1.table = sym R.pages.0 in
       let now : IsRestingFor m (sheets_of s1.table) (stage_at s1 seat) = subst (λ (S : Sheets). IsRestingFor m S (stage_at s1 seat)) same (query, R.scan query rest) in
-      let fell = fewer_at s1 s2 seat item (stage_at s1 seat) (subst (λ (S : Sheets). Shape m S) same H) now is in
+      let fell = fewer_at s1 s2 seat item (stage_at s1 seat) (subst (λ (S : Sheets). Shape m S) same H) now (subst (λ (o : ReadOut). ReadsItem m s1 s2 seat item o) read is) in
       subst (λ (S : Sheets). reads_left m S (stage_at s2 seat) < reads_left m S (stage_at s1 seat)) R.pages.0 fell
