@@ -14,7 +14,7 @@ use Rattle.spg_forest.specs.Walk.{followed}
 use Rattle.spg_forest.specs.Ranks.{IsRankedAt, IsRanked, most_sections}
 use Rattle.spg_forest.proofs.Ranks.{each_is_ranked, ranked_branch}
 use Rattle.spg_rows.specs.Table as rows
-use Rattle.spg_tree.specs.Table.{Table, sheets_of}
+use Rattle.spg_tree.specs.Table.{sheets_of}
 use Rattle.spg_scan.specs.Items.{Item, held, inner, leaves, IsItem, hold_all}
 use Rattle.spg_scan.specs.Scanning.{Scanning, replaced}
 use Rattle.spg_scan.specs.Reading.{ReadsSpot, Reads, followed_at, met_of}

@@ -30,7 +30,7 @@ fn held<O: Spoken>(state: &State<O>, seat: SeatNo) -> usize
 }
 
 /// Reads what a scan holds, the last item first, until it holds nothing. No other seat has anything
-/// open.
+/// open, so the pages stay as they are, and each read leaves fewer to do.
 fn read_on<O: Spoken>(state: &mut State<O>, seat: SeatNo) -> Result<(), Memory>
     requires alone { (other : ℕ) → other ≢ seat → open_of other (past_of state.old) ≡ nothing }
     requires scanning { IsScanning (stage_at state.old seat) }

@@ -1,4 +1,4 @@
-use Rattle.std.proofs.Common.{rules, ◌≡◌, length, refl, sym, ◌∙◌}
+use Rattle.std.proofs.Common.{length, refl, sym, ◌∙◌}
 use Rattle.spg_report.specs.declared.outcome.Outcome.TheVariants.{Found, Memory}
 use Rattle.spg_perform.proofs.Acting.{Spans}
 use Rattle.spg_perform.proofs.Finding.{no_memory, found}
