@@ -1,6 +1,6 @@
 -- A find.
 use Rattle.std.specs.Prelude.{is_some, if◌then◌else◌}
-use Rattle.std.proofs.Common.{◌≡◌, ◌+◌, inl, inr, ℕ, Bool, true, false, List, [], ◌∷◌, ◌++◌, length, reverse, Option, Some, None, refl, sym, ap, ◌∙◌, subst, arith}
+use Rattle.std.proofs.Common.{◌≡◌, ◌+◌, inl, inr, ℕ, Bool, true, false, List, [], ◌∷◌, ◌++◌, length, Option, Some, None, refl, sym, ap, ◌∙◌, subst, arith}
 use Rattle.spg_opclass.specs.Meaning.{Meaning}
 use Rattle.spg_opclass.specs.declared.query.Query.{Query}
 use Rattle.spg_forest.specs.Classes.{down_of}
@@ -10,7 +10,7 @@ use Rattle.spg_forest.specs.Walk.{Met, Walk, followed}
 use Rattle.spg_rows.specs.declared.event.Event.{Event}
 use Rattle.spg_rows.specs.declared.event.Event.TheVariants.{OpenScan, CloseScan, Leave}
 use Rattle.spg_rows.specs.declared.event.Why.TheVariants as why
-use Rattle.spg_tree.specs.Table.{Table, sheets_of}
+use Rattle.spg_tree.specs.Table.{sheets_of}
 use Rattle.spg_scan.specs.Items.{Item}
 use Rattle.spg_scan.specs.Scanning.{counted}
 use Rattle.spg_scan.specs.Rest.{to_meet}

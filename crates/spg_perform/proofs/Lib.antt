@@ -6,6 +6,7 @@ pub mod Acting
 pub mod Deleting
 pub mod Inserting
 pub mod Reading
+pub mod Walking
 pub mod Finding
 pub mod KnownConds
 pub mod OfClass

@@ -1,24 +1,20 @@
 -- Reads of a scan, one after another.
-use Rattle.std.proofs.Common.{◌≡◌, ◌+◌, ℕ, List, refl, sym, ap, ◌∙◌, subst, arith}
+use Rattle.std.proofs.Common.{◌≡◌, ◌+◌, ℕ, refl, sym, ap, ◌∙◌, subst, arith}
 use Rattle.spg_opclass.specs.Meaning.{Meaning}
 use Rattle.spg_opclass.specs.declared.query.Query.{Query}
-use Rattle.spg_forest.specs.Classes.{down_of}
 use Rattle.spg_forest.specs.Sheets.{Sheets}
-use Rattle.spg_forest.specs.Shape.{Shape, spots}
-use Rattle.spg_forest.specs.Walk.{Met, Walk, followed}
+use Rattle.spg_forest.specs.Shape.{Shape}
 use Rattle.spg_rows.specs.Table as rows
 use Rattle.spg_tree.specs.Table.{Table, sheets_of}
-use Rattle.spg_scan.specs.Items.{Item}
 use Rattle.spg_scan.specs.Scanning.{Scanning, counted}
 use Rattle.spg_scan.specs.Reading.{IsReadOut, met_of}
-use Rattle.spg_scan.specs.Rest.{to_meet}
 use Rattle.spg_scan.specs.declared.walk.ReadOut.{ReadOut}
 use Rattle.spg_scan.specs.declared.walk.ReadOut.TheVariants.{Read, Latched}
 use Rattle.spg_scan.proofs.RestLaws.{opens_at_rest, reads_at_rest}
 use Rattle.spg_core.specs.Stage.{Stage, free, descending, reading, sweeping}
 use Rattle.spg_core.specs.Seen.{Seen, stage_at}
-use Rattle.spg_core.specs.Sections.{ReadsFor, ReadsItem, HasMet, OpensScan}
-use Rattle.spg_perform.specs.Underway.{IsScanning, IsRestingScan, ReadsOn}
+use Rattle.spg_core.specs.Sections.{ReadsFor, ReadsItem, OpensScan}
+use Rattle.spg_perform.specs.Underway.{IsScanning, IsRestingScan, IsRestingFor, ReadsOn}
 
 counted_twice : (n : ℕ) → counted (counted n) ≡ counted n
 counted_twice n = omega arith
@@ -60,6 +56,9 @@ module _ {O Key Recon Cond : Type 0} (m : Meaning Key Recon Cond) where
 
   pub opens_resting : (s0 s1 : Seen O Key Recon Cond) (seat : ℕ) (query : Query O Key Recon Cond) → Shape m (sheets_of s1.table) → OpensScan m s0 s1 seat query → IsRestingScan m (sheets_of s1.table) query (stage_at s1 seat)
   opens_resting s0 s1 seat query H is = subst (λ (x : Stage O Key Recon Cond). IsRestingScan m (sheets_of s1.table) query x) (sym is.1) (refl, refl, opens_at_rest m (sheets_of s1.table) query _ _ H)
+
+  pub opens_resting_for : (s0 s1 : Seen O Key Recon Cond) (seat : ℕ) (query : Query O Key Recon Cond) → Shape m (sheets_of s1.table) → OpensScan m s0 s1 seat query → IsRestingFor m (sheets_of s1.table) (stage_at s1 seat)
+  opens_resting_for s0 s1 seat query H is = (query, opens_resting s0 s1 seat query H is)
 
   pub opens_scanning : (s0 s1 : Seen O Key Recon Cond) (seat : ℕ) (query : Query O Key Recon Cond) → OpensScan m s0 s1 seat query → IsScanning (stage_at s1 seat)
   opens_scanning s0 s1 seat query is = subst (λ (x : Stage O Key Recon Cond). IsScanning x) (sym is.1) tt

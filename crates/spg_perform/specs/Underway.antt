@@ -1,13 +1,19 @@
 -- How far the command of a seat has come.
-use Rattle.std.specs.Prelude.{◌≡◌, ◌<◌, ◌++◌, ℕ, List, [], ◌∷◌, is_none, Option, ⊤}
+use Rattle.std.specs.Prelude.{◌≡◌, ◌<◌, ◌+◌, ◌++◌, ℕ, zero, suc, List, [], ◌∷◌, is_none, Option, ⊤}
 use Rattle.spg_base.specs.Row.{RowAt}
 use Rattle.spg_opclass.specs.Meaning.{Meaning}
 use Rattle.spg_opclass.specs.declared.query.Query.{Query}
+use Rattle.spg_forest.specs.View.{Place}
+use Rattle.spg_forest.specs.Spot.{Spot, Branch}
 use Rattle.spg_forest.specs.Sheets.{Sheets}
+use Rattle.spg_forest.specs.Shape.{spots}
+use Rattle.spg_forest.specs.Ranks.{most_sections}
 use Rattle.spg_forest.specs.Walk.{weight_of}
 use Rattle.spg_rows.specs.declared.event.Event.TheVariants.{CloseVacuum}
 use Rattle.spg_tree.specs.Table.{sheets_of}
+use Rattle.spg_scan.specs.Items.{Item, held, inner, leaves}
 use Rattle.spg_scan.specs.Scanning.{counted}
+use Rattle.spg_scan.specs.Reading.{followed_at}
 use Rattle.spg_scan.specs.Rest.{IsAtRest}
 use Rattle.spg_seats.specs.Opening.{sweeps}
 use Rattle.spg_core.specs.Stage.{Stage, free, descending, reading, sweeping, IsRead, IsSweeping}
@@ -62,3 +68,35 @@ pub record SweepsToEnd {O Key Recon Cond : Type 0} (old new : Seen O Key Recon C
   pub origin : new.origin ≡ old.origin
   pub grows : Grows old.table new.table
   pub end : stage_at new seat ≡ free
+
+-- ---- a scan comes to its end
+
+-- some query's scan over pages at rest
+abbrev pub IsRestingFor : {O Key Recon Cond : Type 0} → Meaning Key Recon Cond → Sheets → Stage O Key Recon Cond → Type 0
+IsRestingFor {O} {Key} {Recon} {Cond} m S stage = (query : Query O Key Recon Cond) × IsRestingScan m S query stage
+
+abbrev pub sum_of : {X : Type 0} → (X → ℕ) → List X → ℕ
+sum_of f [] = 0
+sum_of f (x ∷ xs) = f x + sum_of f xs
+
+-- a read of what stands at a place, and all reads below it, where `below` tells those of a child
+abbrev pub spot_reads : {O Key Recon Cond : Type 0} → Meaning Key Recon Cond → Query O Key Recon Cond → (Place × Option Recon → ℕ) → Option Recon → Spot → ℕ
+spot_reads m query below r (Branch w ns) = suc (sum_of below (followed_at m query r w ns))
+spot_reads m query below r _ = 1
+
+-- how many reads the query makes from a place on, where no way down from it is longer than n
+abbrev pub place_reads : {O Key Recon Cond : Type 0} → Meaning Key Recon Cond → (Place → Spot) → Query O Key Recon Cond → ℕ → Place × Option Recon → ℕ
+place_reads m V query zero y = 1
+place_reads m V query (suc n) y = spot_reads m query (place_reads m V query n) y.1 (V y.0)
+
+abbrev pub item_reads : {O Key Recon Cond : Type 0} → Meaning Key Recon Cond → (Place → Spot) → Query O Key Recon Cond → ℕ → Item Recon → ℕ
+item_reads m V query n (held x r) = place_reads m V query n (x, r)
+item_reads m V query n (inner q w ns) = suc (sum_of (place_reads m V query n) (followed_at m query q w ns))
+item_reads m V query n (leaves q ls) = 1
+
+-- how many reads are left of a scan while the pages stay as they are
+abbrev pub reads_left : {O Key Recon Cond : Type 0} → Meaning Key Recon Cond → Sheets → Stage O Key Recon Cond → ℕ
+reads_left m S free = 0
+reads_left m S (descending key d) = 0
+reads_left m S (reading s) = sum_of (item_reads m (spots S) s.query (most_sections S)) s.items
+reads_left m S (sweeping v) = 0

@@ -8,7 +8,7 @@ ghost use Rattle.spg_script.specs.Speech.{IsKnown};
 ghost use Rattle.spg_script.specs.declared.command.Command.TheVariants.{Find};
 ghost use Rattle.spg_perform.specs.Acted.{Acts};
 ghost use Rattle.spg_perform.specs.Session.{AllClosed};
-ghost use Rattle.spg_perform.specs.Underway.{IsScanning, ReadsOn, ReadsToEnd};
+ghost use Rattle.spg_perform.specs.Underway.{IsScanning, IsRestingFor, ReadsOn, ReadsToEnd};
 
 use crate::asking::query_in;
 use crate::position::{only_own, position, recorded};
@@ -30,17 +30,16 @@ fn held<O: Spoken>(state: &State<O>, seat: SeatNo) -> usize
 }
 
 /// Reads what a scan holds, the last item first, until it holds nothing. No other seat has anything
-/// open.
+/// open, so the pages stay as they are, and each read leaves fewer to do.
 fn read_on<O: Spoken>(state: &mut State<O>, seat: SeatNo) -> Result<(), Memory>
     requires alone { (other : ℕ) → other ≢ seat → open_of other (past_of state.old) ≡ nothing }
     requires scanning { IsScanning (stage_at state.old seat) }
+    requires resting { IsRestingFor O.meaning (sheets_of state.old.table) (stage_at state.old seat) }
     requires shape { Shape O.meaning (sheets_of state.old.table) }
     ensures ok { OnOk result (ReadsToEnd O.meaning state.old state.new seat) }
     ensures err { OnErr result (ReadsOn O.meaning state.old state.new seat) }
 {
-    // No clause of a read says that a scan comes to its end, so the loop has a bound, which no run
-    // reaches.
-    for _ in 0..u64::MAX {
+    loop {
         let held = held(state, seat);
         if held == 0 {
             return Ok(());
@@ -53,7 +52,6 @@ fn read_on<O: Spoken>(state: &mut State<O>, seat: SeatNo) -> Result<(), Memory>
             }
         }
     }
-    Err(Memory)
 }
 
 /// How many tuples a scan met, which is told outside lanes.

@@ -1,7 +1,8 @@
-use Rattle.std.proofs.Common.{rules, ◌≡◌, length, refl, sym, ◌∙◌}
+use Rattle.std.proofs.Common.{length, refl, sym, ◌∙◌}
 use Rattle.spg_report.specs.declared.outcome.Outcome.TheVariants.{Found, Memory}
 use Rattle.spg_perform.proofs.Acting.{Spans}
 use Rattle.spg_perform.proofs.Finding.{no_memory, found}
+use Rattle.spg_perform.proofs.Reading.{opens_resting_for}
 use Rattle.spg_perform.proofs.find.find.Goals as goal
 
 pub returns-in-Err : goal.returns-in-Err
@@ -9,6 +10,10 @@ returns-in-Err g c =
     let spans : Spans c.recorded.result Memory (length c.args.state.now.journal) (length c.args.state.now.journal) =
     record { outcome_is = c.recorded.ensures.outcome; from_is = c.recorded.ensures.from ∙ c.position-from.ensures.count; to_is = c.recorded.ensures.to } in
     no_memory g.O.OpClass.meaning g.O.Spoken.speech c.args.state.now c.args.seat c.args.alone c.args.query.now c.recorded.result c.args.state.now refl c.requires.free spans
+
+pub read_on-requires-clause-resting : goal.read_on-requires-clause-resting
+read_on-requires-clause-resting g c =
+    opens_resting_for g.O.OpClass.meaning c.args.state.now c.open_scan.new.self c.args.seat c.in-Ok-Some.query c.pages.ensures.represents.shape c.in-Ok.ensures.ok
 
 pub returns-in_default : goal.returns-in_default
 returns-in_default g c =
