@@ -199,13 +199,11 @@ impl<W: Write + Drop> OutputSink<W> {
         ensures memory { IsErrOf result IoRefused.Memory → ⊥ }
         ensures ok { OnOk result (self.new.faults ≡ self.old.faults) }
     {
-        match self.writer.flush() {
-            Ok(()) => Ok(()),
-            Err(_) => {
-                self.faults = self.faults.saturating_add(1);
-                Err(IoRefused::Failed)
-            }
+        if self.writer.flush().is_ok() {
+            return Ok(());
         }
+        self.faults = self.faults.saturating_add(1);
+        Err(IoRefused::Failed)
     }
 }
 
