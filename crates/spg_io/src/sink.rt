@@ -1,7 +1,7 @@
-ghost use Rattle.std.specs.Prelude.{◌≡◌, ◌<◌, ◌≤◌, ℕ, List as Items, length, [], Some, IfOk, IsErrOf, ⊤};
+ghost use Rattle.std.specs.Prelude.{◌≡◌, ◌<◌, ◌≤◌, ℕ, List as Items, length, [], Some, IfOk, OnOk, IsErrOf, ⊤};
 ghost use Rattle.std.specs.declared.result.Result.{Result};
 ghost use Rattle.std.specs.declared.option.Option.{Option};
-ghost use Rattle.std.specs.Io.KnownBytes.{WriteAppends};
+ghost use Rattle.std.specs.Io.KnownBytes.{Keeps, WriteAppends};
 ghost use Rattle.spg_io.specs.Causes.{HasCauseIfFailed};
 ghost use Rattle.spg_io.specs.Calls.{no_calls};
 ghost use Rattle.spg_io.specs.Writes.{PlainWrite, FaultyWrite, OutputWrite};
@@ -190,6 +190,20 @@ impl<W: Write + Drop> OutputSink<W> {
         ensures faults { result.faults ≡ 0 }
     {
         OutputSink { writer, faults: 0 }
+    }
+
+    /// Hands on what the writer holds back. Where that fails, it is a fault; no call answers `Memory`.
+    pub fn finish(&mut self) -> Result<(), IoRefused>
+        ensures bytes { Keeps (W.contents self.old.writer) (W.contents self.new.writer) }
+        ensures cause { HasCauseIfFailed self.old.faults self.new.faults result }
+        ensures memory { IsErrOf result IoRefused.Memory → ⊥ }
+        ensures ok { OnOk result (self.new.faults ≡ self.old.faults) }
+    {
+        if self.writer.flush().is_ok() {
+            return Ok(());
+        }
+        self.faults = self.faults.saturating_add(1);
+        Err(IoRefused::Failed)
     }
 }
 
