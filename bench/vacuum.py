@@ -4,7 +4,8 @@
 Three questions: how many rows a second a vacuum sweeps where a third of the rows are deleted; what a vacuum costs that
 has nothing to sweep, for each page of the index; and whether pages that a vacuum emptied are taken again, told by the
 number of pages after each of ten rounds of insert all, delete all, vacuum. Times are of the processor, each the
-difference of two runs.
+difference of two runs. A swept row's time has the printing of its event in it. One vacuum with nothing to sweep is over
+too soon to be told from what runs differ by, so there are many.
 """
 
 import argparse
@@ -13,6 +14,9 @@ import random
 import points
 import texts
 import timing
+
+# How many vacuums with nothing to sweep are timed together.
+IDLE = 500
 
 
 def keys(index_class, count, rng):
@@ -35,10 +39,13 @@ def a_third(options, index_class, values):
     program = [options.program, "run"]
     script = timing.inserts(index_class, values)
     deletes = [b"delete " + row(i) for i in range(0, len(values), 3)]
-    before, _ = timing.run(program, script + deletes, options.repeats)
-    after, _ = timing.run(program, script + deletes + [b"vacuum"], options.repeats)
-    idle, text = timing.run(program, script + deletes + [b"vacuum"] * 11 + [b"stat"], options.repeats)
-    return (after - before) / len(deletes), (idle - after) / 10 / pages(text)[0]
+    before, _ = timing.run(program, script + deletes + [b"stat"], options.repeats)
+    after, text = timing.run(program, script + deletes + [b"vacuum", b"stat"], options.repeats)
+    assert text.count(b" added\n") == len(values), "not all keys were added"
+    assert b" vacuumed %d\n" % len(deletes) in text, "not all deleted rows were swept"
+    idle, text = timing.run(program, script + deletes + [b"vacuum", b"stat"] + [b"vacuum"] * IDLE, options.repeats)
+    assert text.count(b" vacuumed 0\n") == IDLE, "a later vacuum swept a row"
+    return (after - before) / len(deletes), (idle - after) / IDLE / pages(text)[0]
 
 
 def rounds(options, index_class, values):
@@ -47,7 +54,9 @@ def rounds(options, index_class, values):
     for _ in range(10):
         script += timing.inserts(index_class, values)[1:]
         script += [b"delete " + row(i) for i in range(len(values))] + [b"vacuum", b"stat"]
-    return pages(timing.run([options.program, "run"], script, 1)[1])
+    _, text = timing.run([options.program, "run"], script, 1)
+    assert text.count(b" vacuumed %d\n" % len(values)) == 10, "a round did not sweep all its rows"
+    return pages(text)
 
 
 def main():

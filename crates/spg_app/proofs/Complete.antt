@@ -16,11 +16,8 @@ use Rattle.spg_histories.specs.declared.status.Status.TheVariants.{Done, Usage, 
 use Rattle.spg_perform.specs.Session.{is_image_fault, image_faults, RoseBy}
 use Rattle.spg_app.specs.declared.end_state.EndState.{EndState}
 use Rattle.spg_app.specs.declared.end_state.EndState.TheVariants as state
-use Rattle.spg_app.specs.declared.stream.TheConstants.{LONGEST}
-use Rattle.spg_app.specs.Io.{ReadMore}
-use Rattle.spg_app.specs.Words.{IsRunLine}
 use Rattle.spg_app.specs.Ending.{Outlets}
-use Rattle.spg_app.specs.Headline.{Streams, GaveScript, GaveNoScript, IsBadScript, IsRefusal, EndsRun, IsRun, HoldsScript, HoldsNoScript, NoFault}
+use Rattle.spg_app.specs.Headline.{Streams, GaveScript, IsBadScript, EndsRun, IsRun, HoldsScript, HoldsNoScript, NoFault}
 use Rattle.spg_script.proofs.Scripts.{exact}
 
 -- ---- what a source that tells its bytes gave

@@ -2,22 +2,22 @@ use crate::program::{Ended, Fails, no_fails, ran, run_word};
 use spg_app::Status;
 use std::test::Fail;
 
-/// A town: houses of which one is pulled down, and the pages saved.
+/// A town: houses of which one is pulled down, its entry swept, and the pages saved.
 const TOWN: &[u8] =
-    b"class radix\ninsert 0.1 \"12 High Street, Oxford\"\ninsert 0.2 \"14 High Street, Oxford\"\ninsert 0.3 \"3 Mill Lane, Ely\"\ninsert 0.4 null\nfind where starts \"1\"\ndelete 0.2\nfind where starts \"1\"\nfind all\nsave town\n";
+    b"class radix\ninsert 0.1 \"12 High Street, Oxford\"\ninsert 0.2 \"14 High Street, Oxford\"\ninsert 0.3 \"3 Mill Lane, Ely\"\ninsert 0.4 null\nfind where starts \"1\"\ndelete 0.2\nfind where starts \"1\"\nvacuum\nfind all\nsave town\n";
 
 /// The text of its run up to the result of `save`.
 const BEFORE: &[u8] =
-    b"1 0 2 added\n2 2 4 added\n3 4 6 added\n4 6 8 added\n5 8 10 found 2 walk 3 0.1 0.2\n6 10 11 killed\n7 11 13 found 1 walk 3 0.1\n8 13 15 found 3 walk 4 0.1 0.3 0.4\n";
+    b"1 0 2 added\n2 2 4 added\n3 4 6 added\n4 6 8 added\n5 8 10 found 2 walk 3 0.1 0.2\n6 10 11 killed\n7 11 13 found 1 walk 3 0.1\n8 13 16 vacuumed 1\n9 16 18 found 3 walk 3 0.1 0.3 0.4\n";
 
 /// The result of `save`, and where the images fail.
-const SAVED: &[u8] = b"9 15 15 saved 3\n";
+const SAVED: &[u8] = b"10 18 18 saved 3\n";
 
-const FAULT: &[u8] = b"9 15 15 image fault\n";
+const FAULT: &[u8] = b"10 18 18 image fault\n";
 
 /// The text of its run behind the result of `save`.
 const BEHIND: &[u8] =
-    b"journal 15\n0 0 open insert 0.1 \"12 High Street, Oxford\"\n1 0 put 0.1\n2 0 open insert 0.2 \"14 High Street, Oxford\"\n3 0 put 0.2\n4 0 open insert 0.3 \"3 Mill Lane, Ely\"\n5 0 put 0.3\n6 0 open insert 0.4 null\n7 0 put 0.4\n8 0 open scan where starts \"1\"\n9 0 close scan 2\n10 0 kill 0.2\n11 0 open scan where starts \"1\"\n12 0 close scan 1\n13 0 open scan all\n14 0 close scan 3\n";
+    b"journal 18\n0 0 open insert 0.1 \"12 High Street, Oxford\"\n1 0 put 0.1\n2 0 open insert 0.2 \"14 High Street, Oxford\"\n3 0 put 0.2\n4 0 open insert 0.3 \"3 Mill Lane, Ely\"\n5 0 put 0.3\n6 0 open insert 0.4 null\n7 0 put 0.4\n8 0 open scan where starts \"1\"\n9 0 close scan 2\n10 0 kill 0.2\n11 0 open scan where starts \"1\"\n12 0 close scan 1\n13 0 open vacuum\n14 0 sweep 0.2\n15 0 close vacuum 1\n16 0 open scan all\n17 0 close scan 3\n";
 
 fn town(rt: &HostRuntime, fails: Fails) -> Result<Ended, Fail> {
     ran(rt, &run_word(), TOWN, fails)

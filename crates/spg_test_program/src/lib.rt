@@ -2,9 +2,15 @@
 #![tactic(auto)]
 
 #[cfg(test)]
+mod every_line;
+#[cfg(test)]
 mod faults;
 #[cfg(test)]
+mod long_texts;
+#[cfg(test)]
 mod program;
+#[cfg(test)]
+mod rounds;
 #[cfg(test)]
 mod rows;
 #[cfg(test)]

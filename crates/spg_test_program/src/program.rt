@@ -1,7 +1,7 @@
 use spg_app::{Status, run};
 use spg_base::{Bytes, List};
 use spg_io::{FaultyImages, FaultySink, FaultySource};
-use std::alloc::AllocError;
+use std::alloc::{AllocError, Global};
 use std::test::Fail;
 
 /// The most bytes of a read.
@@ -68,4 +68,20 @@ pub(crate) fn ran(
         text: sink.taken().to_vec(rt.alloc())?,
         images,
     })
+}
+
+/// Lines with their ends.
+pub(crate) fn joined(alloc: Global, lines: &[&str]) -> Result<String, AllocError> {
+    let mut text = String::new(alloc);
+    for line in lines {
+        text.push_str(line)?;
+        text.push_str("\n")?;
+    }
+    Ok(text)
+}
+
+/// Runs the program on a script of these lines.
+pub(crate) fn ran_lines(rt: &HostRuntime, lines: &[&str]) -> Result<Ended, Fail> {
+    let script = joined(rt.alloc(), lines)?;
+    ran(rt, &run_word(), script.as_bytes(), no_fails())
 }

@@ -23,7 +23,7 @@ struct Filled {
     ends: &'static [Line],
 }
 
-const FILLED: [Filled; 9] = [
+const FILLED: [Filled; 11] = [
     Filled {
         words: &["run"],
         class: "quad",
@@ -178,6 +178,59 @@ const FILLED: [Filled; 9] = [
             ("journal 584", NONE, ""),
         ],
     },
+    // A row whose insert was given up may be inserted again.
+    Filled {
+        words: &["run", "--limit", "5"],
+        class: "quad",
+        count: 292,
+        odd: "N,0",
+        even: "N,0",
+        behind: "insert 1.292 null\ninsert 1.292 0,0\nfind null\nstat\n",
+        ends: &[
+            ("292 582 584 full", NONE, ""),
+            ("293 584 586 added", NONE, ""),
+            ("294 586 586 row used", NONE, ""),
+            ("295 586 588 found 1 walk 1", (292, 292, 1), ""),
+            (
+                "296 588 588 stat pages 4 inner 1 leaf 292 redirect 0 dead 0 placeholder 0 clock 0",
+                NONE,
+                "",
+            ),
+        ],
+    },
+    // A vacuum sweeps two chains and lets a redirect go; a swept row is inserted again.
+    Filled {
+        words: &["run"],
+        class: "quad",
+        count: 300,
+        odd: "0,0",
+        even: "0,0",
+        behind: "delete 1.1\ndelete 1.300\nstat\nvacuum\nstat\ninsert 1.1 0,0\nvacuum\nfind all\nstat\n",
+        ends: &[
+            ("300 598 600 added", NONE, ""),
+            ("301 600 601 killed", NONE, ""),
+            ("302 601 602 killed", NONE, ""),
+            (
+                "303 602 602 stat pages 5 inner 1 leaf 300 redirect 1 dead 0 placeholder 29 clock 1",
+                NONE,
+                "",
+            ),
+            ("304 602 606 vacuumed 2", NONE, ""),
+            (
+                "305 606 606 stat pages 5 inner 1 leaf 298 redirect 0 dead 0 placeholder 31 clock 1",
+                NONE,
+                "",
+            ),
+            ("306 606 608 added", NONE, ""),
+            ("307 608 610 vacuumed 0", NONE, ""),
+            ("308 610 612 found 299 walk 300", (1, 299, 1), ""),
+            (
+                "309 612 612 stat pages 5 inner 1 leaf 299 redirect 0 dead 0 placeholder 30 clock 1",
+                NONE,
+                "",
+            ),
+        ],
+    },
 ];
 
 fn push_inserts(alloc: Global, script: &mut String, filled: &Filled) -> Result<(), AllocError> {
@@ -208,7 +261,7 @@ fn line_of(alloc: Global, line: Line) -> Result<String, AllocError> {
     let (start, (from, to, apart), end) = line;
     let mut told = String::from_str(alloc, start)?;
     for number in from..=to {
-        if (number - from) % apart == 0 {
+        if (number - from).checked_rem(apart) == Some(0) {
             let row = format!(in alloc; " 1.{number}")?;
             told.push_str(row.as_str())?;
         }
@@ -223,51 +276,12 @@ fn fills_pages(rt: HostRuntime) -> Result<(), Fail> {
         let script = script_of(rt.alloc(), filled)?;
         let ended = ran(&rt, filled.words, script.as_bytes(), no_fails())?;
         assert_eq!(rt; ended.status, Status::Done);
-        let before = usize::from(filled.count) - 1;
+        let before = usize::from(filled.count).saturating_sub(1);
         let mut lines = ended.text.as_slice().split(|b| *b == b'\n').skip(before);
         for line in filled.ends {
             let line = line_of(rt.alloc(), *line)?;
             assert_eq!(rt; lines.next(), Some(line.as_bytes()));
         }
     }
-    Ok(())
-}
-
-/// Three texts of `a`, the second of so many bytes, the others of 3,900.
-fn long_texts(alloc: Global, second: usize) -> Result<String, AllocError> {
-    let mut script = String::from_str(alloc, "class radix\n")?;
-    for (number, length) in [(1, 3900), (2, second), (3, 3900)] {
-        let start = format!(in alloc; "insert 1.{number} \"")?;
-        script.push_str(start.as_str())?;
-        for _ in 0..length {
-            script.push_str("a")?;
-        }
-        script.push_str("\"\n")?;
-    }
-    script.push_str("find all\nstat\n")?;
-    Ok(script)
-}
-
-#[test]
-fn takes_texts_of_3900_bytes(rt: HostRuntime) -> Result<(), Fail> {
-    let script = long_texts(rt.alloc(), 3900)?;
-    let ended = ran(&rt, &["run"], script.as_bytes(), no_fails())?;
-    assert_eq!(rt; ended.status, Status::Done);
-    let mut lines = ended.text.as_slice().split(|b| *b == b'\n').skip(3);
-    assert_eq!(rt;
-        lines.next(),
-        Some(b"4 6 8 found 3 walk 4 1.1 1.2 1.3".as_slice())
-    );
-    assert_eq!(rt;
-        lines.next(),
-        Some(
-            b"5 8 8 stat pages 4 inner 1 leaf 3 redirect 0 dead 0 placeholder 0 clock 0".as_slice()
-        )
-    );
-    let script = long_texts(rt.alloc(), 3901)?;
-    assert_eq!(rt;
-        ran(&rt, &["run"], script.as_bytes(), no_fails())?.status,
-        Status::BadScript(3)
-    );
     Ok(())
 }

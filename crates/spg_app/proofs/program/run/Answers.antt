@@ -1,4 +1,4 @@
-use Rattle.std.proofs.Common.{◌≡◌, inl, inr, refl}
+use Rattle.std.proofs.Common.{inl, refl}
 use Rattle.spg_app.proofs.Complete.{complete, refused}
 use Rattle.spg_app.proofs.program.run.Goals as goal
 

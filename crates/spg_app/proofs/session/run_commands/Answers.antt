@@ -1,10 +1,6 @@
-use Rattle.std.proofs.Common.{◌≡◌, [], refl, sym, ap, ◌∙◌, subst}
-use Rattle.spg_report.specs.Text.{text}
-use Rattle.spg_histories.specs.Tasks.{tasks_of}
-use Rattle.spg_histories.specs.Answer.{Wrote}
+use Rattle.std.proofs.Common.{[], ap, ◌∙◌}
 use Rattle.spg_histories.specs.Ending.{status_after}
-use Rattle.spg_perform.specs.Session.{Session}
-use Rattle.spg_app.specs.Ending.{writing_of, made_with}
+use Rattle.spg_app.specs.Ending.{writing_of}
 use Rattle.spg_app.proofs.Outcomes.{wrote_as, cause_of, text_same, of_origin}
 use Rattle.spg_app.proofs.session.run_commands.Goals as goal
 

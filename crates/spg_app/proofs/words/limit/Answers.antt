@@ -1,7 +1,5 @@
-use Rattle.std.proofs.Common.{rules, ◌≡◌, ◌≢◌, ◌<◌, ◌^◌, ℕ, Some, None, map, string_bytes, ◌+◌, ◌-◌, ◌*◌, ◌≤◌, length, ◌/◌, ◌%◌, Bool, true, false, nat_eq, nat_lt, List, [], ◌∷◌, ◌++◌, slice_index_or, slice_set, bit_and, bit_or, Fits, w8, w32, w64, Bor, MutBor}
-use Rattle.std.specs.Fmt.{decimal}
+use Rattle.std.proofs.Common.{rules}
 use Rattle.std.proofs.lemmas.Fmt.{decimal_injective}
-use Rattle.spg_app.specs.Words.{IsRunLine, IsLimit}
 use Rattle.spg_app.proofs.words.limit.Goals as goal
 
 -- src/words.rt:28:1

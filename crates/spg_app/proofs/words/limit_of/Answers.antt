@@ -1,7 +1,6 @@
-use Rattle.std.proofs.Common.{rules, ◌≡◌, ◌<◌, ◌≤◌, ◌++◌, ℕ, List, [], ◌∷◌, Some, map, length, get_or, sym, ap, ◌∙◌, arith, string_bytes, inl, inr, refl, codes}
+use Rattle.std.proofs.Common.{rules, ◌≡◌, ◌<◌, ◌≤◌, ◌++◌, ℕ, List, [], ◌∷◌, map, length, get_or, sym, ap, ◌∙◌, arith, string_bytes, inl, inr, codes}
 use Rattle.std.proofs.lemmas.Bool.{eqb-true, eq-eqb}
 use Rattle.std.proofs.lemmas.Slice.Eq.{slice_eq-Decides}
-use Rattle.spg_app.specs.Words.{IsRunLine, IsLimit}
 use Rattle.spg_app.proofs.words.limit_of.Goals as goal
 
 one_word : {X : Type 0} (f : X → List ℕ) (words : List X) (a : X) → 1 ≤ length words → length words < 2 → a ≡ get_or words 0 a → map f words ≡ f a ∷ []

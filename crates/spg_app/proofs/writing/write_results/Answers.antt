@@ -1,5 +1,5 @@
-use Rattle.std.proofs.Common.{◌≡◌, ◌+◌, ◌++◌, ◌∷◌, [], drop, sym, ap, ◌∙◌, arith}
-use Rattle.spg_report.specs.Text.{ended, result_text, result_lines}
+use Rattle.std.proofs.Common.{◌+◌, ◌++◌, ◌∷◌, [], drop, sym, ap, ◌∙◌, arith}
+use Rattle.spg_report.specs.Text.{ended, result_lines}
 use Rattle.spg_app.proofs.Streams.{Wrote-more, WroteSome-more, OnErr-always, result_lines-more, put_on_clear}
 use Rattle.spg_app.proofs.writing.write_results.Goals as goal
 

@@ -1,8 +1,8 @@
-use Rattle.std.proofs.Common.{◌≡◌, ◌++◌, ◌∷◌, [], length, sym, ap, ◌∙◌, subst}
+use Rattle.std.proofs.Common.{◌++◌, ◌∷◌, [], length, subst}
 use Rattle.std.proofs.lemmas.Result.{on_err_weaker}
 use Rattle.std.specs.Io.KnownBytes.{Appends}
 use Rattle.spg_app.specs.Io.{WroteSome}
-use Rattle.spg_report.specs.Text.{text, ended, result_lines, journal_text, event_lines}
+use Rattle.spg_report.specs.Text.{text, result_lines, journal_text, event_lines}
 use Rattle.spg_app.proofs.Streams.{Wrote-none, WroteSome-more, OnErr-always, wrote_results, line_fails, events_fail, put_on_clear, ended-append}
 use Rattle.spg_app.proofs.writing.write_text.Goals as goal
 
