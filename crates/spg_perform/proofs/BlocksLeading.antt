@@ -1,6 +1,6 @@
 -- Commands, lanes and blocks, one after another.
-use Rattle.std.proofs.Common.{◌≡◌, ◌≤◌, ◌+◌, ℕ, Bool, not, List, [], ◌∷◌, ◌++◌, length, take, Option, sym, subst, refl}
-use Rattle.std.proofs.lemmas.List.{append_assoc, append-nil, take_all}
+use Rattle.std.proofs.Common.{◌≡◌, ◌≤◌, ◌+◌, ℕ, Bool, not, List, [], ◌∷◌, ◌++◌, length, take, Option, sym, subst}
+use Rattle.std.proofs.lemmas.List.{append_assoc, take_all}
 use Rattle.spg_opclass.specs.Meaning.{Meaning}
 use Rattle.spg_io.specs.Held.{Holding}
 use Rattle.spg_core.specs.Seen.{Seen}
@@ -14,10 +14,6 @@ use Rattle.spg_perform.specs.Acted.{task_of}
 use Rattle.spg_perform.proofs.BlocksTasks.{IsNext, lane_next, lanes_next, parts_next}
 
 module _ {O Key Recon Cond : Type 0} (m : Meaning Key Recon Cond) (speech : Speech Key Cond) (code : ℕ) where
-  -- no commands lead nowhere else
-  pub leads_none : (a : Standing O Key Recon Cond) → LeadsOn m speech code a a []
-  leads_none a = λ loaded origin start tasks s. subst (λ (ts : List Task). Session m speech code loaded origin start a.outside ts a.seen a.records) (sym (append-nil tasks)) s
-
   -- commands that lead on, and then others
   leads_then : (a b c : Standing O Key Recon Cond) (first more all : List Task) → all ≡ first ++ more → LeadsOn m speech code a b first → LeadsOn m speech code b c more → LeadsOn m speech code a c all
   leads_then a b c first more all is one two = λ loaded origin start tasks s.

@@ -1,7 +1,5 @@
 -- The commands of lanes and of blocks, one lane or one block more.
-use Rattle.std.proofs.Common.{◌≡◌, ◌<◌, ◌+◌, ℕ, suc, Bool, true, not, List, [], ◌∷◌, ◌++◌, length, take, drop, get_or, refl, sym, ap, ◌∙◌, subst, arith, length-append}
-use Rattle.std.specs.List.{All}
-use Rattle.std.proofs.lemmas.List.Elements.{All-get_or}
+use Rattle.std.proofs.Common.{◌≡◌, ◌<◌, ◌+◌, ℕ, suc, Bool, true, not, List, [], ◌∷◌, ◌++◌, length, take, drop, get_or, refl, sym, ap, ◌∙◌, arith, length-append}
 use Rattle.std.proofs.lemmas.List.{append_assoc, append-nil, length-take-le, take_more, at_drop_more}
 use Rattle.spg_script.specs.declared.command.Command.{Command}
 use Rattle.spg_script.specs.declared.part.Part.{Part}
@@ -20,10 +18,6 @@ module _ {X : Type 0} where
 
   up_to_next : (xs : List X) (i : ℕ) (x : X) → IsNext xs i x → take (i + 1) xs ≡ take i xs ++ x ∷ []
   up_to_next xs i x next = take_more xs i x next.within ∙ ap (λ (y : X). take i xs ++ y ∷ []) (sym next.here)
-
-  -- what holds of each holds of it
-  pub holds_next : (P : X → Type 0) (xs : List X) (i : ℕ) (x : X) → IsNext xs i x → All P xs → P x
-  holds_next P xs i x next all = subst P (sym next.here) (All-get_or P xs i x next.within all)
 
 -- ---- in order
 
@@ -62,14 +56,25 @@ lane_long block seat alone (c ∷ commands) = ap suc (lane_long block seat alone
 lanes_long : (block seat : ℕ) (alone : Bool) (block2 seat2 : ℕ) (alone2 : Bool) (lanes : List (List Command)) → length (lanes_tasks block seat alone lanes) ≡ length (lanes_tasks block2 seat2 alone2 lanes)
 lanes_long block seat alone block2 seat2 alone2 [] = refl
 lanes_long block seat alone block2 seat2 alone2 (lane ∷ lanes) =
-    omega (arith, length-append (lane_tasks block seat alone lane) (lanes_tasks block (seat + 1) alone lanes), length-append (lane_tasks block2 seat2 alone2 lane) (lanes_tasks block2 (seat2 + 1) alone2 lanes),
-      lane_long block seat alone lane, lane_long block2 seat2 alone2 lane, lanes_long block (seat + 1) alone block2 (seat2 + 1) alone2 lanes)
+    omega (
+      arith,
+      length-append (lane_tasks block seat alone lane) (lanes_tasks block (seat + 1) alone lanes),
+      length-append (lane_tasks block2 seat2 alone2 lane) (lanes_tasks block2 (seat2 + 1) alone2 lanes),
+      lane_long block seat alone lane,
+      lane_long block2 seat2 alone2 lane,
+      lanes_long block (seat + 1) alone block2 (seat2 + 1) alone2 lanes,
+    )
 
 parts_long : (block block2 : ℕ) (parts : List Part) → length (parts_tasks block parts) ≡ length (parts_tasks block2 parts)
 parts_long block block2 [] = refl
 parts_long block block2 (p ∷ parts) =
-    omega (arith, length-append (lanes_tasks block 0 (not p.together) p.lanes) (parts_tasks (block + 1) parts), length-append (lanes_tasks block2 0 (not p.together) p.lanes) (parts_tasks (block2 + 1) parts),
-      lanes_long block 0 (not p.together) block2 0 (not p.together) p.lanes, parts_long (block + 1) (block2 + 1) parts)
+    omega (
+      arith,
+      length-append (lanes_tasks block 0 (not p.together) p.lanes) (parts_tasks (block + 1) parts),
+      length-append (lanes_tasks block2 0 (not p.together) p.lanes) (parts_tasks (block2 + 1) parts),
+      lanes_long block 0 (not p.together) block2 0 (not p.together) p.lanes,
+      parts_long (block + 1) (block2 + 1) parts,
+    )
 
 -- those of a lane, and of the lanes after it
 pub lanes_left : (lanes : List (List Command)) (i : ℕ) (lane : List Command) → IsNext lanes i lane

@@ -1,5 +1,4 @@
-use Rattle.std.proofs.Common.{ap, arith, length}
-use Rattle.std.proofs.Common.{not}
+use Rattle.std.proofs.Common.{not, length, ap, arith}
 use Rattle.spg_perform.specs.Session.{standing}
 use Rattle.spg_perform.proofs.BlocksTasks.{IsNext, next_in, lanes_left}
 use Rattle.spg_perform.proofs.BlocksLeading.{lanes_lead, lanes_led}

@@ -1,4 +1,4 @@
-use Rattle.std.proofs.Common.{refl, arith}
+use Rattle.std.proofs.Common.{arith}
 use Rattle.spg_perform.specs.Session.{standing}
 use Rattle.spg_perform.proofs.BlocksTasks.{IsNext, parts_left}
 use Rattle.spg_perform.proofs.BlocksLeading.{parts_lead, parts_led}
