@@ -1,9 +1,6 @@
 -- A journal with events at its end.
-use Rattle.std.proofs.Common.{◌≡◌, ◌≤◌, ℕ, List, [], ◌∷◌, ◌++◌, length, take, reverse, refl, sym, ap, ◌∙◌, arith}
-use Rattle.std.proofs.lemmas.List.{append_assoc, append-nil, reverse-append}
-use Rattle.spg_rows.specs.declared.event.Event.{Event}
-use Rattle.spg_rows.specs.History.{History}
-use Rattle.spg_histories.specs.Run.{past_at}
+use Rattle.std.proofs.Common.{◌≡◌, List, [], ◌∷◌, ◌++◌, reverse, ap, ◌∙◌}
+use Rattle.std.proofs.lemmas.List.{append_assoc, reverse-append}
 
 module _ {X : Type 0} where
   pub past_with : (old new : List X) (a : X) → new ≡ old ++ a ∷ [] → reverse new ≡ a ∷ reverse old

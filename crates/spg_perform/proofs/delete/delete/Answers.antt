@@ -1,4 +1,4 @@
-use Rattle.std.proofs.Common.{◌≡◌, length, Bool, false, ◌∙◌, subst}
+use Rattle.std.proofs.Common.{length, Bool, ◌∙◌, subst}
 use Rattle.spg_core.specs.Sections.{KillsRow}
 use Rattle.spg_report.specs.declared.outcome.Outcome.TheVariants.{NotLive, Memory}
 use Rattle.spg_perform.proofs.Acting.{Spans}
