@@ -1,10 +1,7 @@
-use Rattle.std.proofs.Common.{rules, ◌≡◌, false, ap, subst, inl, inr}
+use Rattle.std.proofs.Common.{ap, subst, inl, inr}
 use Rattle.spg_tree.specs.Descents.{Descending}
 use Rattle.spg_core.specs.declared.choose.Chosen.{Chosen}
 use Rattle.spg_core.specs.Stepping.{IsChosen}
-use Rattle.spg_tree.specs.Pick.{IsFull}
-use Rattle.spg_move.specs.Splits.{lower_want_at, fits_beside_at}
-use Rattle.spg_core.proofs.Ticks.{node_ticks, split_ticks}
 use Rattle.spg_core.proofs.inner.apply.Goals as goal
 
 pub returns-in_ok-split_tuple-in-Split-clause-does : goal.returns-in_ok-split_tuple-in-Split-clause-does

@@ -1,4 +1,4 @@
-use Rattle.std.proofs.Common.{rules, ◌≡◌, ◌+◌, ◌^◌, subst, inl, inr}
+use Rattle.std.proofs.Common.{rules, subst, inl, inr}
 use Rattle.spg_split.specs.declared.split.SplitOut.{SplitOut}
 use Rattle.spg_core.specs.Telling.{DividesChain}
 use Rattle.spg_core.proofs.Moves.{at_chain, not_empty, below_root}

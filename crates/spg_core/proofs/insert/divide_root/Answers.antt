@@ -1,11 +1,8 @@
-use Rattle.std.proofs.Common.{rules, ⊎_elim, ap, subst, inl, inr}
+use Rattle.std.proofs.Common.{⊎_elim, ap, subst, inl, inr}
 use Rattle.spg_tree.specs.Descents.{Descending}
-use Rattle.spg_split.specs.Fulls.{IsRootFull}
 use Rattle.spg_split.specs.declared.split.SplitOut.{SplitOut}
 use Rattle.spg_core.specs.Telling.{DividesRoot}
-use Rattle.spg_core.proofs.Moves.{root_full, root_leaves}
-use Rattle.spg_core.proofs.Limits.{root_near}
-use Rattle.spg_core.proofs.Ticks.{root_ticks}
+use Rattle.spg_core.proofs.Moves.{root_leaves}
 use Rattle.spg_core.proofs.insert.divide_root.Goals as goal
 
 pub split_leaf-requires-clause-spot : goal.split_leaf-requires-clause-spot

@@ -1,4 +1,4 @@
-use Rattle.std.proofs.Common.{rules, ◌≡◌, ◌+◌, ◌^◌, inl, inr, refl}
+use Rattle.std.proofs.Common.{rules, inl, inr, refl}
 use Rattle.spg_core.proofs.Moves.{at_chain, not_empty, moves_below, below_root}
 use Rattle.spg_core.proofs.Limits.{full_near}
 use Rattle.spg_move.specs.Moves.{carried_want}

@@ -1,10 +1,7 @@
-use Rattle.std.proofs.Common.{rules, ◌≡◌, refl, subst, inl}
-use Rattle.spg_descend.specs.Puts.{IsPutOut, leaf_want}
+use Rattle.std.proofs.Common.{refl, subst, inl}
+use Rattle.spg_descend.specs.Puts.{IsPutOut}
 use Rattle.spg_descend.specs.declared.put.PutOut.{PutOut}
 use Rattle.spg_core.proofs.Stands.{stand_put}
-use Rattle.spg_tree.specs.Pick.{IsFull}
-use Rattle.spg_tree.specs.declared.stand.Stand.TheVariants.{Empty}
-use Rattle.spg_core.proofs.Ticks.{put_ticks}
 use Rattle.spg_core.proofs.insert.put.Goals as goal
 
 pub put_leaf-requires-clause-spot : goal.put_leaf-requires-clause-spot

@@ -1,4 +1,4 @@
-use Rattle.std.proofs.Common.{rules, inl, inr, ⊎_elim, ◌<◌, ℕ, Option, IfSome, length, sym, ap, ◌∙◌, subst}
+use Rattle.std.proofs.Common.{◌<◌, ℕ, Option, IfSome, length, sym, ap, ◌∙◌, subst}
 use Rattle.spg_descend.specs.Leaves.{stand_block}
 use Rattle.spg_core.proofs.Settles.{does_there, step_done}
 use Rattle.spg_core.proofs.insert.step.Goals as goal
