@@ -1,4 +1,4 @@
-use Rattle.std.proofs.Common.{rules, ◌≡◌, ◌⊎◌, ⊎_elim, ◌+◌, ◌^◌, ℤ, subst, sym, inl, inr}
+use Rattle.std.proofs.Common.{rules, ◌≡◌, ⊎_elim, ◌+◌, ◌^◌, ℤ, subst, sym, inl, inr}
 use Rattle.std.specs.Int.{w16}
 use Rattle.std.proofs.lemmas.Int.{to_z-of_z}
 use Rattle.spg_move.specs.Nodes.{IsNodeAdded, FitsWider, wider_want}
@@ -7,15 +7,9 @@ use Rattle.spg_tree.specs.Pick.{IsFull}
 use Rattle.spg_core.proofs.Inners.{inner_root}
 use Rattle.spg_core.proofs.Limits.{full_near}
 use Rattle.spg_core.proofs.Ticks.{add_ticks}
-use Rattle.spg_core.proofs.Refusals.{done_so}
-use Rattle.std.specs.Prelude.{IsErrOf}
-use Rattle.std.proofs.Common.{Ok}
+use Rattle.spg_core.proofs.Refusals.{not_err, done_so}
 use Rattle.spg_tree.specs.declared.stand.StepRefused.TheVariants.{ClockFull, Memory}
 use Rattle.spg_core.proofs.inner.widen.Goals as goal
-
-no_error : {T E : Type 0} (x : T) (first second : E) → IsErrOf {T = T} {E = E} (Ok x) first ⊎ IsErrOf {T = T} {E = E} (Ok x) second → ⊥
-no_error x first second (inl h) = cc
-no_error x first second (inr h) = cc
 
 pub returns-clause-does : goal.returns-clause-does
 returns-clause-does g c =
@@ -60,4 +54,4 @@ returns-clause-refused g c = done_so _ _ _ _ _ _ _ (λ ticks last.
     let d = c.args.descent.now in
     let big = add_ticks g.O.OpClass.meaning t d c.args.at c.args.label c.requires.inner c.requires.chosen.1 ticks in
     let first = c.in_ok-add_node.ensures.clock_first (subst (λ (label : ℤ). FitsWider t d c.args.at label → ⊥) (sym (to_z-of_z w16 c.args.label c.ranges.label)) big) last in
-    no_error c.in_ok-add_node.field-0 ClockFull Memory first)
+    ⊎_elim (not_err c.in_ok-add_node.field-0 ClockFull) (not_err c.in_ok-add_node.field-0 Memory) first)
