@@ -10,6 +10,7 @@ pub mod Inners
 pub mod Rewriting
 pub mod Settles
 pub mod Ticks
+pub mod Refusals
 pub mod Slots
 pub mod Seeking
 pub mod Sectioning

@@ -1,19 +1,15 @@
 -- Which sections of an insert leave the clock as it is.
-use Rattle.std.proofs.Common.{◌≡◌, ℕ, Bool, List, inl, inr, Some, None, sym, ◌∙◌, subst}
+use Rattle.std.proofs.Common.{◌≡◌, ℕ, inl, inr, subst}
 use Rattle.std.specs.Prelude.{ℤ}
 use Rattle.spg_opclass.specs.Meaning.{Meaning}
-use Rattle.spg_opclass.specs.declared.view.Choice.TheVariants.{Match, Add, Split}
+use Rattle.spg_opclass.specs.declared.view.Choice.TheVariants.{Add}
 use Rattle.spg_tree.specs.Table.{Table}
 use Rattle.spg_tree.specs.Descents.{Descending}
 use Rattle.spg_tree.specs.declared.stand.Stand.{Stand}
 use Rattle.spg_tree.specs.declared.stand.Stand.TheVariants.{Start}
-use Rattle.spg_descend.specs.declared.rule.Rule.TheVariants as rules
 use Rattle.spg_descend.specs.Answers.{IsAnswered}
 use Rattle.spg_descend.specs.Follows.{IsAtInner}
-use Rattle.spg_split.specs.Splits.{IsAtRoot}
 use Rattle.spg_move.specs.Nodes.{FitsWider}
-use Rattle.spg_core.specs.Stepping.{IsNamed}
-use Rattle.spg_core.specs.Telling.{IsRuleFor}
 use Rattle.spg_core.specs.Refusing.{Ticks}
 use Rattle.spg_core.proofs.Ends.{one_answer}
 
@@ -22,28 +18,6 @@ module _ {Key Recon Cond : Type 0} (m : Meaning Key Recon Cond) (t : Table) (d :
   start_ticks e (inl (off, room, short)) = off.0 e
   start_ticks e (inr (inl ((off, room, long), below))) = off.0 e
   start_ticks e (inr (inr (i, (at, label, answered, big)))) = (subst (λ (s : Stand). IsAtInner t s) e i).0
-
-  pub put_ticks : IsRuleFor t d rules.Put → Ticks m t d → ⊥
-  put_ticks (off, fits) (inl (off2, room, short)) = room fits
-  put_ticks (off, fits) (inr (inl ((off2, room, long), below))) = room fits
-  put_ticks (off, fits) (inr (inr (i, (at, label, answered, big)))) = off.1 i
-
-  pub root_ticks : IsRuleFor t d rules.Part → IsAtRoot d.stand → Ticks m t d → ⊥
-  root_ticks (off, room, long) low (inl (off2, room2, short)) = long short
-  root_ticks (off, room, long) low (inr (inl (rule, below))) = below low
-  root_ticks (off, room, long) low (inr (inr (i, (at, label, answered, big)))) = off.1 i
-
-  -- at an inner tuple the class answers one thing
-  pub node_ticks : (node : ℕ) (rest : List ℕ) (by_turn : Bool) → IsAtInner t d.stand → IsNamed m t d node rest by_turn → Ticks m t d → ⊥
-  node_ticks node rest by_turn i named (inl (off, room, short)) = off.1 i
-  node_ticks node rest by_turn i named (inr (inl ((off, room, long), below))) = off.1 i
-  node_ticks node rest by_turn i (inl (absent, turn, none, turned)) (inr (inr (j, (at, label, (r, er, ea), big)))) = absurd (let f : None ≡ Some r = sym absent ∙ er in cc)
-  node_ticks node rest by_turn i (inr (answer, is, e, turned)) (inr (inr (j, (at, label, answered, big)))) = let f : Match answer rest ≡ Add at label = one_answer m t d (Match answer rest) (Add at label) is answered in cc
-
-  pub split_ticks : (up : List ℕ) (labels : List ℤ) (child : ℕ) (low : List ℕ) → IsAtInner t d.stand → IsAnswered m t d (Split up labels child low) → Ticks m t d → ⊥
-  split_ticks up labels child low i is (inl (off, room, short)) = off.1 i
-  split_ticks up labels child low i is (inr (inl ((off, room, long), below))) = off.1 i
-  split_ticks up labels child low i is (inr (inr (j, (at, label, answered, big)))) = let f : Split up labels child low ≡ Add at label = one_answer m t d (Split up labels child low) (Add at label) is answered in cc
 
   -- where the class asks for this node, a clock that is raised says that the longer tuple does not fit in its place
   pub add_ticks : (at : ℕ) (label : ℤ) → IsAtInner t d.stand → IsAnswered m t d (Add at label) → Ticks m t d → FitsWider t d at label → ⊥

@@ -13,7 +13,7 @@ use Rattle.spg_descend.specs.Carried.{carried, root_of, IsCarried}
 use Rattle.spg_descend.specs.Follows.{IsAtInner}
 use Rattle.spg_descend.specs.Puts.{Fits}
 use Rattle.spg_descend.specs.Rules.{IsAtNoInner}
-use Rattle.spg_forest.specs.Shape.{IsRestOf}
+use Rattle.spg_forest.specs.Shape.{Shape, IsRestOf}
 use Rattle.spg_forest.specs.Sheets.{links}
 use Rattle.spg_forest.specs.Classes.{down_of}
 use Rattle.spg_forest.specs.Follows.{GoesBelow}
@@ -27,6 +27,12 @@ use Rattle.spg_core.specs.declared.choose.Chosen.{Chosen}
 use Rattle.spg_core.specs.declared.choose.Chosen.TheVariants.{Node, Add, Split}
 use Rattle.spg_core.specs.declared.answer.InsertOut.{InsertOut}
 use Rattle.spg_core.specs.declared.answer.InsertOut.TheVariants.{Descended, Restructured, Restarted, Put}
+
+-- a section may come: the pages are well formed, and the insert carries a key or a null and stands somewhere
+pub record MayStep {Key Recon Cond : Type 0} (m : Meaning Key Recon Cond) (t : Table) (d : Descending Recon) : Type 0 where
+  pub shape : Shape m (sheets_of t)
+  pub of_key : (key : Option Key) × IsCarried m (sheets_of t) d key
+  pub stands : Stands t d
 
 -- the pages stay as they are
 abbrev pub SamePages : Table → Table → Type 0

@@ -1,11 +1,7 @@
-ghost use Rattle.std.specs.Prelude.{◌≡◌, Option, Some as Just, false, IfOk};
-ghost use Rattle.spg_forest.specs.Shape.{Shape};
-ghost use Rattle.spg_tree.specs.Table.{sheets_of};
+ghost use Rattle.std.specs.Prelude.{◌≡◌, Some as Just, false, IfOk};
 ghost use Rattle.spg_tree.specs.Descents.{in_nulls};
-ghost use Rattle.spg_descend.specs.Carried.{IsCarried};
 ghost use Rattle.spg_descend.specs.Follows.{IsAtInner};
-ghost use Rattle.spg_seats.specs.Descending.{Stands};
-ghost use Rattle.spg_core.specs.Stepping.{IsChosen, named};
+ghost use Rattle.spg_core.specs.Stepping.{MayStep, IsChosen, named};
 
 use spg_base::{Bytes, Labels, Memory};
 use spg_descend::tuple_place;
@@ -54,10 +50,8 @@ fn choose_for<O: OpClass>(
     descent: &Descent<O>,
     recon: &O::Recon,
 ) -> Result<Chosen<O>, Memory>
-    requires shape { Shape O.meaning (sheets_of table.now) }
+    requires can { MayStep O.meaning table.now descent.now }
     requires inner { IsAtInner table.now descent.now.stand }
-    requires of_key { (key : Option O.Key) × IsCarried O.meaning (sheets_of table.now) descent.now key }
-    requires stands { Stands table.now descent.now }
     requires recon { descent.now.recon ≡ Just recon.now }
     requires main { in_nulls descent.now ≡ false }
     ensures { IfOk result (λ chosen. IsChosen {O = O} O.meaning table.now descent.now chosen) }
@@ -99,10 +93,8 @@ pub(crate) fn choose<O: OpClass>(
     table: &PageTable,
     descent: &Descent<O>,
 ) -> Result<Chosen<O>, Memory>
-    requires shape { Shape O.meaning (sheets_of table.now) }
+    requires can { MayStep O.meaning table.now descent.now }
     requires inner { IsAtInner table.now descent.now.stand }
-    requires of_key { (key : Option O.Key) × IsCarried O.meaning (sheets_of table.now) descent.now key }
-    requires stands { Stands table.now descent.now }
     ensures { IfOk result (λ chosen. IsChosen {O = O} O.meaning table.now descent.now chosen) }
 {
     match descent.recon() {

@@ -1,14 +1,9 @@
-ghost use Rattle.std.specs.Prelude.{◌≡◌, ◌⊎◌, Option, IfOk, OnErr, IsErrOf, ◌+◌, ◌^◌};
-ghost use Rattle.spg_forest.specs.Shape.{Shape};
-ghost use Rattle.spg_tree.specs.Table.{sheets_of};
-ghost use Rattle.spg_tree.specs.declared.stand.StepRefused.TheVariants.{IndexFull, ClockFull, Memory as NoMemory};
-ghost use Rattle.spg_descend.specs.Carried.{IsCarried};
+ghost use Rattle.std.specs.Prelude.{IfOk};
 ghost use Rattle.spg_descend.specs.Follows.{IsAtInner};
-ghost use Rattle.spg_seats.specs.Descending.{Stands};
 ghost use Rattle.spg_core.specs.declared.choose.Chosen.TheVariants.{Node, Add};
-ghost use Rattle.spg_core.specs.Stepping.{IsOutgrown, IsNearLimit, IsChosen};
+ghost use Rattle.spg_core.specs.Stepping.{MayStep, IsChosen};
 ghost use Rattle.spg_core.specs.Telling.{Does};
-ghost use Rattle.spg_core.specs.Refusing.{FindsNoPage, Ticks};
+ghost use Rattle.spg_core.specs.Refusing.{Refuses};
 
 use crate::answer::InsertOut;
 use crate::choose::{Chosen, choose};
@@ -29,10 +24,8 @@ fn go_down<O: OpClass>(
     by_turn: bool,
     below: Option<O::Recon>,
 ) -> InsertOut
-    requires shape { Shape O.meaning (sheets_of table.old) }
+    requires can { MayStep O.meaning table.old descent.old }
     requires inner { IsAtInner table.old descent.old.stand }
-    requires of_key { (key : Option O.Key) × IsCarried O.meaning (sheets_of table.old) descent.old key }
-    requires stands { Stands table.old descent.old }
     requires chosen { IsChosen {O = O} O.meaning table.old descent.old (Node node rest by_turn below) }
     ensures { Does O.meaning table.old table.new descent.old descent.new seat result }
 {
@@ -56,19 +49,11 @@ fn widen<O: OpClass>(
     at: u16,
     label: i16,
 ) -> Result<InsertOut, StepRefused>
-    requires shape { Shape O.meaning (sheets_of table.old) }
+    requires can { MayStep O.meaning table.old descent.old }
     requires inner { IsAtInner table.old descent.old.stand }
-    requires of_key { (key : Option O.Key) × IsCarried O.meaning (sheets_of table.old) descent.old key }
-    requires stands { Stands table.old descent.old }
     requires chosen { IsChosen {O = O} O.meaning table.old descent.old (Add at label) }
     ensures does { IfOk result (λ out. Does O.meaning table.old table.new descent.old descent.new seat out) }
-    ensures full { IsErrOf result IndexFull → IsOutgrown table.old descent.old × IsNearLimit table.old }
-    ensures clock { IsErrOf result ClockFull → IsOutgrown table.old descent.old × (table.old.clock + 1 ≡ 2 ^ 48) }
-    ensures full_where { IsErrOf result IndexFull → FindsNoPage O.meaning table.old descent.old seat }
-    ensures clock_where { IsErrOf result ClockFull → Ticks O.meaning table.old descent.old }
-    ensures clock_first { Ticks O.meaning table.old descent.old → table.old.clock + 1 ≡ 2 ^ 48 → IsErrOf result ClockFull ⊎ IsErrOf result NoMemory }
-    ensures err { OnErr result (table.new ≡ table.old) }
-    ensures err_descent { OnErr result (descent.new ≡ descent.old) }
+    ensures refused { Refuses O.meaning table.old table.new descent.old descent.new seat result }
 {
     add_node(alloc, table, descent, seat, at, label)?;
     Ok(InsertOut::Restructured)
@@ -82,19 +67,11 @@ fn apply<O: OpClass>(
     seat: SeatNo,
     chosen: Chosen<O>,
 ) -> Result<InsertOut, StepRefused>
-    requires shape { Shape O.meaning (sheets_of table.old) }
+    requires can { MayStep O.meaning table.old descent.old }
     requires inner { IsAtInner table.old descent.old.stand }
-    requires of_key { (key : Option O.Key) × IsCarried O.meaning (sheets_of table.old) descent.old key }
-    requires stands { Stands table.old descent.old }
     requires chosen { IsChosen {O = O} O.meaning table.old descent.old chosen }
     ensures does { IfOk result (λ out. Does O.meaning table.old table.new descent.old descent.new seat out) }
-    ensures full { IsErrOf result IndexFull → IsOutgrown table.old descent.old × IsNearLimit table.old }
-    ensures clock { IsErrOf result ClockFull → IsOutgrown table.old descent.old × (table.old.clock + 1 ≡ 2 ^ 48) }
-    ensures full_where { IsErrOf result IndexFull → FindsNoPage O.meaning table.old descent.old seat }
-    ensures clock_where { IsErrOf result ClockFull → Ticks O.meaning table.old descent.old }
-    ensures clock_first { Ticks O.meaning table.old descent.old → table.old.clock + 1 ≡ 2 ^ 48 → IsErrOf result ClockFull ⊎ IsErrOf result NoMemory }
-    ensures err { OnErr result (table.new ≡ table.old) }
-    ensures err_descent { OnErr result (descent.new ≡ descent.old) }
+    ensures refused { Refuses O.meaning table.old table.new descent.old descent.new seat result }
 {
     match chosen {
         Chosen::Node {
@@ -133,18 +110,10 @@ pub(crate) fn at_inner<O: OpClass>(
     descent: &mut Descent<O>,
     seat: SeatNo,
 ) -> Result<InsertOut, StepRefused>
-    requires shape { Shape O.meaning (sheets_of table.old) }
+    requires can { MayStep O.meaning table.old descent.old }
     requires inner { IsAtInner table.old descent.old.stand }
-    requires of_key { (key : Option O.Key) × IsCarried O.meaning (sheets_of table.old) descent.old key }
-    requires stands { Stands table.old descent.old }
     ensures does { IfOk result (λ out. Does O.meaning table.old table.new descent.old descent.new seat out) }
-    ensures full { IsErrOf result IndexFull → IsOutgrown table.old descent.old × IsNearLimit table.old }
-    ensures clock { IsErrOf result ClockFull → IsOutgrown table.old descent.old × (table.old.clock + 1 ≡ 2 ^ 48) }
-    ensures full_where { IsErrOf result IndexFull → FindsNoPage O.meaning table.old descent.old seat }
-    ensures clock_where { IsErrOf result ClockFull → Ticks O.meaning table.old descent.old }
-    ensures clock_first { Ticks O.meaning table.old descent.old → table.old.clock + 1 ≡ 2 ^ 48 → IsErrOf result ClockFull ⊎ IsErrOf result NoMemory }
-    ensures err { OnErr result (table.new ≡ table.old) }
-    ensures err_descent { OnErr result (descent.new ≡ descent.old) }
+    ensures refused { Refuses O.meaning table.old table.new descent.old descent.new seat result }
 {
     let chosen = choose(alloc, class, table, descent)?;
     apply(alloc, table, descent, seat, chosen)

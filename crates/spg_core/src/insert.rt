@@ -1,16 +1,15 @@
-ghost use Rattle.std.specs.Prelude.{◌≡◌, ◌⊎◌, ℕ, Option, IfOk, OnErr, IsErrOf, ◌+◌, ◌^◌};
+ghost use Rattle.std.specs.Prelude.{◌≡◌, ℕ, Option, IfOk, IsErrOf};
 ghost use Rattle.spg_forest.specs.Shape.{Shape};
 ghost use Rattle.spg_tree.specs.Table.{sheets_of};
 ghost use Rattle.spg_tree.specs.declared.stand.Stand.TheVariants.{Start};
-ghost use Rattle.spg_tree.specs.declared.stand.StepRefused.TheVariants.{IndexFull, ClockFull, Memory as NoMemory};
+ghost use Rattle.spg_tree.specs.declared.stand.StepRefused.TheVariants.{ClockFull};
 ghost use Rattle.spg_descend.specs.declared.rule.Rule.TheVariants as rules;
-ghost use Rattle.spg_descend.specs.Carried.{IsCarried};
 ghost use Rattle.spg_split.specs.Splits.{IsAtRoot};
 ghost use Rattle.spg_seats.specs.Descending.{Stands, HoldsIts, ChangesHeld};
 ghost use Rattle.spg_seats.specs.Latching.{InsertHolds};
-ghost use Rattle.spg_core.specs.Stepping.{IsOutgrown, IsNearLimit, IsStepOut, MakesAtMostOne};
+ghost use Rattle.spg_core.specs.Stepping.{MayStep, IsStepOut, MakesAtMostOne};
 ghost use Rattle.spg_core.specs.Telling.{IsRuleFor, StepTells, Does};
-ghost use Rattle.spg_core.specs.Refusing.{FindsNoPage, Ticks};
+ghost use Rattle.spg_core.specs.Refusing.{Refuses};
 ghost use Rattle.spg_core.specs.Ends.{TakesOne};
 ghost use Rattle.spg_core.specs.Latches.{HoldsAfter};
 
@@ -46,17 +45,11 @@ fn put<O: OpClass>(
     descent: &Descent<O>,
     seat: SeatNo,
 ) -> Result<InsertOut, StepRefused>
-    requires shape { Shape O.meaning (sheets_of table.old) }
-    requires of_key { (key : Option O.Key) × IsCarried O.meaning (sheets_of table.old) descent.now key }
-    requires stands { Stands table.old descent.now }
+    requires can { MayStep O.meaning table.old descent.now }
     requires rule { IsRuleFor table.old descent.now rules.Put }
     ensures does { IfOk result (λ out. Does O.meaning table.old table.new descent.now descent.now seat out) }
-    ensures full { IsErrOf result IndexFull → IsOutgrown table.old descent.now × IsNearLimit table.old }
     ensures clock { IsErrOf result ClockFull → ⊥ }
-    ensures full_where { IsErrOf result IndexFull → FindsNoPage O.meaning table.old descent.now seat }
-    ensures clock_where { IsErrOf result ClockFull → Ticks O.meaning table.old descent.now }
-    ensures clock_first { Ticks O.meaning table.old descent.now → table.old.clock + 1 ≡ 2 ^ 48 → IsErrOf result ClockFull ⊎ IsErrOf result NoMemory }
-    ensures err { OnErr result (table.new ≡ table.old) }
+    ensures refused { Refuses O.meaning table.old table.new descent.now descent.now seat result }
 {
     match put_leaf(alloc, table, descent, seat)? {
         PutOut::Put => Ok(InsertOut::Put),
@@ -71,17 +64,10 @@ fn move_away<O: OpClass>(
     descent: &Descent<O>,
     seat: SeatNo,
 ) -> Result<InsertOut, StepRefused>
-    requires shape { Shape O.meaning (sheets_of table.old) }
-    requires of_key { (key : Option O.Key) × IsCarried O.meaning (sheets_of table.old) descent.now key }
-    requires stands { Stands table.old descent.now }
+    requires can { MayStep O.meaning table.old descent.now }
     requires rule { IsRuleFor table.old descent.now rules.Move }
     ensures does { IfOk result (λ out. Does O.meaning table.old table.new descent.now descent.now seat out) }
-    ensures full { IsErrOf result IndexFull → IsOutgrown table.old descent.now × IsNearLimit table.old }
-    ensures clock { IsErrOf result ClockFull → IsOutgrown table.old descent.now × (table.old.clock + 1 ≡ 2 ^ 48) }
-    ensures full_where { IsErrOf result IndexFull → FindsNoPage O.meaning table.old descent.now seat }
-    ensures clock_where { IsErrOf result ClockFull → Ticks O.meaning table.old descent.now }
-    ensures clock_first { Ticks O.meaning table.old descent.now → table.old.clock + 1 ≡ 2 ^ 48 → IsErrOf result ClockFull ⊎ IsErrOf result NoMemory }
-    ensures err { OnErr result (table.new ≡ table.old) }
+    ensures refused { Refuses O.meaning table.old table.new descent.now descent.now seat result }
 {
     move_chain(alloc, table, descent, seat)?;
     Ok(InsertOut::Put)
@@ -95,19 +81,12 @@ fn divide_root<O: OpClass>(
     descent: &mut Descent<O>,
     seat: SeatNo,
 ) -> Result<InsertOut, StepRefused>
-    requires shape { Shape O.meaning (sheets_of table.old) }
-    requires of_key { (key : Option O.Key) × IsCarried O.meaning (sheets_of table.old) descent.old key }
-    requires stands { Stands table.old descent.old }
+    requires can { MayStep O.meaning table.old descent.old }
     requires rule { IsRuleFor table.old descent.old rules.Part }
     requires root { IsAtRoot descent.old.stand }
     ensures does { IfOk result (λ out. Does O.meaning table.old table.new descent.old descent.new seat out) }
-    ensures full { IsErrOf result IndexFull → IsOutgrown table.old descent.old × IsNearLimit table.old }
     ensures clock { IsErrOf result ClockFull → ⊥ }
-    ensures full_where { IsErrOf result IndexFull → FindsNoPage O.meaning table.old descent.old seat }
-    ensures clock_where { IsErrOf result ClockFull → Ticks O.meaning table.old descent.old }
-    ensures clock_first { Ticks O.meaning table.old descent.old → table.old.clock + 1 ≡ 2 ^ 48 → IsErrOf result ClockFull ⊎ IsErrOf result NoMemory }
-    ensures err { OnErr result (table.new ≡ table.old) }
-    ensures err_descent { OnErr result (descent.new ≡ descent.old) }
+    ensures refused { Refuses O.meaning table.old table.new descent.old descent.new seat result }
 {
     match split_leaf(alloc, class, table, descent, seat)? {
         SplitOut::Put => Ok(InsertOut::Put),
@@ -123,19 +102,11 @@ fn divide_chain<O: OpClass>(
     descent: &mut Descent<O>,
     seat: SeatNo,
 ) -> Result<InsertOut, StepRefused>
-    requires shape { Shape O.meaning (sheets_of table.old) }
-    requires of_key { (key : Option O.Key) × IsCarried O.meaning (sheets_of table.old) descent.old key }
-    requires stands { Stands table.old descent.old }
+    requires can { MayStep O.meaning table.old descent.old }
     requires rule { IsRuleFor table.old descent.old rules.Part }
     requires below { IsAtRoot descent.old.stand → ⊥ }
     ensures does { IfOk result (λ out. Does O.meaning table.old table.new descent.old descent.new seat out) }
-    ensures full { IsErrOf result IndexFull → IsOutgrown table.old descent.old × IsNearLimit table.old }
-    ensures clock { IsErrOf result ClockFull → IsOutgrown table.old descent.old × (table.old.clock + 1 ≡ 2 ^ 48) }
-    ensures full_where { IsErrOf result IndexFull → FindsNoPage O.meaning table.old descent.old seat }
-    ensures clock_where { IsErrOf result ClockFull → Ticks O.meaning table.old descent.old }
-    ensures clock_first { Ticks O.meaning table.old descent.old → table.old.clock + 1 ≡ 2 ^ 48 → IsErrOf result ClockFull ⊎ IsErrOf result NoMemory }
-    ensures err { OnErr result (table.new ≡ table.old) }
-    ensures err_descent { OnErr result (descent.new ≡ descent.old) }
+    ensures refused { Refuses O.meaning table.old table.new descent.old descent.new seat result }
 {
     match split_chain(alloc, class, table, descent, seat)? {
         SplitOut::Put => Ok(InsertOut::Put),
@@ -152,17 +123,9 @@ fn section<O: OpClass>(
     descent: &mut Descent<O>,
     seat: SeatNo,
 ) -> Result<InsertOut, StepRefused>
-    requires shape { Shape O.meaning (sheets_of table.old) }
-    requires of_key { (key : Option O.Key) × IsCarried O.meaning (sheets_of table.old) descent.old key }
-    requires stands { Stands table.old descent.old }
+    requires can { MayStep O.meaning table.old descent.old }
     ensures does { IfOk result (λ out. Does O.meaning table.old table.new descent.old descent.new seat out) }
-    ensures full { IsErrOf result IndexFull → IsOutgrown table.old descent.old × IsNearLimit table.old }
-    ensures clock { IsErrOf result ClockFull → IsOutgrown table.old descent.old × (table.old.clock + 1 ≡ 2 ^ 48) }
-    ensures full_where { IsErrOf result IndexFull → FindsNoPage O.meaning table.old descent.old seat }
-    ensures clock_where { IsErrOf result ClockFull → Ticks O.meaning table.old descent.old }
-    ensures clock_first { Ticks O.meaning table.old descent.old → table.old.clock + 1 ≡ 2 ^ 48 → IsErrOf result ClockFull ⊎ IsErrOf result NoMemory }
-    ensures err { OnErr result (table.new ≡ table.old) }
-    ensures err_descent { OnErr result (descent.new ≡ descent.old) }
+    ensures refused { Refuses O.meaning table.old table.new descent.old descent.new seat result }
 {
     match rule_at(table, descent) {
         Rule::Start => Ok(begin(table, descent, seat)),
@@ -185,22 +148,14 @@ pub(crate) fn step<O: OpClass>(
     descent: &mut Descent<O>,
     seat: SeatNo,
 ) -> Result<InsertOut, StepRefused>
-    requires shape { Shape O.meaning (sheets_of table.old) }
-    requires of_key { (key : Option O.Key) × IsCarried O.meaning (sheets_of table.old) descent.old key }
-    requires stands { Stands table.old descent.old }
+    requires can { MayStep O.meaning table.old descent.old }
     ensures ok { IfOk result (λ out. IsStepOut O.meaning table.old table.new descent.old descent.new seat out) }
     ensures told { IfOk result (λ out. StepTells O.meaning table.old table.new descent.old descent.new seat out) }
     ensures latches { IfOk result (λ out. (rest : ℕ → Option ℕ) → InsertHolds table.old seat rest descent.old → HoldsAfter table.new seat rest descent.new out) }
     ensures within { HoldsIts table.old seat descent.old → ChangesHeld table.old table.new seat }
     ensures ends { IfOk result (λ out. TakesOne O.meaning table.old table.new descent.old descent.new out) }
     ensures makes { IfOk result (λ _. MakesAtMostOne table.old table.new) }
-    ensures full { IsErrOf result IndexFull → IsOutgrown table.old descent.old × IsNearLimit table.old }
-    ensures clock { IsErrOf result ClockFull → IsOutgrown table.old descent.old × (table.old.clock + 1 ≡ 2 ^ 48) }
-    ensures full_where { IsErrOf result IndexFull → FindsNoPage O.meaning table.old descent.old seat }
-    ensures clock_where { IsErrOf result ClockFull → Ticks O.meaning table.old descent.old }
-    ensures clock_first { Ticks O.meaning table.old descent.old → table.old.clock + 1 ≡ 2 ^ 48 → IsErrOf result ClockFull ⊎ IsErrOf result NoMemory }
-    ensures err { OnErr result (table.new ≡ table.old) }
-    ensures err_descent { OnErr result (descent.new ≡ descent.old) }
+    ensures refused { Refuses O.meaning table.old table.new descent.old descent.new seat result }
 {
     let was = stand_block(descent.stand());
     let out = section(alloc, class, table, descent, seat)?;

@@ -6,6 +6,6 @@ use spg_opclass::OpClass;
 /// the journal is legal and each closed scan and vacuum is right, the pages are well formed and hold
 /// just the rows that are present, and each open operation is what its stage says. The events of each
 /// seat are those of its calls, in order.
-pub fn calls_keep<O: OpClass>()
+pub fn call_laws<O: OpClass>()
     ensures { RunsKeep O O.Key O.Recon O.Cond O.meaning }
 {}

@@ -18,7 +18,7 @@ mod vacuums;
 mod waiting;
 
 pub use answer::{InsertOut, InsertRan, OpenKind, OpenRefused, VacuumOut, VacuumRefused};
-pub use laws::calls_keep;
+pub use laws::call_laws;
 pub use spg_scan::{Closed, ReadOut};
 pub use spg_tree::StepRefused;
 pub use state::State;

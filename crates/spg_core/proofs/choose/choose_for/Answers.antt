@@ -29,11 +29,11 @@ down-requires g c =
     let ew : c.in_ok-view.view ≡ frame_in (tuple_at t (tuple_place d.stand)) = c.in_ok-view.ensures ∙ ap (λ (s : Sheet). frame_in (tuple_on s.tuples at.offset)) c.page.ensures ∙ ap (λ (x : Place). frame_in (tuple_at t x)) e in
     let er : c.as_slice.result.now ≡ d.rest = c.as_slice.ensures.value ∙ c.rest.ensures in
     let ea : m.answer c.args.recon.now (frame_in (tuple_at t (tuple_place d.stand))) d.rest ≡ c.in_ok-node.field-0 = sym (c.in_ok-node.ensures ∙ ap₂ (λ (v : Frame) (r : List ℕ). m.answer c.args.recon.now v r) ew er) in
-    let (key, C) = c.requires.of_key in
+    let (key, C) = c.requires.can.of_key in
     let low : c.counter.result < 8 = subst (λ (n : ℕ). n < 8) (sym c.counter.ensures.value) c.counter.ensures.in_range in
     let en : c.named-node.result ≡ named c.counter.result (frame_in (tuple_at t (tuple_place d.stand))) c.in-Match.node = c.named-node.ensures ∙ ap (λ (v : Frame). named c.counter.result v c.in-Match.node) ew in
-    let there = node_there m g.O.OpClass.matches t d c.requires.shape c.requires.inner c.requires.stands c.args.recon.now c.requires.recon c.requires.main key C c.in-Match.node c.in-Match.rest c.counter.result low (ea ∙ c.in-Match.is) in
-    let label = has_label m t (tuple_place d.stand) c.named-node.result c.requires.shape c.requires.inner.2 (subst (λ (n : ℕ). n < length (links (tuple_at t (tuple_place d.stand)))) (sym en) there) in
+    let there = node_there m g.O.OpClass.matches t d c.requires.can.shape c.requires.inner c.requires.can.stands c.args.recon.now c.requires.recon c.requires.main key C c.in-Match.node c.in-Match.rest c.counter.result low (ea ∙ c.in-Match.is) in
+    let label = has_label m t (tuple_place d.stand) c.named-node.result c.requires.can.shape c.requires.inner.2 (subst (λ (n : ℕ). n < length (links (tuple_at t (tuple_place d.stand)))) (sym en) there) in
     subst (λ (v : Frame). c.named-node.result < length v.labels) (sym ew) label
 
 pub returns-in-Match : goal.returns-in-Match
@@ -46,14 +46,14 @@ returns-in-Match g c =
     let ew : c.in_ok-view.view ≡ frame_in (tuple_at t (tuple_place d.stand)) = c.in_ok-view.ensures ∙ ap (λ (s : Sheet). frame_in (tuple_on s.tuples at.offset)) c.page.ensures ∙ ap (λ (x : Place). frame_in (tuple_at t x)) e in
     let er : c.as_slice.result.now ≡ d.rest = c.as_slice.ensures.value ∙ c.rest.ensures in
     let ea : m.answer c.args.recon.now (frame_in (tuple_at t (tuple_place d.stand))) d.rest ≡ c.in_ok-node.field-0 = sym (c.in_ok-node.ensures ∙ ap₂ (λ (v : Frame) (r : List ℕ). m.answer c.args.recon.now v r) ew er) in
-    let (key, C) = c.requires.of_key in
+    let (key, C) = c.requires.can.of_key in
     let eq : m.answer c.args.recon.now (frame_in (tuple_at t (tuple_place d.stand))) d.rest ≡ Match c.in-Match.node c.in-Match.rest = ea ∙ c.in-Match.is in
     let en : c.named-node.result ≡ named c.counter.result (frame_in (tuple_at t (tuple_place d.stand))) c.in-Match.node = c.named-node.ensures ∙ ap (λ (v : Frame). named c.counter.result v c.in-Match.node) ew in
     let low : c.counter.result < 8 = subst (λ (n : ℕ). n < 8) (sym c.counter.ensures.value) c.counter.ensures.in_range in (
-      subst (λ (n : ℕ). n < length (links (tuple_at t (tuple_place d.stand)))) (sym en) (node_there m g.O.OpClass.matches t d c.requires.shape c.requires.inner c.requires.stands c.args.recon.now c.requires.recon c.requires.main key C c.in-Match.node c.in-Match.rest c.counter.result low eq),
-      rest_ok m g.O.OpClass.matches t d c.requires.shape c.requires.inner c.requires.stands c.args.recon.now c.requires.recon c.requires.main key C c.in-Match.node c.in-Match.rest eq,
+      subst (λ (n : ℕ). n < length (links (tuple_at t (tuple_place d.stand)))) (sym en) (node_there m g.O.OpClass.matches t d c.requires.can.shape c.requires.inner c.requires.can.stands c.args.recon.now c.requires.recon c.requires.main key C c.in-Match.node c.in-Match.rest c.counter.result low eq),
+      rest_ok m g.O.OpClass.matches t d c.requires.can.shape c.requires.inner c.requires.can.stands c.args.recon.now c.requires.recon c.requires.main key C c.in-Match.node c.in-Match.rest eq,
       (λ other D. subst (λ (n : ℕ). GoesBelow m d.recon (frame_in (tuple_at t (tuple_place d.stand))) n c.in-Match.rest other) (sym en)
-          (goes m g.O.OpClass.matches t d c.requires.shape c.requires.inner c.requires.stands c.args.recon.now c.requires.recon c.requires.main other D c.in-Match.node c.in-Match.rest c.counter.result low eq)),
+          (goes m g.O.OpClass.matches t d c.requires.can.shape c.requires.inner c.requires.can.stands c.args.recon.now c.requires.recon c.requires.main other D c.in-Match.node c.in-Match.rest c.counter.result low eq)),
       inr (c.in-Match.node, (c.args.recon.now, c.requires.recon, eq), en ∙ ap (λ (n : ℕ). named n (frame_in (tuple_at t (tuple_place d.stand))) c.in-Match.node) c.counter.ensures.value, ap (λ (v : Frame). v.all_same) ew),
       ap Some (c.in_ok-below-in-Match.ensures ∙ ap (λ (v : Frame). m.down c.args.recon.now v c.named-node.result) ew) ∙ ap (λ (r : Option _). down_of m r (frame_in (tuple_at t (tuple_place d.stand))) c.named-node.result) (sym c.requires.recon),
     )

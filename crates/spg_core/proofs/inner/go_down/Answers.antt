@@ -38,14 +38,14 @@ returns-in-In g c =
     let same : SamePages t t2 = same_trans t t1 t2 (follows_same m t t1 d d2 seat node rest _ c.enter_node-entered.ensures.follows) after in
     let st = stand_below (link_of t (tuple_place d.stand) node) in
     let (free, et, ed) = follows in
-    let stands : StandsAt t (in_nulls d) st (Some (tuple_place d.stand, node)) = child_stands m t (in_nulls d) d.stand d.parent node c.requires.shape c.requires.stands c.requires.inner c.requires.chosen.0 in
-    let there : IfSome (stand_block st) (λ b. b < length t.latches) = subst (λ (n : ℕ). IfSome (stand_block st) (λ b. b < n)) (sym c.page_count-count.ensures.sound.latched) (here_there m t (in_nulls d) st (Some (tuple_place d.stand, node)) c.requires.shape stands) in
+    let stands : StandsAt t (in_nulls d) st (Some (tuple_place d.stand, node)) = child_stands m t (in_nulls d) d.stand d.parent node c.requires.can.shape c.requires.can.stands c.requires.inner c.requires.chosen.0 in
+    let there : IfSome (stand_block st) (λ b. b < length t.latches) = subst (λ (n : ℕ). IfSome (stand_block st) (λ b. b < n)) (sym c.page_count-count.ensures.sound.latched) (here_there m t (in_nulls d) st (Some (tuple_place d.stand, node)) c.requires.can.shape stands) in
     record {
-      ok = down_out m t t1 t2 d d2 seat node rest c.requires.shape c.requires.inner c.requires.stands c.requires.chosen.0 c.requires.chosen.1 c.requires.chosen.2 follows carries after;
+      ok = down_out m t t1 t2 d d2 seat node rest c.requires.can.shape c.requires.inner c.requires.can.stands c.requires.chosen.0 c.requires.chosen.1 c.requires.chosen.2 follows carries after;
       told = inr (c.requires.inner, (node, rest, c.args.by_turn, c.requires.chosen.3, t1, follows, is));
       latches = λ others h. follow_holds seat others t t1 t2 d d2 st node (down_of m d.recon (frame_in (tuple_at t (tuple_place d.stand))) node) rest c.requires.inner there free et latches ed h;
       within = λ its. same_within t t2 seat same;
-      ends = down_ends m t t1 t2 d d2 seat node rest c.args.by_turn c.requires.shape c.requires.inner c.requires.chosen.3 follows after;
+      ends = down_ends m t t1 t2 d d2 seat node rest c.args.by_turn c.requires.can.shape c.requires.inner c.requires.chosen.3 follows after;
       makes = same_makes t t2 same;
     }
 

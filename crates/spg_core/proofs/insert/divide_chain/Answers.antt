@@ -1,5 +1,4 @@
-use Rattle.std.proofs.Common.{rules, ◌≡◌, ◌+◌, ◌^◌, subst, inl, inr}
-use Rattle.spg_split.specs.Fulls.{IsChainFull}
+use Rattle.std.proofs.Common.{rules, subst, inl, inr}
 use Rattle.spg_split.specs.declared.split.SplitOut.{SplitOut}
 use Rattle.spg_core.specs.Telling.{DividesChain}
 use Rattle.spg_core.proofs.Moves.{at_chain, not_empty, below_root}
@@ -11,17 +10,7 @@ split_chain-requires-clause-spot g c =
     let t = c.args.table.now in
     let d = c.args.descent.now in
     let (off, room, long) = c.requires.rule in
-    at_chain t d c.requires.stands off c.requires.below (not_empty t d room)
-
-pub returns-in_err-split_chain-clause-full : goal.returns-in_err-split_chain-clause-full
-returns-in_err-split_chain-clause-full g c = λ h.
-    let full : IsChainFull g.O.OpClass.meaning c.args.table.now c.args.descent.now c.args.seat = search rules in
-    (inl (below_root c.args.table.now c.args.descent.now c.requires.stands c.requires.rule.0 c.requires.below), chain_near g.O.OpClass.meaning c.args.table.now c.args.descent.now c.args.seat full)
-
-pub returns-in_err-split_chain-clause-clock : goal.returns-in_err-split_chain-clause-clock
-returns-in_err-split_chain-clause-clock g c = λ h.
-    let at_end : c.args.table.now.clock + 1 ≡ 2 ^ 48 = search rules in
-    (inl (below_root c.args.table.now c.args.descent.now c.requires.stands c.requires.rule.0 c.requires.below), at_end)
+    at_chain t d c.requires.can.stands off c.requires.below (not_empty t d room)
 
 pub returns-in-Put-clause-does : goal.returns-in-Put-clause-does
 returns-in-Put-clause-does g c =
@@ -38,10 +27,17 @@ returns-in-LeftOut-clause-does g c =
     (c.requires.below, done.ok, done.ticked, done.table, done.cause, done.rise) in
     record { told = inr (c.requires.rule, inr tells); exact = done.exact; held = done.held; stood = done.stands }
 
-pub returns-in_err-split_chain-clause-full_where : goal.returns-in_err-split_chain-clause-full_where
-returns-in_err-split_chain-clause-full_where g c = λ h.
-    let full : IsChainFull g.O.OpClass.meaning c.args.table.now c.args.descent.now c.args.seat = search rules in
-    inr (inr (inl (c.requires.rule, inr (c.requires.below, full))))
-
-pub returns-in_err-split_chain-clause-clock_where : goal.returns-in_err-split_chain-clause-clock_where
-returns-in_err-split_chain-clause-clock_where g c = λ h. inr (inl (c.requires.rule, c.requires.below))
+pub returns-in_err-split_chain-clause-refused : goal.returns-in_err-split_chain-clause-refused
+returns-in_err-split_chain-clause-refused g c =
+    let t = c.args.table.now in
+    let d = c.args.descent.now in
+    let grown = below_root t d c.requires.can.stands c.requires.rule.0 c.requires.below in
+    record {
+      full = λ h. (inl grown, chain_near g.O.OpClass.meaning t d c.args.seat (c.in_err-split_chain.ensures.full (search rules)));
+      clock = λ h. (inl grown, c.in_err-split_chain.ensures.clock (search rules));
+      full_where = λ h. inr (inr (inl (c.requires.rule, inr (c.requires.below, c.in_err-split_chain.ensures.full (search rules)))));
+      clock_where = λ h. inr (inl (c.requires.rule, c.requires.below));
+      clock_first = λ ticks last. inl (search rules);
+      err = search rules;
+      err_descent = search rules;
+    }

@@ -1,21 +1,12 @@
-use Rattle.std.proofs.Common.{rules, ⊎_elim, ap, subst, inl, inr}
+use Rattle.std.proofs.Common.{⊎_elim, ap, subst, inl, inr}
 use Rattle.spg_tree.specs.Descents.{Descending}
-use Rattle.spg_split.specs.Fulls.{IsRootFull}
 use Rattle.spg_split.specs.declared.split.SplitOut.{SplitOut}
 use Rattle.spg_core.specs.Telling.{DividesRoot}
-use Rattle.spg_core.proofs.Moves.{root_full, root_leaves}
-use Rattle.spg_core.proofs.Limits.{root_near}
-use Rattle.spg_core.proofs.Ticks.{root_ticks}
+use Rattle.spg_core.proofs.Moves.{root_leaves}
 use Rattle.spg_core.proofs.insert.divide_root.Goals as goal
 
 pub split_leaf-requires-clause-spot : goal.split_leaf-requires-clause-spot
-split_leaf-requires-clause-spot g c = root_leaves g.O.OpClass.meaning c.args.table.now c.args.descent.now c.requires.shape c.requires.stands c.requires.rule.0 c.requires.root
-
-pub returns-in_err-split_leaf-clause-full : goal.returns-in_err-split_leaf-clause-full
-returns-in_err-split_leaf-clause-full g c = λ h.
-    let (off, room, long) = c.requires.rule in
-    let full : IsRootFull g.O.OpClass.meaning c.args.table.now c.args.descent.now c.args.seat = search rules in
-    (inr (root_full g.O.OpClass.meaning c.args.table.now c.args.descent.now c.requires.shape c.requires.stands off room c.requires.root), root_near g.O.OpClass.meaning c.args.table.now c.args.descent.now c.args.seat full)
+split_leaf-requires-clause-spot g c = root_leaves g.O.OpClass.meaning c.args.table.now c.args.descent.now c.requires.can.shape c.requires.can.stands c.requires.rule.0 c.requires.root
 
 pub returns-in-Put-clause-does : goal.returns-in-Put-clause-does
 returns-in-Put-clause-does g c =
@@ -35,17 +26,3 @@ returns-in-LeftOut-clause-does g c =
       held = done.held;
       stood = inl (⊎_elim (λ w. ap (λ (x : Descending _). x.stand) w.0) (λ w. ap (λ (x : Descending _). x.stand) w.0) ways);
     }
-
-pub returns-in_err-split_leaf-clause-full_where : goal.returns-in_err-split_leaf-clause-full_where
-returns-in_err-split_leaf-clause-full_where g c = λ h.
-    let full : IsRootFull g.O.OpClass.meaning c.args.table.now c.args.descent.now c.args.seat = search rules in
-    inr (inr (inl (c.requires.rule, inl (c.requires.root, full))))
-
-pub returns-in_err-split_leaf-clause-clock_first : goal.returns-in_err-split_leaf-clause-clock_first
-returns-in_err-split_leaf-clause-clock_first g c = λ ticks at_end. absurd (root_ticks g.O.OpClass.meaning c.args.table.now c.args.descent.now c.requires.rule c.requires.root ticks)
-
-pub returns-in-Put-clause-clock_first : goal.returns-in-Put-clause-clock_first
-returns-in-Put-clause-clock_first g c = λ ticks at_end. absurd (root_ticks g.O.OpClass.meaning c.args.table.now c.args.descent.now c.requires.rule c.requires.root ticks)
-
-pub returns-in-LeftOut-clause-clock_first : goal.returns-in-LeftOut-clause-clock_first
-returns-in-LeftOut-clause-clock_first g c = λ ticks at_end. absurd (root_ticks g.O.OpClass.meaning c.args.table.now c.args.descent.now c.requires.rule c.requires.root ticks)

@@ -21,12 +21,12 @@ seat_is g c = ap (λ i. get_or c.args.slots.now.items i Free) (sym (c.from.ensur
 
 pub returns-clause-full_where : goal.returns-clause-full_where
 returns-clause-full_where g c = λ h.
-    subst (λ (x : Slot _ _ _ _). FindsNoPageFor g.O.OpClass.meaning c.args.table.now c.args.seat (stage_of x)) (sym (seat_is g ((goal.at.returns-clause-full_where g c).In-Insert))) (c.step.ensures.full_where h)
+    subst (λ (x : Slot _ _ _ _). FindsNoPageFor g.O.OpClass.meaning c.args.table.now c.args.seat (stage_of x)) (sym (seat_is g ((goal.at.returns-clause-full_where g c).In-Insert))) (c.step.ensures.refused.full_where h)
 
 pub returns-clause-clock_first : goal.returns-clause-clock_first
 returns-clause-clock_first g c = λ ticks last.
-    c.step.ensures.clock_first (subst (λ (x : Slot _ _ _ _). TicksFor g.O.OpClass.meaning c.args.table.now (stage_of x)) (seat_is g ((goal.at.returns-clause-clock_first g c).In-Insert)) ticks) last
+    c.step.ensures.refused.clock_first (subst (λ (x : Slot _ _ _ _). TicksFor g.O.OpClass.meaning c.args.table.now (stage_of x)) (seat_is g ((goal.at.returns-clause-clock_first g c).In-Insert)) ticks) last
 
 pub returns-clause-err_slots : goal.returns-clause-err_slots
 returns-clause-err_slots g c =
-    refused_slot c.step.result c.args.slots.now.items c.from.result c.in-Insert.key c.in-Insert.descent c.step.new.descent (slot_is g ((goal.at.returns-clause-err_slots g c).In-Insert)) c.step.ensures.err_descent
+    refused_slot c.step.result c.args.slots.now.items c.from.result c.in-Insert.key c.in-Insert.descent c.step.new.descent (slot_is g ((goal.at.returns-clause-err_slots g c).In-Insert)) c.step.ensures.refused.err_descent

@@ -1,0 +1,24 @@
+-- What is said of refusals where a section was done, or was refused by what it called.
+use Rattle.std.proofs.Common.{◌≡◌, ◌+◌, ◌^◌, ℕ, Ok}
+use Rattle.std.specs.Prelude.{IsErrOf}
+use Rattle.spg_opclass.specs.Meaning.{Meaning}
+use Rattle.spg_tree.specs.Table.{Table}
+use Rattle.spg_tree.specs.Descents.{Descending}
+use Rattle.spg_tree.specs.declared.stand.StepRefused.TheVariants.{IndexFull, ClockFull}
+use Rattle.spg_core.specs.declared.answer.InsertOut.{InsertOut}
+use Rattle.spg_core.specs.Refusing.{Refuses, Ticks}
+
+pub not_err : {T E : Type 0} (x : T) (e : E) → IsErrOf {T = T} {E = E} (Ok x) e → ⊥
+not_err x e h = cc
+
+-- one that was done did not raise the last clock
+pub done_so : {Key Recon Cond : Type 0} (m : Meaning Key Recon Cond) (t t2 : Table) (d d2 : Descending Recon) (seat : ℕ) (out : InsertOut) → (Ticks m t d → t.clock + 1 ≡ 2 ^ 48 → ⊥) → Refuses m t t2 d d2 seat (Ok out)
+done_so m t t2 d d2 seat out apart = record {
+  full = λ h. absurd (not_err out IndexFull h);
+  clock = λ h. absurd (not_err out ClockFull h);
+  full_where = λ h. absurd (not_err out IndexFull h);
+  clock_where = λ h. absurd (not_err out ClockFull h);
+  clock_first = λ ticks last. absurd (apart ticks last);
+  err = tt;
+  err_descent = tt;
+}

@@ -1,5 +1,0 @@
-use Rattle.spg_rows.proofs.Targets.{targets_agree, kills_stay}
-use Rattle.spg_rows.proofs.laws.targets_stay.Goals as goal
-
-pub returns : goal.returns
-returns g c = record { agree = targets_agree; stay = kills_stay }

@@ -1,5 +1,0 @@
-use Rattle.spg_scan.proofs.Gathering.{reads}
-use Rattle.spg_scan.proofs.laws.items.Goals as goal
-
-pub returns : goal.returns
-returns g c = reads g.O.OpClass.meaning
