@@ -21,7 +21,7 @@ use spg_base::SeatNo;
 use spg_descend::{Entered, PutOut, Rule, enter_root, put_leaf, rule_at};
 use spg_move::move_chain;
 use spg_opclass::OpClass;
-use spg_split::{SplitOut, split_chain, split_leaf};
+use spg_split::{SplitOut, split_leaf};
 use spg_tree::{Descent, PageTable, Stand, StepRefused};
 use std::alloc::Global;
 
@@ -137,7 +137,7 @@ fn divide_chain<O: OpClass>(
     ensures err { OnErr result (table.new ≡ table.old) }
     ensures err_descent { OnErr result (descent.new ≡ descent.old) }
 {
-    match split_chain(alloc, class, table, descent, seat)? {
+    match split_leaf(alloc, class, table, descent, seat)? {
         SplitOut::Put => Ok(InsertOut::Put),
         SplitOut::LeftOut => Ok(InsertOut::Restructured),
     }
