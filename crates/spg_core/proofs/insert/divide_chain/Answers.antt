@@ -1,47 +1,47 @@
 use Rattle.std.proofs.Common.{rules, ◌≡◌, ◌+◌, ◌^◌, subst, inl, inr}
-use Rattle.spg_split.specs.Fulls.{IsChainFull}
+use Rattle.spg_split.specs.Cases.{IsLeafFull}
 use Rattle.spg_split.specs.declared.split.SplitOut.{SplitOut}
 use Rattle.spg_core.specs.Telling.{DividesChain}
 use Rattle.spg_core.proofs.Moves.{at_chain, not_empty, below_root}
 use Rattle.spg_core.proofs.Limits.{chain_near}
 use Rattle.spg_core.proofs.insert.divide_chain.Goals as goal
 
-pub split_chain-requires-clause-spot : goal.split_chain-requires-clause-spot
-split_chain-requires-clause-spot g c =
+pub split_leaf-requires-clause-spot : goal.split_leaf-requires-clause-spot
+split_leaf-requires-clause-spot g c =
     let t = c.args.table.now in
     let d = c.args.descent.now in
     let (off, room, long) = c.requires.rule in
-    at_chain t d c.requires.stands off c.requires.below (not_empty t d room)
+    inr (at_chain t d c.requires.stands off c.requires.below (not_empty t d room))
 
-pub returns-in_err-split_chain-clause-full : goal.returns-in_err-split_chain-clause-full
-returns-in_err-split_chain-clause-full g c = λ h.
-    let full : IsChainFull g.O.OpClass.meaning c.args.table.now c.args.descent.now c.args.seat = search rules in
-    (inl (below_root c.args.table.now c.args.descent.now c.requires.stands c.requires.rule.0 c.requires.below), chain_near g.O.OpClass.meaning c.args.table.now c.args.descent.now c.args.seat full)
+pub returns-in_err-split_leaf-clause-full : goal.returns-in_err-split_leaf-clause-full
+returns-in_err-split_leaf-clause-full g c = λ h.
+    let full : IsLeafFull g.O.OpClass.meaning c.args.table.now c.args.descent.now c.args.seat = search rules in
+    (inl (below_root c.args.table.now c.args.descent.now c.requires.stands c.requires.rule.0 c.requires.below), chain_near g.O.OpClass.meaning c.args.table.now c.args.descent.now c.args.seat (full.below c.requires.below))
 
-pub returns-in_err-split_chain-clause-clock : goal.returns-in_err-split_chain-clause-clock
-returns-in_err-split_chain-clause-clock g c = λ h.
+pub returns-in_err-split_leaf-clause-clock : goal.returns-in_err-split_leaf-clause-clock
+returns-in_err-split_leaf-clause-clock g c = λ h.
     let at_end : c.args.table.now.clock + 1 ≡ 2 ^ 48 = search rules in
     (inl (below_root c.args.table.now c.args.descent.now c.requires.stands c.requires.rule.0 c.requires.below), at_end)
 
 pub returns-in-Put-clause-does : goal.returns-in-Put-clause-does
 returns-in-Put-clause-does g c =
-    let done = c.in_ok-split_chain.ensures in
-    let tells = subst (λ (o : SplitOut). DividesChain g.O.OpClass.meaning c.args.table.now c.split_chain.new.table c.args.descent.now c.split_chain.new.descent c.args.seat o) c.in-Put.is
-    (c.requires.below, done.ok, done.ticked, done.table, done.cause, done.rise) in
+    let done = c.in_ok-split_leaf.ensures in
+    let tells = subst (λ (o : SplitOut). DividesChain g.O.OpClass.meaning c.args.table.now c.split_leaf.new.table c.args.descent.now c.split_leaf.new.descent c.args.seat o) c.in-Put.is
+    (c.requires.below, done.ok.below c.requires.below, done.ticked c.requires.below, done.table.below c.requires.below, done.cause.below c.requires.below, done.rise.below c.requires.below) in
     let (low, (z, makes, splits, e), ticked, table, cause, rise) = tells in
     record { told = (e, inr (inr (c.requires.rule, inr tells))); exact = done.exact; held = done.held; stood = done.stands }
 
 pub returns-in-LeftOut-clause-does : goal.returns-in-LeftOut-clause-does
 returns-in-LeftOut-clause-does g c =
-    let done = c.in_ok-split_chain.ensures in
-    let tells = subst (λ (o : SplitOut). DividesChain g.O.OpClass.meaning c.args.table.now c.split_chain.new.table c.args.descent.now c.split_chain.new.descent c.args.seat o) c.in-LeftOut.is
-    (c.requires.below, done.ok, done.ticked, done.table, done.cause, done.rise) in
+    let done = c.in_ok-split_leaf.ensures in
+    let tells = subst (λ (o : SplitOut). DividesChain g.O.OpClass.meaning c.args.table.now c.split_leaf.new.table c.args.descent.now c.split_leaf.new.descent c.args.seat o) c.in-LeftOut.is
+    (c.requires.below, done.ok.below c.requires.below, done.ticked c.requires.below, done.table.below c.requires.below, done.cause.below c.requires.below, done.rise.below c.requires.below) in
     record { told = inr (c.requires.rule, inr tells); exact = done.exact; held = done.held; stood = done.stands }
 
-pub returns-in_err-split_chain-clause-full_where : goal.returns-in_err-split_chain-clause-full_where
-returns-in_err-split_chain-clause-full_where g c = λ h.
-    let full : IsChainFull g.O.OpClass.meaning c.args.table.now c.args.descent.now c.args.seat = search rules in
-    inr (inr (inl (c.requires.rule, inr (c.requires.below, full))))
+pub returns-in_err-split_leaf-clause-full_where : goal.returns-in_err-split_leaf-clause-full_where
+returns-in_err-split_leaf-clause-full_where g c = λ h.
+    let full : IsLeafFull g.O.OpClass.meaning c.args.table.now c.args.descent.now c.args.seat = search rules in
+    inr (inr (inl (c.requires.rule, inr (c.requires.below, full.below c.requires.below))))
 
-pub returns-in_err-split_chain-clause-clock_where : goal.returns-in_err-split_chain-clause-clock_where
-returns-in_err-split_chain-clause-clock_where g c = λ h. inr (inl (c.requires.rule, c.requires.below))
+pub returns-in_err-split_leaf-clause-clock_where : goal.returns-in_err-split_leaf-clause-clock_where
+returns-in_err-split_leaf-clause-clock_where g c = λ h. inr (inl (c.requires.rule, c.requires.below))

@@ -1,6 +1,6 @@
 use Rattle.std.proofs.Common.{rules, ⊎_elim, ap, subst, inl, inr}
 use Rattle.spg_tree.specs.Descents.{Descending}
-use Rattle.spg_split.specs.Fulls.{IsRootFull}
+use Rattle.spg_split.specs.Cases.{IsLeafFull}
 use Rattle.spg_split.specs.declared.split.SplitOut.{SplitOut}
 use Rattle.spg_core.specs.Telling.{DividesRoot}
 use Rattle.spg_core.proofs.Moves.{root_full, root_leaves}
@@ -9,25 +9,25 @@ use Rattle.spg_core.proofs.Ticks.{root_ticks}
 use Rattle.spg_core.proofs.insert.divide_root.Goals as goal
 
 pub split_leaf-requires-clause-spot : goal.split_leaf-requires-clause-spot
-split_leaf-requires-clause-spot g c = root_leaves g.O.OpClass.meaning c.args.table.now c.args.descent.now c.requires.shape c.requires.stands c.requires.rule.0 c.requires.root
+split_leaf-requires-clause-spot g c = inl (c.requires.root, root_leaves g.O.OpClass.meaning c.args.table.now c.args.descent.now c.requires.shape c.requires.stands c.requires.rule.0 c.requires.root)
 
 pub returns-in_err-split_leaf-clause-full : goal.returns-in_err-split_leaf-clause-full
 returns-in_err-split_leaf-clause-full g c = λ h.
     let (off, room, long) = c.requires.rule in
-    let full : IsRootFull g.O.OpClass.meaning c.args.table.now c.args.descent.now c.args.seat = search rules in
-    (inr (root_full g.O.OpClass.meaning c.args.table.now c.args.descent.now c.requires.shape c.requires.stands off room c.requires.root), root_near g.O.OpClass.meaning c.args.table.now c.args.descent.now c.args.seat full)
+    let full : IsLeafFull g.O.OpClass.meaning c.args.table.now c.args.descent.now c.args.seat = search rules in
+    (inr (root_full g.O.OpClass.meaning c.args.table.now c.args.descent.now c.requires.shape c.requires.stands off room c.requires.root), root_near g.O.OpClass.meaning c.args.table.now c.args.descent.now c.args.seat (full.root c.requires.root))
 
 pub returns-in-Put-clause-does : goal.returns-in-Put-clause-does
 returns-in-Put-clause-does g c =
     let done = c.in_ok-split_leaf.ensures in
-    let tells = subst (λ (o : SplitOut). DividesRoot g.O.OpClass.meaning c.args.table.now c.split_leaf.new.table c.args.descent.now c.split_leaf.new.descent c.args.seat o) c.in-Put.is (c.requires.root, done.ok, done.table, done.cause, done.rise) in
+    let tells = subst (λ (o : SplitOut). DividesRoot g.O.OpClass.meaning c.args.table.now c.split_leaf.new.table c.args.descent.now c.split_leaf.new.descent c.args.seat o) c.in-Put.is (c.requires.root, done.ok.root c.requires.root, done.table.root c.requires.root, done.cause.root c.requires.root, done.rise.root c.requires.root) in
     let (low, (parts, calm, makes, e), table, cause, rise) = tells in
     record { told = (e, inr (inr (c.requires.rule, inl tells))); exact = done.exact; held = done.held; stood = inl (ap (λ (x : Descending _). x.stand) e) }
 
 pub returns-in-LeftOut-clause-does : goal.returns-in-LeftOut-clause-does
 returns-in-LeftOut-clause-does g c =
     let done = c.in_ok-split_leaf.ensures in
-    let tells = subst (λ (o : SplitOut). DividesRoot g.O.OpClass.meaning c.args.table.now c.split_leaf.new.table c.args.descent.now c.split_leaf.new.descent c.args.seat o) c.in-LeftOut.is (c.requires.root, done.ok, done.table, done.cause, done.rise) in
+    let tells = subst (λ (o : SplitOut). DividesRoot g.O.OpClass.meaning c.args.table.now c.split_leaf.new.table c.args.descent.now c.split_leaf.new.descent c.args.seat o) c.in-LeftOut.is (c.requires.root, done.ok.root c.requires.root, done.table.root c.requires.root, done.cause.root c.requires.root, done.rise.root c.requires.root) in
     let (low, (calm, makes, ways), table, cause, rise) = tells in
     record {
       told = inr (c.requires.rule, inl tells);
@@ -38,8 +38,8 @@ returns-in-LeftOut-clause-does g c =
 
 pub returns-in_err-split_leaf-clause-full_where : goal.returns-in_err-split_leaf-clause-full_where
 returns-in_err-split_leaf-clause-full_where g c = λ h.
-    let full : IsRootFull g.O.OpClass.meaning c.args.table.now c.args.descent.now c.args.seat = search rules in
-    inr (inr (inl (c.requires.rule, inl (c.requires.root, full))))
+    let full : IsLeafFull g.O.OpClass.meaning c.args.table.now c.args.descent.now c.args.seat = search rules in
+    inr (inr (inl (c.requires.rule, inl (c.requires.root, full.root c.requires.root))))
 
 pub returns-in_err-split_leaf-clause-clock_first : goal.returns-in_err-split_leaf-clause-clock_first
 returns-in_err-split_leaf-clause-clock_first g c = λ ticks at_end. absurd (root_ticks g.O.OpClass.meaning c.args.table.now c.args.descent.now c.requires.rule c.requires.root ticks)
