@@ -1,5 +1,5 @@
 -- What a division at a root, or one below it, says of both.
-use Rattle.std.proofs.Common.{Result, Ok, Err, IfOk, OnOk, tt}
+use Rattle.std.proofs.Common.{Result, Ok, Err, IfOk, OnOk}
 use Rattle.spg_tree.specs.declared.stand.Stand.{Stand}
 use Rattle.spg_split.specs.Splits.{IsAtRoot}
 use Rattle.spg_split.specs.Cases.{ByCase}
