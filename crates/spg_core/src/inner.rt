@@ -8,7 +8,7 @@ ghost use Rattle.spg_core.specs.Refusing.{Refuses};
 use crate::answer::InsertOut;
 use crate::choose::{Chosen, choose};
 use spg_base::{Bytes, SeatNo};
-use spg_descend::{Entered, enter_node};
+use spg_descend::{Entered, follow};
 use spg_move::{add_node, split_tuple};
 use spg_opclass::OpClass;
 use spg_tree::{Descent, PageTable, StepRefused};
@@ -30,7 +30,7 @@ fn go_down<O: OpClass>(
     ensures { Does O.meaning table.old table.new descent.old descent.new seat result }
 {
     let _count = table.page_count();
-    let entered = enter_node(table, descent, seat, node, rest, below);
+    let entered = follow(table, descent, seat, node, rest, below);
     if by_turn {
         table.turn_counter();
     }

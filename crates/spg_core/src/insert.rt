@@ -20,7 +20,7 @@ use spg_base::SeatNo;
 use spg_descend::{Entered, PutOut, Rule, enter_root, put_leaf, rule_at};
 use spg_move::move_chain;
 use spg_opclass::OpClass;
-use spg_split::{SplitOut, split_chain, split_leaf};
+use spg_split::{SplitOut, split_leaf};
 use spg_tree::{Descent, PageTable, Stand, StepRefused};
 use std::alloc::Global;
 
@@ -108,7 +108,7 @@ fn divide_chain<O: OpClass>(
     ensures does { IfOk result (λ out. Does O.meaning table.old table.new descent.old descent.new seat out) }
     ensures refused { Refuses O.meaning table.old table.new descent.old descent.new seat result }
 {
-    match split_chain(alloc, class, table, descent, seat)? {
+    match split_leaf(alloc, class, table, descent, seat)? {
         SplitOut::Put => Ok(InsertOut::Put),
         SplitOut::LeftOut => Ok(InsertOut::Restructured),
     }

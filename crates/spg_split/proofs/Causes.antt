@@ -17,8 +17,8 @@ use Rattle.spg_descend.specs.Follows.{tuple_place}
 use Rattle.spg_split.specs.declared.division.Division.{Division}
 use Rattle.spg_split.specs.declared.parts.Parts.{Parts}
 use Rattle.spg_split.specs.declared.plan.Plan.{Plan}
-use Rattle.spg_split.specs.declared.put.Parted.{Parted}
-use Rattle.spg_split.specs.declared.put.Parted.TheVariants.{With, Without}
+use Rattle.spg_split.specs.declared.put.Divided.{Divided}
+use Rattle.spg_split.specs.declared.put.Divided.TheVariants.{With, Without}
 use Rattle.spg_split.specs.declared.split.SplitOut.{SplitOut}
 use Rattle.spg_split.specs.declared.split.SplitOut.TheVariants.{LeftOut}
 use Rattle.spg_split.specs.Splits.{PartsWithout}
@@ -41,17 +41,17 @@ root_is m t d root st dv D p P =
     ∙ ap (λ (s : Stand). weight (tuples_divided m d.recon (leaves_on (tuples_at t (tuple_place s).block) ++ carried d ∷ []))) (sym st)
 
 pub root_cause : {Key Recon Cond : Type 0} (m : Meaning Key Recon Cond) (t : Table) (d : Descending Recon) (root : ℕ) → d.stand ≡ Root root → (dv : Division) → IsDivided m d.recon (rests_of (leaves_on (tuples_at t root) ++ carried d ∷ [])) dv →
-    (p : Parts) → ArePartsOf (rows_of (leaves_on (tuples_at t root) ++ carried d ∷ [])) dv p → (way : Parted) → IsWay p way → IsCauseOf (root_bytes m t d) way
+    (p : Parts) → ArePartsOf (rows_of (leaves_on (tuples_at t root) ++ carried d ∷ [])) dv p → (way : Divided) → IsWay p way → IsCauseOf (root_bytes m t d) way
 root_cause m t d root st dv D p P With a = subst (λ n. n ≤ 8160) (root_is m t d root st dv D p P) a
 root_cause m t d root st dv D p P (Without in_one) (a, b) = subst (λ n. 8160 < n) (root_is m t d root st dv D p P) a
 
 -- as the insert notes it
-pub noted : {Recon : Type 0} (n : ℕ) (d d2 : Descending Recon) (way : Parted) (out : SplitOut) → IsCauseOf n way → Notes d d2 way out → IsCause n out
+pub noted : {Recon : Type 0} (n : ℕ) (d d2 : Descending Recon) (way : Divided) (out : SplitOut) → IsCauseOf n way → Notes d d2 way out → IsCause n out
 noted n d d2 With out a (e, f) = subst (λ (o : SplitOut). IsCause n o) (sym e) a
 noted n d d2 (Without false) out a (e, f) = subst (λ (o : SplitOut). IsCause n o) (sym e) a
 noted n d d2 (Without true) out a (e, f) = subst (λ (o : SplitOut). IsCause n o) (sym e) a
 
-pub noted_chain : {Recon : Type 0} (n : ℕ) (d d2 : Descending Recon) (z : Place) (way : Parted) (out : SplitOut) → IsCauseOf n way → NotesChain d d2 z way out → IsCause n out
+pub noted_chain : {Recon : Type 0} (n : ℕ) (d d2 : Descending Recon) (z : Place) (way : Divided) (out : SplitOut) → IsCauseOf n way → NotesChain d d2 z way out → IsCause n out
 noted_chain n d d2 z With out a (e, f) = subst (λ (o : SplitOut). IsCause n o) (sym e) a
 noted_chain n d d2 z (Without false) out a (e, f) = subst (λ (o : SplitOut). IsCause n o) (sym e) a
 noted_chain n d d2 z (Without true) out a (e, f) = subst (λ (o : SplitOut). IsCause n o) (sym e) a
@@ -78,26 +78,26 @@ parts_in_one m r ls new dv D p P (Some k) only e =
     )
 
 pub root_rise : {Key Recon Cond : Type 0} (m : Meaning Key Recon Cond) (t : Table) (d : Descending Recon) (root : ℕ) → d.stand ≡ Root root → (dv : Division) → IsDivided m d.recon (rests_of (leaves_on (tuples_at t root) ++ carried d ∷ [])) dv →
-    (p : Parts) → ArePartsOf (rows_of (leaves_on (tuples_at t root) ++ carried d ∷ [])) dv p → (way : Parted) → IsWay p way → RisesOnly (root_in_one m t d) way
+    (p : Parts) → ArePartsOf (rows_of (leaves_on (tuples_at t root) ++ carried d ∷ [])) dv p → (way : Divided) → IsWay p way → RisesOnly (root_in_one m t d) way
 root_rise m t d root st dv D p P With a = tt
 root_rise m t d root st dv D p P (Without false) a = tt
 root_rise m t d root st dv D p P (Without true) (a, (node, only, e)) =
     subst (λ (s : Stand). AreInOne m d.recon (leaves_on (tuples_at t (tuple_place s).block)) (carried d)) (sym st) (parts_in_one m d.recon (leaves_on (tuples_at t root)) (carried d) dv D p P node only e)
 
 pub chain_rise : {Key Recon Cond : Type 0} (m : Meaning Key Recon Cond) (t : Table) (d : Descending Recon) (x : Place) → d.stand ≡ At x → (dv : Division) → IsDivided m d.recon (rests_of (leaves_of (chain_members (tuples_at t x.block) x.offset) ++ carried d ∷ [])) dv →
-    (p : Parts) → ArePartsOf (rows_of (leaves_of (chain_members (tuples_at t x.block) x.offset) ++ carried d ∷ [])) dv p → (plan : Plan) (way : Parted) → IsWayOf p plan way → RisesOnly (chain_in_one m t d) way
+    (p : Parts) → ArePartsOf (rows_of (leaves_of (chain_members (tuples_at t x.block) x.offset) ++ carried d ∷ [])) dv p → (plan : Plan) (way : Divided) → IsWayOf p plan way → RisesOnly (chain_in_one m t d) way
 chain_rise m t d x st dv D p P plan With a = tt
 chain_rise m t d x st dv D p P plan (Without false) a = tt
 chain_rise m t d x st dv D p P plan (Without true) (a, (node, only, e)) =
     subst (λ (s : Stand). AreInOne m d.recon (leaves_of (chain_members (tuples_at t (tuple_place s).block) (tuple_place s).offset)) (carried d)) (sym st) (parts_in_one m d.recon (leaves_of (chain_members (tuples_at t x.block) x.offset)) (carried d) dv D p P node only e)
 
 -- where it is not, the spread stays
-pub rise_noted : {Key Recon Cond : Type 0} (m : Meaning Key Recon Cond) (A : Type 0) (t t2 : Table) (d d2 : Descending Recon) (way : Parted) (out : SplitOut) → RisesOnly A way → IsSplitWay m t t2 d way → Notes d d2 way out → (out ≡ LeftOut → PartsWithout m t t2 d d2 0) ⊎ A
+pub rise_noted : {Key Recon Cond : Type 0} (m : Meaning Key Recon Cond) (A : Type 0) (t t2 : Table) (d d2 : Descending Recon) (way : Divided) (out : SplitOut) → RisesOnly A way → IsSplitWay m t t2 d way → Notes d d2 way out → (out ≡ LeftOut → PartsWithout m t t2 d d2 0) ⊎ A
 rise_noted m A t t2 d d2 With out a W (e, f) = inl (λ l. cc)
 rise_noted m A t t2 d d2 (Without false) out a W (e, f) = inl (λ l. subst (λ (x : Descending _). PartsWithout m t t2 d x 0) (sym f) W.2)
 rise_noted m A t t2 d d2 (Without true) out a W (e, f) = inr a
 
-pub rise_noted_chain : {Key Recon Cond : Type 0} (m : Meaning Key Recon Cond) (A : Type 0) (t t2 : Table) (d d2 : Descending Recon) (z : Place) (way : Parted) (out : SplitOut) → RisesOnly A way → IsChainWay m t t2 d z way → NotesChain d d2 z way out →
+pub rise_noted_chain : {Key Recon Cond : Type 0} (m : Meaning Key Recon Cond) (A : Type 0) (t t2 : Table) (d d2 : Descending Recon) (z : Place) (way : Divided) (out : SplitOut) → RisesOnly A way → IsChainWay m t t2 d z way → NotesChain d d2 z way out →
     (out ≡ LeftOut → (z : Place) × SplitsWithout m t t2 d d2 z 0) ⊎ A
 rise_noted_chain m A t t2 d d2 z With out a W (e, f) = inl (λ l. cc)
 rise_noted_chain m A t t2 d d2 z (Without false) out a W (e, f) = inl (λ l. (z, subst (λ (x : Descending _). SplitsWithout m t t2 d x z 0) (sym f) W))

@@ -26,7 +26,7 @@ use Rattle.spg_split.specs.declared.homes.Homes.{Homes}
 use Rattle.spg_split.specs.Homes.{AreHomes}
 use Rattle.spg_split.specs.Placing.{placed}
 use Rattle.spg_chain.specs.Listed.{chained}
-use Rattle.spg_split.specs.Writing.{taken_from, parted_table, MayPart}
+use Rattle.spg_split.specs.Writing.{taken_from, table_below, MayPart}
 use Rattle.spg_chain.proofs.Room.{added_live}
 use Rattle.spg_split.proofs.Totals.{total, placed_differs}
 use Rattle.spg_chain.proofs.ListTotals.{count}
@@ -89,7 +89,7 @@ module _ (t u : Table) (x p : Place) (i q c : ℕ) (inner : Tuple) (L : ℕ → 
   ds = written.ds u x p i q c inner L k n M
 
   abbrev pub T : Table
-  T = parted_table u x p i q c inner L k n
+  T = table_below u x p i q c inner L k n
 
   abbrev lp : List Tuple
   lp = with_tuple (tuples_at t4 p.block) p.offset (linked (tuple_at t4 p) i (Some z))

@@ -44,14 +44,14 @@ use Rattle.spg_split.specs.declared.parts.Parts.{Parts}
 use Rattle.spg_split.specs.declared.plan.Left.{Left}
 use Rattle.spg_split.specs.declared.plan.Plan.{Plan}
 use Rattle.spg_split.specs.declared.homes.Homes.{Homes}
-use Rattle.spg_split.specs.declared.part.Parting.{Parting}
+use Rattle.spg_split.specs.declared.chain.ChainOut.{ChainOut}
 use Rattle.spg_split.specs.Splits.{split_cost}
 use Rattle.spg_split.specs.Below.{SplitsWith, SplitsWithout, MakesBelow}
 use Rattle.spg_split.specs.Ways.{IsChainWay}
 use Rattle.spg_split.specs.Planning.{IsPlanOf, IsWayOf, from_node, bytes_away, left_at}
 use Rattle.spg_split.specs.Nodes.{IsOnlyNode}
-use Rattle.spg_split.specs.declared.put.Parted.{Parted}
-use Rattle.spg_split.specs.declared.put.Parted.TheVariants.{With, Without}
+use Rattle.spg_split.specs.declared.put.Divided.{Divided}
+use Rattle.spg_split.specs.declared.put.Divided.TheVariants.{With, Without}
 use Rattle.spg_split.specs.Dividing.{IsDivided, division_of, rows_of}
 use Rattle.spg_split.specs.Causes.{IsCauseOf, tuples_divided, leaves_below, chain_bytes}
 use Rattle.spg_split.specs.Homes.{blocks_touched}
@@ -59,8 +59,8 @@ use Rattle.spg_split.specs.Placing.{taken_by, leaves_with, downlinks}
 use Rattle.spg_chain.specs.Listed.{leaves_in}
 use Rattle.spg_split.specs.Parts.{ArePartsOf, AreReady}
 use Rattle.spg_descend.specs.BareNodes.{bare}
-use Rattle.spg_split.specs.Parting.{MayDivide, IsParted, put_by}
-use Rattle.spg_split.specs.Writing.{parted_table, MayPart}
+use Rattle.spg_split.specs.Divides.{MayDivide, IsDividedBelow, put_by}
+use Rattle.spg_split.specs.Writing.{table_below, MayPart}
 use Rattle.spg_tree.specs.Writes.{new_place}
 use Rattle.spg_split.proofs.Makes.{chain_makes, homes_next}
 use Rattle.spg_split.proofs.Housing.{IsHoused}
@@ -83,7 +83,7 @@ use Rattle.spg_split.proofs.ChainLaw.{IsChainDivision}
 module _ {Key Recon Cond : Type 0} (m : Meaning Key Recon Cond) (codes : CodeLaw m) (t : Table) (d : Descending Recon) (x p : Place) (i : ℕ) (H : Shape m (sheets_of t)) (st : d.stand ≡ At x) (pr : d.parent ≡ Some (p, i)) (A : IsAtChain t d)
     (K : (key : Option Key) × IsCarried m (sheets_of t) d key) (long : MayMove t d.stand (Live (carried d) 0) → ⊥) (tick : t.clock + 1 < 2 ^ 48)
     (dv : Division) (D : IsDivided m d.recon (rests_of (standing.vs m codes t d x p i H st pr A K long)) dv) (same : is_none d.recon ≡ in_nulls d) (p2 : Parts) (P : ArePartsOf (rows_of (standing.vs m codes t d x p i H st pr A K long)) dv p2)
-    (seat : ℕ) (t2 : Table) (done : Parting) (W : IsParted t t2 x p i seat p2 done) where
+    (seat : ℕ) (t2 : Table) (done : ChainOut) (W : IsDividedBelow t t2 x p i seat p2 done) where
   abbrev ls : List Leaf
   ls = standing.ls m codes t d x p i H st pr A K long
 
@@ -195,8 +195,8 @@ module _ {Key Recon Cond : Type 0} (m : Meaning Key Recon Cond) (codes : CodeLaw
     abbrev T : List ℕ
     T = blocks_touched x.block p.block h (length t.pages) (length u.pages)
 
-    after_is : sheets_of t2 ≡ sheets_of (parted_table u x p i h.inner h.rest (Inner w (bare n)) L plan.cut n)
-    after_is = ap sheets_of W.after ∙ ap (λ (f : Tuple). sheets_of (parted_table u x p i h.inner h.rest f L plan.cut n)) inner_is
+    after_is : sheets_of t2 ≡ sheets_of (table_below u x p i h.inner h.rest (Inner w (bare n)) L plan.cut n)
+    after_is = ap sheets_of W.after ∙ ap (λ (f : Tuple). sheets_of (table_below u x p i h.inner h.rest f L plan.cut n)) inner_is
 
     touched_is : t2.touched ≡ T
     touched_is = ap (λ (v : Table). v.touched) W.after
@@ -245,7 +245,7 @@ module _ {Key Recon Cond : Type 0} (m : Meaning Key Recon Cond) (codes : CodeLaw
     Bounded more = 1 + total but_first L 0 plan.cut + total but_first L plan.cut (n - plan.cut) ≤ (length ls - 1) + more
 
     abbrev S2 : Sheets
-    S2 = sheets_of (parted_table u x p i h.inner h.rest (Inner w (bare n)) L plan.cut n)
+    S2 = sheets_of (table_below u x p i h.inner h.rest (Inner w (bare n)) L plan.cut n)
 
     abbrev V6 : Place → Spot
     V6 = law.V6 m u x p i h.inner h.rest w L plan.cut n ls wp nsp CD
@@ -446,7 +446,7 @@ module _ {Key Recon Cond : Type 0} (m : Meaning Key Recon Cond) (codes : CodeLaw
   big none = ⊎_elim (λ (Q, f). absurd (none Q.count)) (λ (Q, (all, F, f)). let b = F.bytes in let l = from_lighter all.cut p2.leaves p2.node_of in omega arith) W.is_plan
 
   -- whichever way it was done
-  chain_law : (z : Place) (way : Parted) → z ≡ done.at → IsWayOf p2 plan way → IsChainWay m t t2 d z way × IsTicked t t2
+  chain_law : (z : Place) (way : Divided) → z ≡ done.at → IsWayOf p2 plan way → IsChainWay m t t2 d z way × IsTicked t t2
   chain_law z With ez all =
       let (wp, nsp, ep, ex) = standing.above m codes t d x p i H st pr A K long in
       let are : ws ≡ all_live (leaves_with (rows_of vs) dv.rests) = ap (λ k. take k p2.leaves) all ∙ take-length p2.leaves ∙ P.leaves in
@@ -488,7 +488,7 @@ module _ {Key Recon Cond : Type 0} (m : Meaning Key Recon Cond) (codes : CodeLaw
 
       one : MakesOne t t2 (new_place u h.inner)
       one y none a =
-          let b : IsInner (tuple_at (parted_table u x p i h.inner h.rest p2.inner L plan.cut n) y) = subst (λ (v : Table). IsInner (tuple_at v y)) W.after a in
+          let b : IsInner (tuple_at (table_below u x p i h.inner h.rest p2.inner L plan.cut n) y) = subst (λ (v : Table). IsInner (tuple_at v y)) W.after a in
           let c : IsInner (tuple_at u y) = chain_makes u x p i h.inner h.rest p2.inner L plan.cut n may y none b in
           subst (λ ts. IsInner (tuple_on ts y.offset)) (HH.tuples y.block) c
 
@@ -516,7 +516,7 @@ module _ {Key Recon Cond : Type 0} (m : Meaning Key Recon Cond) (codes : CodeLaw
   pub chain_cause : IsCauseOf (chain_bytes m t d) done.way
   chain_cause = go done.way W.way
     where
-      go : (way : Parted) → IsWayOf p2 plan way → IsCauseOf (chain_bytes m t d) way
+      go : (way : Divided) → IsWayOf p2 plan way → IsCauseOf (chain_bytes m t d) way
       go With all = ⊎_elim
           (λ (Q, f). subst (λ k. k ≤ 8160) (away_is p2.leaves plan Q ∙ bytes_are) f)
           (λ (Q, o). let a = Q.count in let b = length-take-le (length p2.leaves - 1) p2.leaves (omega arith) in let c = some in absurd (omega arith)) W.is_plan

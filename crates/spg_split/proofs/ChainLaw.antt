@@ -26,7 +26,7 @@ use Rattle.spg_tree.specs.Table.{Table, sheets_of, tuples_at, tuple_at, with_lin
 use Rattle.spg_descend.specs.BareNodes.{bare}
 use Rattle.spg_split.specs.Placing.{head_of, downlink, downlinks, HaveRooms}
 use Rattle.spg_chain.specs.Listed.{chained}
-use Rattle.spg_split.specs.Writing.{parted_table, MayPart}
+use Rattle.spg_split.specs.Writing.{table_below, MayPart}
 use Rattle.spg_tree.specs.Writes.{new_place}
 use Rattle.spg_split.proofs.Chaining.{downlinks_length}
 use Rattle.spg_split.proofs.Totals.{total}
@@ -207,7 +207,7 @@ module _ {Key Recon Cond : Type 0} (m : Meaning Key Recon Cond) (u : Table) (x p
 
   -- the whole
   abbrev pub S2 : Sheets
-  S2 = sheets_of (parted_table u x p i q c (Inner w (bare n)) L k n)
+  S2 = sheets_of (table_below u x p i q c (Inner w (bare n)) L k n)
 
   spread_is : spread S2 + (length ls - 1) ≡ spread S + 1 + total but_first L 0 k + total but_first L k (n - k)
   spread_is = let a = A1.1 in let b = A2.1 in let d = A3.more in let e = A4.more in let f = A5.1 in let g = A6.1 in omega arith

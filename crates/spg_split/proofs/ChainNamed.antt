@@ -23,15 +23,15 @@ use Rattle.spg_split.specs.declared.division.Division.{Division}
 use Rattle.spg_split.specs.declared.parts.Parts.{Parts}
 use Rattle.spg_split.specs.declared.plan.Plan.{Plan}
 use Rattle.spg_split.specs.declared.homes.Homes.{Homes}
-use Rattle.spg_split.specs.declared.part.Parting.{Parting}
+use Rattle.spg_split.specs.declared.chain.ChainOut.{ChainOut}
 use Rattle.spg_split.specs.Planning.{from_node}
 use Rattle.spg_split.specs.Dividing.{IsDivided, rows_of}
 use Rattle.spg_split.specs.Homes.{fits_above, inner_want, rest_want}
 use Rattle.spg_tree.specs.Another.{another}
 use Rattle.spg_split.specs.Placing.{taken_by}
 use Rattle.spg_split.specs.Parts.{ArePartsOf, AreReady}
-use Rattle.spg_split.specs.Parting.{MayDivide, IsParted, put_by}
-use Rattle.spg_split.specs.Writing.{parted_table, MayPart}
+use Rattle.spg_split.specs.Divides.{MayDivide, IsDividedBelow, put_by}
+use Rattle.spg_split.specs.Writing.{table_below, MayPart}
 use Rattle.spg_split.proofs.Housing.{IsHoused}
 use Rattle.spg_split.proofs.Deciding.{plan_of_put, homes_housed, may_part}
 use Rattle.spg_tree.proofs.Among.{another_is, another_once}
@@ -44,7 +44,7 @@ use Rattle.spg_split.proofs.ChainStanding as standing
 module _ {Key Recon Cond : Type 0} (m : Meaning Key Recon Cond) (codes : CodeLaw m) (t : Table) (d : Descending Recon) (x p : Place) (i : ℕ) (H : Shape m (sheets_of t)) (st : d.stand ≡ At x) (pr : d.parent ≡ Some (p, i)) (A : IsAtChain t d)
     (K : (key : Option Key) × IsCarried m (sheets_of t) d key) (long : MayMove t d.stand (Live (carried d) 0) → ⊥) (tick : t.clock + 1 < 2 ^ 48)
     (dv : Division) (D : IsDivided m d.recon (rests_of (standing.vs m codes t d x p i H st pr A K long)) dv) (same : is_none d.recon ≡ in_nulls d) (p2 : Parts) (P : ArePartsOf (rows_of (standing.vs m codes t d x p i H st pr A K long)) dv p2)
-    (seat : ℕ) (t2 : Table) (done : Parting) (W : IsParted t t2 x p i seat p2 done) where
+    (seat : ℕ) (t2 : Table) (done : ChainOut) (W : IsDividedBelow t t2 x p i seat p2 done) where
   abbrev u : Table
   u = W.housed
 
@@ -85,7 +85,7 @@ module _ {Key Recon Cond : Type 0} (m : Meaning Key Recon Cond) (codes : CodeLaw
   M2 = may_part t u x p i p2 W.left plan h MD R some W.is_left W.is_plan HH
 
   abbrev T2 : Table
-  T2 = parted_table u x p i h.inner h.rest p2.inner L plan.cut n
+  T2 = table_below u x p i h.inner h.rest p2.inner L plan.cut n
 
   above : (v : Frame) × (ks : List (Option Place)) × (tuple_at t p ≡ Inner v ks) × (get_or ks i None ≡ Some x)
   above = standing.above m codes t d x p i H st pr A K long

@@ -39,7 +39,7 @@ use Rattle.spg_split.specs.Placing.{leaves_with}
 use Rattle.spg_chain.specs.Listed.{leaves_in}
 use Rattle.spg_split.specs.Parts.{ArePartsOf, AreReady}
 use Rattle.spg_descend.specs.BareNodes.{bare}
-use Rattle.spg_split.specs.Parting.{MayDivide}
+use Rattle.spg_split.specs.Divides.{MayDivide}
 use Rattle.spg_split.proofs.Emptying.{chain_emptied, gaps_least}
 use Rattle.spg_chain.proofs.LiveLists.{leaves_in_live, length-all_live}
 use Rattle.spg_chain.proofs.Room.{least_weight}

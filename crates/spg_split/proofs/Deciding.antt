@@ -21,7 +21,7 @@ use Rattle.spg_split.specs.Placing.{taken_by, placed, HaveRooms}
 use Rattle.spg_chain.specs.Listed.{leaves_in}
 use Rattle.spg_split.specs.Planning.{from_node, IsPlanOf, IsPlan, IsLeft}
 use Rattle.spg_split.specs.Homes.{PicksHomes}
-use Rattle.spg_split.specs.Parting.{MayDivide, put_by}
+use Rattle.spg_split.specs.Divides.{MayDivide, put_by}
 use Rattle.spg_split.specs.Writing.{taken_from, cleared_table, lists_table, MayPart}
 use Rattle.spg_tree.specs.Writes.{new_place, added_table}
 use Rattle.spg_split.proofs.Plans.{stay_rooms, stay_few, rest_rooms}

@@ -21,11 +21,11 @@ use Rattle.spg_split.specs.declared.parts.Parts.{Parts}
 use Rattle.spg_split.specs.declared.plan.ListSize.{ListSize}
 use Rattle.spg_split.specs.declared.plan.Left.{Left}
 use Rattle.spg_split.specs.declared.plan.Plan.{Plan}
-use Rattle.spg_split.specs.declared.put.Parted.{Parted}
-use Rattle.spg_split.specs.declared.put.Parted.TheVariants.{With, Without}
+use Rattle.spg_split.specs.declared.put.Divided.{Divided}
+use Rattle.spg_split.specs.declared.put.Divided.TheVariants.{With, Without}
 use Rattle.spg_split.specs.Causes.{tuples_divided, leaves_below, chain_bytes}
 use Rattle.spg_split.specs.Dividing.{IsDivided, division_of, rows_of}
-use Rattle.spg_split.specs.Fulls.{those_put, gone, size_gone, AreFull, AreHomesFull, IsChainFull, IsChainFullAt, IsFullBelow, IsPartingFull, IsPuttingFull, IsRootFull}
+use Rattle.spg_split.specs.Fulls.{those_put, gone, size_gone, AreFull, AreHomesFull, IsChainFull, IsChainFullAt, IsFullBelow, IsDivisionFull, IsPuttingFull, IsRootFull}
 use Rattle.spg_split.specs.Parts.{ArePartsOf, IsWay, going, lists_want}
 use Rattle.spg_descend.specs.BareNodes.{bare}
 use Rattle.spg_split.specs.Placing.{leaves_with}
@@ -33,7 +33,7 @@ use Rattle.spg_split.specs.Planning.{IsLeft, IsPlan, IsPlanOf, bytes_away, from_
 use Rattle.spg_split.specs.Homes.{AreHomes, fits_above, inner_want, rest_want}
 use Rattle.spg_split.specs.Tables.{DividesBelow}
 use Rattle.spg_split.specs.declared.homes.Homes.{Homes}
-use Rattle.spg_split.specs.declared.part.Parting.{Parting}
+use Rattle.spg_split.specs.declared.chain.ChainOut.{ChainOut}
 use Rattle.spg_tree.specs.declared.want.Want.{Want}
 use Rattle.spg_tree.proofs.Two.{two_full_not}
 use Rattle.spg_descend.proofs.NotFull.{picks_not_full}
@@ -49,7 +49,7 @@ tuples_are : {Key Recon Cond : Type 0} (m : Meaning Key Recon Cond) (r : Option 
 tuples_are m r vs dv D p P = P.leaves ∙ ap (λ (z : Division). all_live (leaves_with (rows_of vs) z.rests)) D.exact
 
 -- those that go are those put
-pub going_are : (p : Parts) (way : Parted) → IsWay p way → going p way ≡ those_put (weight p.leaves) p.leaves
+pub going_are : (p : Parts) (way : Divided) → IsWay p way → going p way ≡ those_put (weight p.leaves) p.leaves
 going_are p With a = sym (put_all (weight p.leaves) p.leaves a)
 going_are p (Without in_one) (a, b) = sym (put_others (weight p.leaves) p.leaves a)
 
@@ -117,7 +117,7 @@ chain_wants {Key} {Recon} m t d x st dv exact ps P l L plan Q = (rest, inner)
         ∙ ap (λ (z : Left). rest_of ts dv2.node_of n z) left ∙ ap (λ b. size_gone (those_put b ts) dv2.node_of n (left_at (tuples_at t x.block) x.offset)) bytes
 
 pub chain_full : {Key Recon Cond : Type 0} (m : Meaning Key Recon Cond) (t : Table) (d : Descending Recon) (x p : Place) (i seat : ℕ) → d.stand ≡ At x → d.parent ≡ Some (p, i) → (dv : Division) → IsDivided m d.recon (rests_of (leaves_below t d x)) dv →
-    (ps : Parts) → ArePartsOf (rows_of (leaves_below t d x)) dv ps → IsPartingFull t x p ps seat → IsChainFull m t d seat
+    (ps : Parts) → ArePartsOf (rows_of (leaves_below t d x)) dv ps → IsDivisionFull t x p ps seat → IsChainFull m t d seat
 chain_full m t d x p i seat st pr dv D ps P (l, L, plan, Q, F) =
     let (rest, inner) = chain_wants m t d x st dv D.exact ps P l L plan Q in
     let dv2 : Division = division_of m d.recon (rests_of (leaves_below t d x)) in
@@ -134,7 +134,7 @@ homes_not_full true true t t2 b p w v h (i, Q, P) F = picks_not_full t v h.rest 
 homes_not_full false false t t2 b p w v h (r, Q, P) F = picks_not_full t w h.inner t2 Q F
 homes_not_full false true t t2 b p w v h (Q, P) F = two_full_not t Q.between t2 w v h.inner h.rest Q.first Q.second F
 
-pub chain_not_full : {Key Recon Cond : Type 0} (m : Meaning Key Recon Cond) (t t2 : Table) (d : Descending Recon) (seat : ℕ) (done : Parting) → DividesBelow m t t2 d d.stand d.parent seat done → IsChainFull m t d seat → ⊥
+pub chain_not_full : {Key Recon Cond : Type 0} (m : Meaning Key Recon Cond) (t t2 : Table) (d : Descending Recon) (seat : ℕ) (done : ChainOut) → DividesBelow m t t2 d d.stand d.parent seat done → IsChainFull m t d seat → ⊥
 chain_not_full {Key} {Recon} m t t2 d seat done W F = go d.stand d.parent refl W F
   where
     go : (st : Stand) (pa : Option (Place × ℕ)) → d.stand ≡ st → DividesBelow m t t2 d st pa seat done → IsFullBelow m t d pa seat → ⊥

@@ -11,16 +11,16 @@ use Rattle.spg_descend.specs.Held.{TouchesFree, IsNoOthers, IsFreeHome, StandsFr
 use Rattle.spg_descend.specs.Leaves.{parent_block}
 use Rattle.spg_descend.proofs.Held.{MayTouch, picked_free, first_free, second_free, may_root, may_at, may_above, may_free, AreAll, all_none, all_more, all_both, all_either, all_new, touches, touches_two}
 use Rattle.spg_split.specs.declared.parts.Parts.{Parts}
-use Rattle.spg_split.specs.declared.part.Parting.{Parting}
+use Rattle.spg_split.specs.declared.chain.ChainOut.{ChainOut}
 use Rattle.spg_split.specs.declared.plan.ListSize.{ListSize}
 use Rattle.spg_split.specs.declared.homes.Homes.{Homes}
 use Rattle.spg_split.specs.Homes.{AreHomes, fits_above, inner_want, rest_want, blocks_touched}
 use Rattle.spg_tree.specs.Another.{another}
 use Rattle.spg_split.specs.Parts.{PutsLists, lists_want}
-use Rattle.spg_split.specs.Parting.{IsParted}
+use Rattle.spg_split.specs.Divides.{IsDividedBelow}
 use Rattle.spg_split.specs.Ways.{NotesChain}
-use Rattle.spg_split.specs.declared.put.Parted.{Parted}
-use Rattle.spg_split.specs.declared.put.Parted.TheVariants.{With, Without}
+use Rattle.spg_split.specs.declared.put.Divided.{Divided}
+use Rattle.spg_split.specs.declared.put.Divided.TheVariants.{With, Without}
 use Rattle.spg_split.specs.declared.split.SplitOut.{SplitOut}
 use Rattle.spg_tree.proofs.Among.{left_among, right_among, range_among, another_cases}
 
@@ -56,7 +56,7 @@ all_touched t d seat b p now h latched mb mp (mi, mr) =
     (all_new t d seat (now - n) latched)
 
 -- a division below a root
-pub chain_held : {Recon : Type 0} (t t2 : Table) (d : Descending Recon) (x p : Place) (i seat : ℕ) (parts : Parts) (done : Parting) → d.stand ≡ At x → d.parent ≡ Some (p, i) → length t.latches ≡ length t.pages → IsParted t t2 x p i seat parts done → TouchesFree t t2 d seat
+pub chain_held : {Recon : Type 0} (t t2 : Table) (d : Descending Recon) (x p : Place) (i seat : ℕ) (parts : Parts) (done : ChainOut) → d.stand ≡ At x → d.parent ≡ Some (p, i) → length t.latches ≡ length t.pages → IsDividedBelow t t2 x p i seat parts done → TouchesFree t t2 d seat
 chain_held t t2 d x p i seat parts done s a latched P =
     let mb = may_at t d seat x s in
     let mp = may_above t d seat p i a in
@@ -99,7 +99,7 @@ inner_touched b p n now h where_is =
     new le = ⊎_elim above (λ k. right_among h.inner (((b ∷ p ∷ []) ++ xs) ++ ys) rs (range_among (now - n) n h.inner le (omega arith))) where_is
 
 -- where the new inner tuple stands
-pub chain_home : {Recon : Type 0} (t t2 : Table) (d : Descending Recon) (x p : Place) (i seat : ℕ) (parts : Parts) (done : Parting) → d.parent ≡ Some (p, i) → IsParted t t2 x p i seat parts done → IsFreeHome t t2 d.parent done.at.block seat
+pub chain_home : {Recon : Type 0} (t t2 : Table) (d : Descending Recon) (x p : Place) (i seat : ℕ) (parts : Parts) (done : ChainOut) → d.parent ≡ Some (p, i) → IsDividedBelow t t2 x p i seat parts done → IsFreeHome t t2 d.parent done.at.block seat
 chain_home t t2 d x p i seat parts done a P =
     let h : Homes = P.homes in
     let now : ℕ = length P.housed.pages in
@@ -112,7 +112,7 @@ chain_home t t2 d x p i seat parts done a P =
     subst Is (sym at) (among, free)
 
 -- where the insert stands then
-pub noted_free : {Recon : Type 0} (t t2 : Table) (d d2 : Descending Recon) (z : Place) (seat : ℕ) (way : Parted) (out : SplitOut) → NotesChain d d2 z way out → IsFreeHome t t2 d.parent z.block seat → StandsFree t t2 d d2 seat
+pub noted_free : {Recon : Type 0} (t t2 : Table) (d d2 : Descending Recon) (z : Place) (seat : ℕ) (way : Divided) (out : SplitOut) → NotesChain d d2 z way out → IsFreeHome t t2 d.parent z.block seat → StandsFree t t2 d d2 seat
 noted_free t t2 d d2 z seat With out (o, e) h = inl (ap (λ (x : Descending _). x.stand) e)
 noted_free t t2 d d2 z seat (Without false) out (o, e) h = inr (z, ap (λ (x : Descending _). x.stand) e, h)
 noted_free t t2 d d2 z seat (Without true) out (o, e) h = inr (z, ap (λ (x : Descending _). x.stand) e, h)

@@ -44,8 +44,8 @@ use Rattle.spg_descend.specs.Puts.{IsAtLeaves, Fits}
 use Rattle.spg_descend.proofs.Picked.{PicksLeaf, picks_leaf}
 use Rattle.spg_split.specs.declared.division.Division.{Division}
 use Rattle.spg_split.specs.declared.parts.Parts.{Parts}
-use Rattle.spg_split.specs.declared.put.Parted.{Parted}
-use Rattle.spg_split.specs.declared.put.Parted.TheVariants.{With, Without}
+use Rattle.spg_split.specs.declared.put.Divided.{Divided}
+use Rattle.spg_split.specs.declared.put.Divided.TheVariants.{With, Without}
 use Rattle.spg_split.specs.Splits.{split_cost, IsCalm, PartsWith, PartsWithout}
 use Rattle.spg_split.specs.Ways.{IsSplitWay}
 use Rattle.spg_split.specs.Nodes.{IsOnlyNode}
@@ -421,7 +421,7 @@ module _ {Key Recon Cond : Type 0} (m : Meaning Key Recon Cond) (codes : CodeLaw
       (calm seat t2 all_but_last ls few_old are_old (omega arith) W, makes seat t2 all_but_last W, parts_without seat t2 all_but_last ls few_old are_old (omega arith) W refl 0 (bounded seat t2 all_but_last ls few_old are_old (omega arith) W 2 0 two (omega arith)) None only big)
 
   -- whichever way it was done
-  pub split_law : (seat : ℕ) (t2 : Table) (way : Parted) → IsWay p way → PutsLists t t2 root seat p (going p way) → IsSplitWay m t t2 d way
+  pub split_law : (seat : ℕ) (t2 : Table) (way : Divided) → IsWay p way → PutsLists t t2 root seat p (going p way) → IsSplitWay m t t2 d way
   split_law seat t2 With few W =
       let (i, j, a, b, differ) = D.apart in
       let nc = node_count m codes t d root H st A K no_room dv D same p P in

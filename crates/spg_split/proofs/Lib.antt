@@ -34,3 +34,4 @@ pub mod Tables
 pub mod RootExact
 pub mod ChainExact
 pub mod ChainNamed
+pub mod Cases

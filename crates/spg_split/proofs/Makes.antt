@@ -21,7 +21,7 @@ use Rattle.spg_split.specs.declared.homes.Homes.{Homes}
 use Rattle.spg_split.specs.Homes.{AreHomes, PicksHomes, fits_above, inner_want, rest_want}
 use Rattle.spg_split.specs.Parts.{PutsLists}
 use Rattle.spg_split.specs.Placing.{placed, downlinks, taken_by, inner_root}
-use Rattle.spg_split.specs.Writing.{taken_from, lists_table, linked_table, both_tables, both_links, cleared_table, parted_table, MayPart}
+use Rattle.spg_split.specs.Writing.{taken_from, lists_table, linked_table, both_tables, both_links, cleared_table, table_below, MayPart}
 use Rattle.spg_tree.specs.Writes.{new_place, added_table}
 use Rattle.spg_split.proofs.Chaining.{placed_tuple}
 use Rattle.spg_split.proofs.Written as written
@@ -179,5 +179,5 @@ module _ (t : Table) (x p : Place) (i q c : ℕ) (inner : Tuple) (L : ℕ → Li
   none_relinked = sheet_none t4 p.block (with_tuples (sheet_at t4 p.block) (with_tuple (tuples_at t4 p.block) p.offset (linked (tuple_at t4 p) i (Some z))))
       (with_out (tuples_at t4 p.block) p.offset (linked (tuple_at t4 p) i (Some z)) (linked_inner (tuple_at t4 p) i (Some z)))
 
-  pub chain_makes : MakesOne t (parted_table t x p i q c inner L k n) (new_place t q)
+  pub chain_makes : MakesOne t (table_below t x p i q c inner L k n) (new_place t q)
   chain_makes y m a = one_added y m (none_taken y (none_first y (none_second y (one_linked y m (none_relinked y a)))))

@@ -15,8 +15,8 @@ use Rattle.spg_page.specs.Reads.{frame_in}
 use Rattle.spg_tree.specs.Table.{Table, sheets_of, sheet_at, tuples_at, with_tuples_at}
 use Rattle.spg_descend.proofs.Picked.{PicksLeaf, picks_leaf, new_at_end}
 use Rattle.spg_split.specs.declared.parts.Parts.{Parts}
-use Rattle.spg_split.specs.declared.put.Parted.{Parted}
-use Rattle.spg_split.specs.declared.put.Parted.TheVariants.{With, Without}
+use Rattle.spg_split.specs.declared.put.Divided.{Divided}
+use Rattle.spg_split.specs.declared.put.Divided.TheVariants.{With, Without}
 use Rattle.spg_split.specs.Dividing.{AreAllLive}
 use Rattle.spg_split.specs.Parts.{AreReady, PutsLists, divided_table, lists_want, going}
 use Rattle.spg_split.specs.Placing.{taken_by, placed, downlinks, inner_root}
@@ -34,7 +34,7 @@ pub several_leaves : (ls : List Leaf) → 2 ≤ length (rests_of ls) → 2 ≤ l
 several_leaves ls h = let e = length-map ls (λ (l : Leaf). l.rest) in omega arith
 
 -- how many go
-pub going_some : (p : Parts) (way : Parted) → 2 ≤ length p.leaves → (0 < length (going p way)) × (length (going p way) ≤ length p.leaves)
+pub going_some : (p : Parts) (way : Divided) → 2 ≤ length p.leaves → (0 < length (going p way)) × (length (going p way) ≤ length p.leaves)
 going_some p With h = (omega arith, omega arith)
 going_some p (Without in_one) h = let e = length-take-le (length p.leaves - 1) p.leaves (omega arith) in (omega arith, omega arith)
 

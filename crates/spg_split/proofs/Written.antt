@@ -18,7 +18,7 @@ use Rattle.spg_tree.specs.Table.{Table, tuples_at, tuple_at, with_link, with_clo
 use Rattle.spg_tree.proofs.Pages.{tuples_same, tuples_other, pages_same}
 use Rattle.spg_descend.specs.BareNodes.{bare}
 use Rattle.spg_split.specs.Placing.{downlinks}
-use Rattle.spg_split.specs.Writing.{taken_from, taken_table, lists_table, linked_table, both_tables, both_links, cleared_table, parted_table, MayPart}
+use Rattle.spg_split.specs.Writing.{taken_from, taken_table, lists_table, linked_table, both_tables, both_links, cleared_table, table_below, MayPart}
 use Rattle.spg_tree.specs.Writes.{new_place, added_table}
 use Rattle.spg_split.proofs.Chaining.{downlinks_length, downlinks_positive}
 
@@ -178,7 +178,7 @@ linked_is t u1 u2 u3 u4 x q o c inner L k n ls ks a e1 e2 e3 el ek e4 =
     ∙ ap (λ w. linked_table (both_tables (cleared_table t x q inner) x.block c L k n) (place q w) (both_links (cleared_table t x q inner) x.block c L k n)) a
 
 pub parted_is : (t u1 u2 u3 u4 u5 u6 : Table) (x p : Place) (i q o c : ℕ) (inner : Tuple) (L : ℕ → List Leaf) (k n : ℕ) (ls ks : List (Option Place)) → o ≡ (new_place t q).offset → u1 ≡ added_table t q inner → u2 ≡ taken_table u1 x (place q o) → u3 ≡ both_tables u2 x.block c L k n → ls ≡ both_links u2 x.block c L k n → ks ≡ ls →
-    u4 ≡ linked_table u3 (place q o) ks → u5 ≡ with_link u4 p i (Some (place q o)) → u6 ≡ with_clock u5 (u5.clock + 1) → u6 ≡ parted_table t x p i q c inner L k n
+    u4 ≡ linked_table u3 (place q o) ks → u5 ≡ with_link u4 p i (Some (place q o)) → u6 ≡ with_clock u5 (u5.clock + 1) → u6 ≡ table_below t x p i q c inner L k n
 parted_is t u1 u2 u3 u4 u5 u6 x p i q o c inner L k n ls ks a e1 e2 e3 el ek e4 e5 e6 =
     let f : u5 ≡ with_link (linked_table (both_tables (cleared_table t x q inner) x.block c L k n) (new_place t q) (both_links (cleared_table t x q inner) x.block c L k n)) p i (Some (new_place t q)) =
     e5 ∙ ap₂ (λ (u : Table) w. with_link u p i (Some (place q w))) (linked_is t u1 u2 u3 u4 x q o c inner L k n ls ks a e1 e2 e3 el ek e4) a in

@@ -13,8 +13,8 @@ use Rattle.spg_tree.specs.Descents.{Descending}
 use Rattle.spg_descend.specs.Carried.{carried}
 use Rattle.spg_descend.specs.Follows.{tuple_place}
 use Rattle.spg_split.specs.declared.division.Division.{Division}
-use Rattle.spg_split.specs.declared.put.Parted.{Parted}
-use Rattle.spg_split.specs.declared.put.Parted.TheVariants.{With, Without}
+use Rattle.spg_split.specs.declared.put.Divided.{Divided}
+use Rattle.spg_split.specs.declared.put.Divided.TheVariants.{With, Without}
 use Rattle.spg_split.specs.declared.split.SplitOut.{SplitOut}
 use Rattle.spg_split.specs.declared.split.SplitOut.TheVariants.{Put, LeftOut}
 use Rattle.spg_split.specs.Dividing.{division_of, rows_of}
@@ -28,7 +28,7 @@ IsCause n Put = n ≤ 8160
 IsCause n LeftOut = 8160 < n
 
 -- so the division is done with it or without it
-abbrev pub IsCauseOf : ℕ → Parted → Type 0
+abbrev pub IsCauseOf : ℕ → Divided → Type 0
 IsCauseOf n With = n ≤ 8160
 IsCauseOf n (Without in_one) = 8160 < n
 
@@ -66,7 +66,7 @@ chain_in_one m t d =
     AreInOne m d.recon (leaves_of (chain_members (tuples_at t x.block) x.offset)) (carried d)
 
 -- a division that will be noted as a rise has this
-abbrev pub RisesOnly : Type 0 → Parted → Type 0
+abbrev pub RisesOnly : Type 0 → Divided → Type 0
 RisesOnly A With = Unit {0}
 RisesOnly A (Without false) = Unit {0}
 RisesOnly A (Without true) = A

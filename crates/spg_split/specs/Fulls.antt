@@ -18,7 +18,7 @@ use Rattle.spg_split.specs.declared.parts.Parts.{Parts}
 use Rattle.spg_split.specs.declared.plan.ListSize.{ListSize}
 use Rattle.spg_split.specs.declared.plan.Left.{Left}
 use Rattle.spg_split.specs.declared.plan.Plan.{Plan}
-use Rattle.spg_split.specs.declared.put.Parted.{Parted}
+use Rattle.spg_split.specs.declared.put.Divided.{Divided}
 use Rattle.spg_split.specs.Causes.{tuples_divided, root_bytes, leaves_below, chain_bytes}
 use Rattle.spg_split.specs.Dividing.{division_of}
 use Rattle.spg_split.specs.Homes.{fits_above, inner_want, rest_want}
@@ -33,7 +33,7 @@ those_put n ts = if nat_le n 8160 then ts else take (length ts - 1) ts
 
 -- there is no page for the leaf tuples of parts that go
 abbrev pub IsPuttingFull : Table → ℕ → Parts → ℕ → Type 0
-IsPuttingFull t root parts seat = (way : Parted) × IsWay parts way × IsFull t (lists_want (sheet_at t root).nulls (going parts way) seat)
+IsPuttingFull t root parts seat = (way : Divided) × IsWay parts way × IsFull t (lists_want (sheet_at t root).nulls (going parts way) seat)
 
 -- at a root: there is none for the lists, with the leaf of the insert where they fit on one page with it
 abbrev pub IsRootFull : {Key Recon Cond : Type 0} → Meaning Key Recon Cond → Table → Descending Recon → ℕ → Type 0
@@ -55,8 +55,8 @@ AreHomesFull t b p need rest seat =
     AreFull (fits_above t p need) (nat_le 1 rest.tuples) t (inner_want nulls p need seat) (rest_want nulls b rest seat)
 
 -- the same of parts that are put by a plan
-abbrev pub IsPartingFull : Table → Place → Place → Parts → ℕ → Type 0
-IsPartingFull t x p parts seat = (l : Left) × IsLeft (tuples_at t x.block) x.offset l × (plan : Plan) × IsPlan parts l plan × AreHomesFull t x.block p.block (size_of parts.inner + 4) plan.rest seat
+abbrev pub IsDivisionFull : Table → Place → Place → Parts → ℕ → Type 0
+IsDivisionFull t x p parts seat = (l : Left) × IsLeft (tuples_at t x.block) x.offset l × (plan : Plan) × IsPlan parts l plan × AreHomesFull t x.block p.block (size_of parts.inner + 4) plan.rest seat
 
 -- of these leaf tuples, those that must leave the page where so much is left
 abbrev pub gone : List Tuple → List ℕ → ℕ → Left → List Tuple

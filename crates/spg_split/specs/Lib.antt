@@ -9,8 +9,9 @@ pub mod Below
 pub mod Planning
 pub mod Writing
 pub mod Homes
-pub mod Parting
+pub mod Divides
 pub mod Shrinks
 pub mod Causes
 pub mod Fulls
 pub mod Tables
+pub mod Cases

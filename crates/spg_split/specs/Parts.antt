@@ -13,8 +13,8 @@ use Rattle.spg_tree.specs.Picked.{IsPicked, want_of}
 use Rattle.spg_tree.specs.declared.want.Want.{Want}
 use Rattle.spg_split.specs.declared.division.Division.{Division}
 use Rattle.spg_split.specs.declared.parts.Parts.{Parts}
-use Rattle.spg_split.specs.declared.put.Parted.{Parted}
-use Rattle.spg_split.specs.declared.put.Parted.TheVariants.{With, Without}
+use Rattle.spg_split.specs.declared.put.Divided.{Divided}
+use Rattle.spg_split.specs.declared.put.Divided.TheVariants.{With, Without}
 use Rattle.spg_split.specs.Nodes.{IsOnlyNode}
 use Rattle.spg_split.specs.Placing.{taken_by, placed, downlinks, inner_root, leaves_with}
 use Rattle.spg_chain.specs.Listed.{leaves_in}
@@ -55,11 +55,11 @@ pub record AreReady (p : Parts) : Type 0 where
   pub count : length p.links < 65536
 
 -- how a division is done: with all, or where they are too many without the last
-abbrev pub IsWay : Parts → Parted → Type 0
+abbrev pub IsWay : Parts → Divided → Type 0
 IsWay p With = weight p.leaves ≤ 8160
 IsWay p (Without in_one) = (8160 < weight p.leaves) × ((node : Option ℕ) × IsOnlyNode (take (length p.leaves - 1) p.node_of) node × (in_one ≡ is_some node))
 
 -- the leaf tuples that go
-abbrev pub going : Parts → Parted → List Tuple
+abbrev pub going : Parts → Divided → List Tuple
 going p With = p.leaves
 going p (Without in_one) = take (length p.leaves - 1) p.leaves

@@ -6,8 +6,8 @@ use Rattle.spg_forest.specs.Pages.{place, all_live}
 use Rattle.spg_forest.specs.View.{Place}
 use Rattle.spg_forest.specs.Sheets.{weight, gaps}
 use Rattle.spg_page.specs.Changes.{free_of}
-use Rattle.spg_split.specs.declared.put.Parted.{Parted}
-use Rattle.spg_split.specs.declared.put.Parted.TheVariants.{With, Without}
+use Rattle.spg_split.specs.declared.put.Divided.{Divided}
+use Rattle.spg_split.specs.declared.put.Divided.TheVariants.{With, Without}
 use Rattle.spg_split.specs.Nodes.{IsOnlyNode}
 use Rattle.spg_split.specs.Writing.{taken_from}
 use Rattle.spg_split.specs.declared.parts.Parts.{Parts}
@@ -69,6 +69,6 @@ abbrev pub IsLeft : List Tuple → ℕ → Left → Type 0
 IsLeft ts o l = (to : Place) (stamp : ℕ) → (l.free ≡ free_of (taken_from ts o to stamp)) × (l.gaps ≡ gaps (taken_from ts o to stamp)) × (weight (taken_from ts o to stamp) ≤ 8160)
 
 -- how a division is done: with all, or without the last
-abbrev pub IsWayOf : Parts → Plan → Parted → Type 0
+abbrev pub IsWayOf : Parts → Plan → Divided → Type 0
 IsWayOf p plan With = plan.count ≡ length p.leaves
 IsWayOf p plan (Without in_one) = (plan.count ≡ length p.leaves → ⊥) × ((node : Option ℕ) × IsOnlyNode (take (length p.leaves - 1) p.node_of) node × (in_one ≡ is_some node))

@@ -11,13 +11,13 @@ use Rattle.spg_tree.specs.declared.stand.Stand.{Stand}
 use Rattle.spg_tree.specs.declared.stand.Stand.TheVariants.{Start, Root, At, Empty}
 use Rattle.spg_descend.specs.Carried.{carried}
 use Rattle.spg_descend.specs.Follows.{tuple_place}
-use Rattle.spg_split.specs.declared.part.Parting.{Parting}
+use Rattle.spg_split.specs.declared.chain.ChainOut.{ChainOut}
 use Rattle.spg_split.specs.declared.parts.Parts.{Parts}
 use Rattle.spg_split.specs.declared.split.SplitOut.{SplitOut}
 use Rattle.spg_split.specs.Causes.{leaves_below}
 use Rattle.spg_split.specs.Dividing.{division_of, rows_of}
 use Rattle.spg_split.specs.Fulls.{those_put}
-use Rattle.spg_split.specs.Parting.{IsParted}
+use Rattle.spg_split.specs.Divides.{IsDividedBelow}
 use Rattle.spg_split.specs.Parts.{ArePartsOf, PutsLists}
 use Rattle.spg_split.specs.Ways.{NotesChain}
 
@@ -33,12 +33,12 @@ abbrev pub RootTable : {Key Recon Cond : Type 0} → Meaning Key Recon Cond → 
 RootTable m t t2 d seat = let b : ℕ = (tuple_place d.stand).block in DividesLeaves m t t2 d b (leaves_on (tuples_at t b) ++ carried d ∷ []) seat
 
 -- below a root: so are the leaves of the chain at x, to which node i of the tuple at p leads; pages are picked for the inner tuple and for the lists that go, and the insert notes what was done
-abbrev pub DividesBelow : {Key Recon Cond : Type 0} → Meaning Key Recon Cond → Table → Table → Descending Recon → Stand → Option (Place × ℕ) → ℕ → Parting → Type 0
-DividesBelow m t t2 d (At x) (Some (p, i)) seat done = (ps : Parts) × AreDivided m d.recon (leaves_below t d x) ps × IsParted t t2 x p i seat ps done
+abbrev pub DividesBelow : {Key Recon Cond : Type 0} → Meaning Key Recon Cond → Table → Table → Descending Recon → Stand → Option (Place × ℕ) → ℕ → ChainOut → Type 0
+DividesBelow m t t2 d (At x) (Some (p, i)) seat done = (ps : Parts) × AreDivided m d.recon (leaves_below t d x) ps × IsDividedBelow t t2 x p i seat ps done
 DividesBelow m t t2 d (At x) None seat done = ⊥
 DividesBelow m t t2 d Start parent seat done = ⊥
 DividesBelow m t t2 d (Root b) parent seat done = ⊥
 DividesBelow m t t2 d Empty parent seat done = ⊥
 
 abbrev pub ChainTable : {Key Recon Cond : Type 0} → Meaning Key Recon Cond → Table → Table → Descending Recon → Descending Recon → ℕ → SplitOut → Type 0
-ChainTable m t t2 d d2 seat out = (done : Parting) × DividesBelow m t t2 d d.stand d.parent seat done × NotesChain d d2 done.at done.way out
+ChainTable m t t2 d d2 seat out = (done : ChainOut) × DividesBelow m t t2 d d.stand d.parent seat done × NotesChain d d2 done.at done.way out

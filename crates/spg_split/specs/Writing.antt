@@ -41,8 +41,8 @@ abbrev pub cleared_table : Table → Place → ℕ → Tuple → Table
 cleared_table t x q inner = taken_table (added_table t q inner) x (new_place t q)
 
 -- the whole: node i of the tuple at p leads to the new inner tuple on block q
-abbrev pub parted_table : Table → Place → Place → ℕ → ℕ → ℕ → Tuple → (ℕ → List Leaf) → ℕ → ℕ → Table
-parted_table t x p i q c inner L k n =
+abbrev pub table_below : Table → Place → Place → ℕ → ℕ → ℕ → Tuple → (ℕ → List Leaf) → ℕ → ℕ → Table
+table_below t x p i q c inner L k n =
     let t1 : Table = cleared_table t x q inner in
     let t2 : Table = linked_table (both_tables t1 x.block c L k n) (new_place t q) (both_links t1 x.block c L k n) in
     with_clock (with_link t2 p i (Some (new_place t q))) (t.clock + 1)

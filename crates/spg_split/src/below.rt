@@ -17,10 +17,10 @@ ghost use Rattle.spg_split.specs.Causes.{IsCause, IsCauseOf, RisesOnly, chain_by
 ghost use Rattle.spg_split.specs.Fulls.{IsChainFull};
 ghost use Rattle.spg_split.specs.Tables.{DividesBelow, ChainTable};
 
+use crate::chain::{ChainOut, put_chain};
 use crate::division::divide;
-use crate::part::{Parting, part_chain};
 use crate::parts::Parts;
-use crate::put::Parted;
+use crate::put::Divided;
 use crate::split::SplitOut;
 use crate::values::values_at_chain;
 use spg_base::{Place, SeatNo};
@@ -29,7 +29,7 @@ use spg_tree::{Descent, PageTable, Stand, StepRefused};
 use std::alloc::Global;
 
 /// Divides the chain at a head, at which an insert stands, and the leaf of the insert.
-fn divide_chain<O: OpClass>(
+fn divide_below<O: OpClass>(
     alloc: Global,
     class: &O,
     table: &mut PageTable,
@@ -38,7 +38,7 @@ fn divide_chain<O: OpClass>(
     parent: Place,
     node: u16,
     seat: SeatNo,
-) -> Result<Parting, StepRefused>
+) -> Result<ChainOut, StepRefused>
     requires shape { Shape O.meaning (sheets_of table.old) }
     requires stands { descent.now.stand ≡ At head }
     requires above { descent.now.parent ≡ Just (parent, node) }
@@ -62,22 +62,22 @@ fn divide_chain<O: OpClass>(
     let division = divide(alloc, class, descent.recon(), values.rests.as_slice())?;
     let parts = Parts::of(alloc, values.rows.as_slice(), division)?;
     let head = Place { block, offset };
-    part_chain(alloc, table, head, parent, node, parts, seat)
+    put_chain(alloc, table, head, parent, node, parts, seat)
 }
 
 /// Notes in the insert what the division of a chain did.
-fn note_chain<O: OpClass>(descent: &mut Descent<O>, done: Parting) -> SplitOut
+fn note_chain<O: OpClass>(descent: &mut Descent<O>, done: ChainOut) -> SplitOut
     requires { IsBelowParent descent.old.parent }
     ensures { NotesChain descent.old descent.new done.at done.way result }
 {
-    let Parting { way, at } = done;
+    let ChainOut { way, at } = done;
     match way {
-        Parted::With => SplitOut::Put,
-        Parted::Without { in_one: false } => {
+        Divided::With => SplitOut::Put,
+        Divided::Without { in_one: false } => {
             descent.place(Stand::At(at), descent.parent());
             SplitOut::LeftOut
         }
-        Parted::Without { in_one: true } => {
+        Divided::Without { in_one: true } => {
             descent.place(Stand::At(at), descent.parent());
             descent.note_rise();
             SplitOut::LeftOut
@@ -85,23 +85,9 @@ fn note_chain<O: OpClass>(descent: &mut Descent<O>, done: Parting) -> SplitOut
     }
 }
 
-/// Divides the chain at which an insert stands below a root, and its own leaf, by the class. The new
-/// inner tuple goes on the page of the tuple above where it fits and that page is no root, else on a
-/// picked inner page of the next parity. The old head becomes a redirect to it with the clock's moment,
-/// the other tuples become placeholders, the downlink of the tuple above is set, and the clock is
-/// raised. Of the blocks touched, each but that where the insert stands and that of the tuple above was
-/// latched by no other seat. Lists stay on the old page, in node order, while each fits there; the
-/// first that does not and all after it go to one other leaf page. `LeftOut` comes exactly where the
-/// lists that must go elsewhere do not fit with the leaf on one page; then it is in none of them, and
-/// the insert stands at the new inner tuple, whose block is among those touched and is that of the
-/// tuple above or was latched by no other seat. The spread rises then only where all leaves but the new
-/// one are in one node. `ClockFull` comes exactly where the clock is 2^48 - 1, before a page is picked;
-/// `IndexFull` exactly where the pick of a page for the inner tuple or for the lists that go needs a
-/// new page and there may be none, unless memory is short before. After a refusal table and insert are
-/// as they were. `table` tells the whole table: the inner tuple is that of the class's meaning, its
-/// nodes lead to its lists, and the pages remembered are those after the picks. The blocks touched are
-/// exactly those written or added, each once. Latches and counter stay as they are.
-pub fn split_chain<O: OpClass>(
+/// Divides the chain at which an insert stands below a root, and its own leaf, by the class, as
+/// `split_leaf` tells.
+pub(crate) fn divide_chain<O: OpClass>(
     alloc: Global,
     class: &O,
     table: &mut PageTable,
@@ -133,7 +119,7 @@ pub fn split_chain<O: OpClass>(
     }
     match (descent.stand(), descent.parent()) {
         (Stand::At(head), Some((parent, node))) => {
-            let done = divide_chain(alloc, class, table, descent, head, parent, node, seat)?;
+            let done = divide_below(alloc, class, table, descent, head, parent, node, seat)?;
             Ok(note_chain(descent, done))
         }
         _ => unreachable!(),

@@ -2,10 +2,11 @@
 //! "picksplit").
 #![tactic(auto)]
 
+mod at_root;
 mod below;
+mod chain;
 mod division;
 mod homes;
-mod part;
 mod parts;
 mod placing;
 mod plan;
@@ -15,5 +16,4 @@ mod split;
 mod values;
 mod write;
 
-pub use below::split_chain;
 pub use split::{SplitOut, split_leaf};

@@ -9,7 +9,7 @@ ghost use Rattle.spg_split.specs.Planning.{size_of_list, left_after, staying, fr
 
 use crate::division::only_node;
 use crate::parts::Parts;
-use crate::put::Parted;
+use crate::put::Divided;
 use spg_base::Offset;
 use spg_chain::chain_size;
 use spg_page::{Page, TupleBytes};
@@ -186,17 +186,17 @@ pub(crate) fn plan_lists(parts: &Parts, left: Left) -> Plan
 }
 
 /// How a division is done that goes by a plan.
-pub(crate) fn way_of(parts: &Parts, plan: &Plan) -> Parted
+pub(crate) fn way_of(parts: &Parts, plan: &Plan) -> Divided
     requires ready { AreReady parts.now }
     requires some { 0 < length parts.now.leaves }
     ensures { IsWayOf parts.now plan.now result }
 {
     let count = parts.leaves.len();
     if plan.count == count {
-        Parted::With
+        Divided::With
     } else {
         let others = &parts.node_of.as_slice()[..count - 1];
-        Parted::Without {
+        Divided::Without {
             in_one: only_node(others).is_some(),
         }
     }

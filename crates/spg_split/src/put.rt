@@ -25,7 +25,7 @@ use std::alloc::Global;
 
 /// How a division is done.
 #[derive(Clone, Copy, Debug)]
-pub(crate) enum Parted {
+pub(crate) enum Divided {
     /// With the leaf of the insert.
     With,
     /// Without it. `in_one` tells whether all others are in one list.
@@ -105,31 +105,31 @@ fn put_parts(
 }
 
 /// Whether all go, or all but the last.
-fn way_of(parts: &Parts) -> Parted
+fn way_of(parts: &Parts) -> Divided
     requires ready { AreReady parts.now }
     requires some { 0 < length parts.now.leaves }
     ensures { IsWay parts.now result }
 {
     let count = parts.leaves.len();
     if bytes_of(parts.leaves.as_slice()) <= 8160 {
-        Parted::With
+        Divided::With
     } else {
         let others = &parts.node_of.as_slice()[..count - 1];
-        Parted::Without {
+        Divided::Without {
             in_one: only_node(others).is_some(),
         }
     }
 }
 
 /// How many go.
-fn count_of(parts: &Parts, way: Parted) -> usize
+fn count_of(parts: &Parts, way: Divided) -> usize
     requires { 0 < length parts.now.leaves }
     ensures within { result ≤ length parts.now.leaves }
     ensures value { take result parts.now.leaves ≡ going parts.now way }
 {
     match way {
-        Parted::With => parts.leaves.len(),
-        Parted::Without { .. } => parts.leaves.len() - 1,
+        Divided::With => parts.leaves.len(),
+        Divided::Without { .. } => parts.leaves.len() - 1,
     }
 }
 
@@ -140,7 +140,7 @@ pub(crate) fn put_division(
     root: Block,
     parts: Parts,
     seat: SeatNo,
-) -> Result<Parted, StepRefused>
+) -> Result<Divided, StepRefused>
     requires root { (0 < root) × (root < 3) × (root < length table.old.pages) }
     requires live { AreAllLive (tuples_at table.old root) }
     requires fits { (b : ℕ) → weight (tuples_at table.old b) ≤ 8160 }

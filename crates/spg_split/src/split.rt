@@ -1,25 +1,20 @@
-ghost use Rattle.std.specs.Prelude.{◌≡◌, ◌⊎◌, Option, IfOk, OnOk, OnErr, IsErrOf};
+ghost use Rattle.std.specs.Prelude.{◌≡◌, Option, ◌+◌, ◌^◌, IfOk, OnOk, OnErr, IsErrOf};
 ghost use Rattle.spg_forest.specs.Tuples.{Live};
 ghost use Rattle.spg_forest.specs.Shape.{Shape};
 ghost use Rattle.spg_forest.specs.Exact.{IsExact};
 ghost use Rattle.spg_tree.specs.Table.{sheets_of};
-ghost use Rattle.spg_tree.specs.Descents.{in_nulls};
-ghost use Rattle.spg_tree.specs.declared.stand.Stand.TheVariants.{Root};
 ghost use Rattle.spg_tree.specs.declared.stand.StepRefused.TheVariants.{IndexFull, ClockFull};
 ghost use Rattle.spg_descend.specs.Carried.{carried, IsCarried};
-ghost use Rattle.spg_descend.specs.Held.{TouchesFree};
-ghost use Rattle.spg_descend.specs.Puts.{IsAtLeaves, Fits};
-ghost use Rattle.spg_split.specs.Splits.{IsAtRoot, IsSplitOut, PartsWithout};
-ghost use Rattle.spg_split.specs.Fulls.{IsRootFull};
-ghost use Rattle.spg_split.specs.Ways.{IsSplitWay, Notes};
-ghost use Rattle.spg_split.specs.Tables.{RootTable};
-ghost use Rattle.spg_split.specs.Causes.{IsCause, IsCauseOf, RisesOnly, root_bytes, root_in_one};
+ghost use Rattle.spg_descend.specs.Held.{TouchesFree, StandsFree};
+ghost use Rattle.spg_descend.specs.Puts.{Fits};
+ghost use Rattle.spg_descend.specs.Rules.{MayMove};
+ghost use Rattle.spg_descend.specs.Below.{IsTicked};
+ghost use Rattle.spg_split.specs.Splits.{IsAtRoot};
+ghost use Rattle.spg_split.specs.Cases.{IsSplitSpot, IsLeafSplit, LeafTable, IsLeafCause, RisesAtMost, IsLeafFull};
 
-use crate::division::divide;
-use crate::parts::Parts;
-use crate::put::{Parted, put_division};
-use crate::values::values_at_root;
-use spg_base::{Block, SeatNo};
+use crate::at_root::divide_root;
+use crate::below::divide_chain;
+use spg_base::SeatNo;
 use spg_opclass::OpClass;
 use spg_tree::{Descent, PageTable, Stand, StepRefused};
 use std::alloc::Global;
@@ -34,62 +29,30 @@ pub enum SplitOut {
     LeftOut,
 }
 
-/// Divides the leaves of the root leaf page at which an insert stands.
-fn split_root<O: OpClass>(
-    alloc: Global,
-    class: &O,
-    table: &mut PageTable,
-    descent: &Descent<O>,
-    root: Block,
-    seat: SeatNo,
-) -> Result<Parted, StepRefused>
-    requires shape { Shape O.meaning (sheets_of table.old) }
-    requires stands { descent.now.stand ≡ Root root }
-    requires spot { IsAtLeaves (sheets_of table.old) (in_nulls descent.now) descent.now.stand }
-    requires of_key { (key : Option O.Key) × IsCarried O.meaning (sheets_of table.old) descent.now key }
-    requires no_room { Fits table.old descent.now.stand (Live (carried descent.now) 0) → ⊥ }
-    ensures ok { IfOk result (λ way. IsSplitWay O.meaning table.old table.new descent.now way) }
-    ensures held { OnOk result (TouchesFree table.old table.new descent.now seat) }
-    ensures table { OnOk result (RootTable O.meaning table.old table.new descent.now seat) }
-    ensures exact { OnOk result (IsExact (sheets_of table.old) (sheets_of table.new) table.new.touched) }
-    ensures cause { IfOk result (λ way. IsCauseOf (root_bytes O.meaning table.old descent.now) way) }
-    ensures rise { IfOk result (λ way. RisesOnly (root_in_one O.meaning table.old descent.now) way) }
-    ensures full { IsErrOf result IndexFull → IsRootFull O.meaning table.old descent.now seat }
-    ensures not_full { OnOk result (IsRootFull O.meaning table.old descent.now seat → ⊥) }
-    ensures clock { IsErrOf result ClockFull → ⊥ }
-    ensures err { OnErr result (table.new ≡ table.old) }
-{
-    let values = values_at_root(alloc, table.page(root), descent)?;
-    let division = divide(alloc, class, descent.recon(), values.rests.as_slice())?;
-    let parts = Parts::of(alloc, values.rows.as_slice(), division)?;
-    put_division(alloc, table, root, parts, seat)
-}
-
-/// Notes in the insert what a division did.
-fn note<O: OpClass>(descent: &mut Descent<O>, way: Parted) -> SplitOut
-    ensures { Notes descent.old descent.new way result }
-{
-    match way {
-        Parted::With => SplitOut::Put,
-        Parted::Without { in_one: false } => SplitOut::LeftOut,
-        Parted::Without { in_one: true } => {
-            descent.note_rise();
-            SplitOut::LeftOut
-        }
-    }
-}
-
-/// Divides the leaves of the root leaf page at which an insert stands, and its own leaf, by the class.
-/// The new inner tuple becomes the root's only tuple, and each list goes as a chain to one other leaf
-/// page. Of the blocks touched, each but that where the insert stands and that of the tuple above was
-/// latched by no other seat. Where the class puts all in one node, the tuple is all-the-same: it has 8
-/// nodes of that label, which are filled in turn. `LeftOut` comes exactly where the lists do not fit
-/// with the leaf on one page; then it is in none of them. The spread rises then only where all leaves
-/// but the new one are in one node. `table` tells the whole table: the inner tuple is that of the
-/// class's meaning, its nodes lead to its lists, and the pages remembered are those after the pick. The
-/// blocks touched are exactly those written or added, each once. `IndexFull` comes exactly where the
-/// pick for the lists needs a new page and there may be none, unless memory is short before. After a
-/// refusal table and insert are as they were.
+/// Divides the leaves where an insert stands, and its own leaf, by the class: those of a root leaf page,
+/// or those of a chain below a root that is too long to move.
+///
+/// At a root the new inner tuple becomes the root's only tuple, and each list goes as a chain to one
+/// other leaf page. Below a root the new inner tuple goes on the page of the tuple above where it fits
+/// and that page is no root, else on a picked inner page of the next parity. The old head becomes a
+/// redirect to it with the clock's moment, the other tuples become placeholders, the downlink of the
+/// tuple above is set, and the clock is raised. Lists stay on the old page, in node order, while each
+/// fits there; the first that does not and all after it go to one other leaf page. Where the class puts
+/// all in one node, the tuple is all-the-same: it has 8 nodes of that label, which are filled in turn.
+///
+/// `LeftOut` comes exactly where the lists that must go elsewhere do not fit with the leaf on one page;
+/// then it is in none of them, and the insert stands at the new inner tuple, whose block is among those
+/// touched and below a root is that of the tuple above or was latched by no other seat. The spread rises
+/// then only where all leaves but the new one are in one node. `ClockFull` comes never at a root, and
+/// below one exactly where the clock is 2^48 - 1, before a page is picked. `IndexFull` comes exactly
+/// where the pick of a page for the lists, or below a root for the inner tuple or for the lists that go,
+/// needs a new page and there may be none, unless memory is short before. After a refusal table and
+/// insert are as they were.
+///
+/// `table` tells the whole table: the inner tuple is that of the class's meaning, its nodes lead to its
+/// lists, and the pages remembered are those after the picks. The blocks touched are exactly those
+/// written or added, each once; each but that where the insert stands and that of the tuple above was
+/// latched by no other seat. Latches and counter stay as they are.
 pub fn split_leaf<O: OpClass>(
     alloc: Global,
     class: &O,
@@ -98,27 +61,28 @@ pub fn split_leaf<O: OpClass>(
     seat: SeatNo,
 ) -> Result<SplitOut, StepRefused>
     requires shape { Shape O.meaning (sheets_of table.old) }
-    requires root { IsAtRoot descent.old.stand }
-    requires spot { IsAtLeaves (sheets_of table.old) (in_nulls descent.old) descent.old.stand }
+    requires spot { IsSplitSpot table.old descent.old }
     requires of_key { (key : Option O.Key) × IsCarried O.meaning (sheets_of table.old) descent.old key }
     requires no_room { Fits table.old descent.old.stand (Live (carried descent.old) 0) → ⊥ }
-    ensures ok { IfOk result (λ out. IsSplitOut O.meaning table.old table.new descent.old descent.new out) }
+    requires long { MayMove table.old descent.old.stand (Live (carried descent.old) 0) → ⊥ }
+    ensures ok { IfOk result (λ out. IsLeafSplit O.meaning table.old table.new descent.old descent.new out) }
     ensures held { OnOk result (TouchesFree table.old table.new descent.old seat) }
-    ensures table { OnOk result (RootTable O.meaning table.old table.new descent.old seat) }
+    ensures stands { OnOk result (StandsFree table.old table.new descent.old descent.new seat) }
+    ensures table { IfOk result (λ out. LeafTable O.meaning table.old table.new descent.old descent.new seat out) }
     ensures exact { OnOk result (IsExact (sheets_of table.old) (sheets_of table.new) table.new.touched) }
-    ensures cause { IfOk result (λ out. IsCause (root_bytes O.meaning table.old descent.old) out) }
-    ensures rise { IfOk result (λ out. (out ≡ SplitOut.LeftOut → PartsWithout O.meaning table.old table.new descent.old descent.new 0) ⊎ root_in_one O.meaning table.old descent.old) }
-    ensures full { IsErrOf result IndexFull → IsRootFull O.meaning table.old descent.old seat }
-    ensures not_full { OnOk result (IsRootFull O.meaning table.old descent.old seat → ⊥) }
-    ensures clock { IsErrOf result ClockFull → ⊥ }
+    ensures cause { IfOk result (λ out. IsLeafCause O.meaning table.old descent.old out) }
+    ensures rise { IfOk result (λ out. RisesAtMost O.meaning table.old table.new descent.old descent.new out) }
+    ensures ticked { OnOk result ((IsAtRoot descent.old.stand → ⊥) → IsTicked table.old table.new) }
+    ensures full { IsErrOf result IndexFull → IsLeafFull O.meaning table.old descent.old seat }
+    ensures not_full { OnOk result (IsLeafFull O.meaning table.old descent.old seat → ⊥) }
+    ensures clock { IsErrOf result ClockFull → (IsAtRoot descent.old.stand → ⊥) × (table.old.clock + 1 ≡ 2 ^ 48) }
+    ensures clock_first { (IsAtRoot descent.old.stand → ⊥) → table.old.clock + 1 ≡ 2 ^ 48 → IsErrOf result ClockFull }
     ensures err { OnErr result (table.new ≡ table.old) }
     ensures err_descent { OnErr result (descent.new ≡ descent.old) }
 {
     match descent.stand() {
-        Stand::Root(root) => {
-            let way = split_root(alloc, class, table, descent, root, seat)?;
-            Ok(note(descent, way))
-        }
-        Stand::Start | Stand::At(_) | Stand::Empty => unreachable!(),
+        Stand::Root(_) => divide_root(alloc, class, table, descent, seat),
+        Stand::At(_) => divide_chain(alloc, class, table, descent, seat),
+        Stand::Start | Stand::Empty => unreachable!(),
     }
 }

@@ -11,7 +11,7 @@ ghost use Rattle.spg_tree.specs.Table.{tuples_at, tuple_at};
 ghost use Rattle.spg_descend.specs.BareNodes.{bare};
 ghost use Rattle.spg_split.specs.Placing.{taken_by, HaveRooms, downlinks};
 ghost use Rattle.spg_chain.specs.Listed.{leaves_in};
-ghost use Rattle.spg_split.specs.Writing.{taken_table, lists_table, linked_table, both_tables, both_links, parted_table, MayPart};
+ghost use Rattle.spg_split.specs.Writing.{taken_table, lists_table, linked_table, both_tables, both_links, table_below, MayPart};
 ghost use Rattle.spg_tree.specs.Writes.{new_place, added_table};
 
 use crate::placing::put_range;
@@ -120,7 +120,7 @@ pub(crate) fn write_chain(
     requires leaves { leaves.now ≡ all_live (leaves_in leaves.now) }
     requires may { MayPart table.old (place block head) parent node home rest inner.now (λ j. taken_by j leaves.now node_of.now) cut (length links.old) }
     ensures at { result ≡ (new_place table.old home).offset }
-    ensures table { table.new ≡ parted_table table.old (place block head) parent node home rest inner.now (λ j. taken_by j leaves.now node_of.now) cut (length links.old) }
+    ensures table { table.new ≡ table_below table.old (place block head) parent node home rest inner.now (λ j. taken_by j leaves.now node_of.now) cut (length links.old) }
 {
     let at = table.add_on(home, inner);
     let to = Place {

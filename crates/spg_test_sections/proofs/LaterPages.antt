@@ -102,6 +102,7 @@ opened_row m row (Some k) = refl
 -- The node that the class names is there, and the insert goes below it
 pub record Named {Key Recon Cond : Type 0} (m : Meaning Key Recon Cond) (t : Table) (d : Descending Recon) (node : ℕ) (rest : List ℕ) (key : Option Key) : Type 0 where
   pub there : node < length (links (tuple_at t (tuple_place d.stand)))
+  pub label : node < length (frame_in (tuple_at t (tuple_place d.stand))).labels
   pub rest_of : IsRestOf m (in_nulls d) rest
   pub goes : GoesBelow m d.recon (frame_in (tuple_at t (tuple_place d.stand))) node rest key
 
@@ -114,6 +115,7 @@ named_node {Key} {Recon} m matches t d H at i main node rest (recon, er, ea) key
     let M = matches recon w d.rest k ok ek node rest ea in
     record {
       there = subst (λ (c : ℕ). node < c) (sym (ap (λ (u : Tuple). length (links u)) F.tuple ∙ F.nodes.each)) M.there;
+      label = M.there;
       rest_of = subst (λ (b : Bool). IsRestOf m b rest) (sym main) M.well_formed;
       goes = subst (λ (r : Option Recon). GoesBelow m r w node rest key) (sym er)
           (subst (λ (z : Option Key). GoesBelow m (Some recon) w node rest z) (sym q) (match_goes m matches recon w d.rest rest k node node ok ek ea (inl refl)));

@@ -1,10 +1,12 @@
-ghost use Rattle.std.specs.Prelude.{◌≡◌, Option, false, IfOk, OnOk};
+ghost use Rattle.std.specs.Prelude.{◌≡◌, ◌<◌, Option, false, length, IfOk, OnOk};
 ghost use Rattle.spg_opclass.specs.declared.view.Choice.TheVariants.{Match};
+ghost use Rattle.spg_forest.specs.Classes.{down_of};
 ghost use Rattle.spg_forest.specs.Shape.{Shape};
-ghost use Rattle.spg_tree.specs.Table.{sheets_of};
+ghost use Rattle.spg_page.specs.Reads.{frame_in};
+ghost use Rattle.spg_tree.specs.Table.{sheets_of, tuple_at};
 ghost use Rattle.spg_tree.specs.Descents.{in_nulls};
 ghost use Rattle.spg_descend.specs.Carried.{IsCarried};
-ghost use Rattle.spg_descend.specs.Follows.{IsAtInner};
+ghost use Rattle.spg_descend.specs.Follows.{IsAtInner, tuple_place};
 ghost use Rattle.spg_descend.specs.Answers.{IsAnswered};
 ghost use Rattle.spg_seats.specs.Descending.{Stands};
 
@@ -34,6 +36,30 @@ fn answered<O: OpClass>(
     class.choose(alloc, recon, &view, descent.rest().as_slice())
 }
 
+/// The rebuilt value below a node of the inner tuple at which an insert stands. None exactly in the nulls
+/// tree.
+fn recon_below<O: OpClass>(
+    alloc: Global,
+    class: &O,
+    table: &PageTable,
+    descent: &Descent<O>,
+    node: u16,
+) -> Result<Option<O::Recon>, Memory>
+    requires inner { IsAtInner table.now descent.now.stand }
+    requires node { node < length (frame_in (tuple_at table.now (tuple_place descent.now.stand))).labels }
+    ensures { IfOk result (λ below. below ≡ down_of O.meaning descent.now.recon (frame_in (tuple_at table.now (tuple_place descent.now.stand))) node) }
+{
+    match descent.recon() {
+        None => Ok(None),
+        Some(recon) => {
+            let at = tuple_place(descent.stand());
+            let view = table.page(at.block).view_at(alloc, at.offset)?;
+            let below = class.down(alloc, recon, &view, node)?;
+            Ok(Some(below))
+        }
+    }
+}
+
 /// Goes down the node that the class has named.
 fn follow_to<O: OpClass>(
     alloc: Global,
@@ -53,7 +79,8 @@ fn follow_to<O: OpClass>(
     ensures stands { OnOk result (Stands table.new descent.new) }
     ensures of_key { OnOk result ((key : Option O.Key) × IsCarried O.meaning (sheets_of table.new) descent.new key) }
 {
-    match follow(alloc, class, table, descent, SeatNo::first(), node, rest)? {
+    let below = recon_below(alloc, class, table, descent, node)?;
+    match follow(table, descent, SeatNo::first(), node, rest, below) {
         Entered::In => Ok(()),
         Entered::Busy { .. } => Err(Memory),
     }

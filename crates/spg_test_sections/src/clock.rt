@@ -124,7 +124,6 @@ pub(crate) fn is_at_inner<O: OpClass>(table: &PageTable, descent: &Descent<O>) -
 /// Goes down the first node of the inner tuple at which an insert of a null stands.
 fn go_down<O: OpClass>(
     alloc: Global,
-    class: &O,
     table: &mut PageTable,
     descent: &mut Descent<O>,
 ) -> Result<(), Memory>
@@ -139,15 +138,7 @@ fn go_down<O: OpClass>(
     if !is_at_inner(table, descent) {
         return Err(Memory);
     }
-    match follow(
-        alloc,
-        class,
-        table,
-        descent,
-        SeatNo::first(),
-        0,
-        Bytes::new(alloc),
-    )? {
+    match follow(table, descent, SeatNo::first(), 0, Bytes::new(alloc), None) {
         Entered::In => Ok(()),
         Entered::Busy { .. } => Err(Memory),
     }
@@ -168,7 +159,7 @@ pub(crate) fn at_chain<O: OpClass>(
 {
     let key: Option<O::Key> = None;
     let mut descent = at_root(alloc, class, table, row, key.as_ref())?;
-    go_down(alloc, class, table, &mut descent)?;
+    go_down(alloc, table, &mut descent)?;
     Ok(descent)
 }
 

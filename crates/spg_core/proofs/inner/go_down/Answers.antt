@@ -24,18 +24,18 @@ returns-in-In g c =
     let seat = c.args.seat in
     let node = c.args.node in
     let rest = c.args.rest in
-    let t1 = c.enter_node-entered.new.table in
+    let t1 = c.follow-entered.new.table in
     let t2 = c.if-by_turn.table in
-    let d2 = c.enter_node-entered.new.descent in
+    let d2 = c.follow-entered.new.descent in
     let is : t2 ≡ turned c.args.by_turn t1 = elim c.if-by_turn.branch [
       | then-by_turn w ↦ w.table-is ∙ w.turn_counter.ensures ∙ ap (λ (b : Bool). turned b t1) (sym w.if-by_turn.true)
       | else-by_turn w ↦ w.table-is ∙ ap (λ (b : Bool). turned b t1) (sym w.if-by_turn.false)
     ] in
     let after : SamePages t1 t2 = subst (λ (z : Table). SamePages t1 z) (sym is) (turned_same c.args.by_turn t1) in
     let latches : (b : ℕ) → latch_at t2 b ≡ latch_at t1 b = λ b. ap (λ (z : Table). latch_at z b) is ∙ turned_latch c.args.by_turn t1 b in
-    let follows = subst (λ (e : Entered). FollowsNode m t t1 d d2 seat node rest e) c.in-In.is c.enter_node-entered.ensures.follows in
-    let carries = subst (λ (e : Entered). CarriesBelow m t t1 d d2 node rest e) c.in-In.is c.enter_node-entered.ensures.carries in
-    let same : SamePages t t2 = same_trans t t1 t2 (follows_same m t t1 d d2 seat node rest _ c.enter_node-entered.ensures.follows) after in
+    let follows = subst (λ (e : Entered). FollowsNode m t t1 d d2 seat node rest e) c.in-In.is c.follow-entered.ensures.follows in
+    let carries = subst (λ (e : Entered). CarriesBelow m t t1 d d2 node rest e) c.in-In.is c.follow-entered.ensures.carries in
+    let same : SamePages t t2 = same_trans t t1 t2 (follows_same m t t1 d d2 seat node rest _ c.follow-entered.ensures.follows) after in
     let st = stand_below (link_of t (tuple_place d.stand) node) in
     let (free, et, ed) = follows in
     let stands : StandsAt t (in_nulls d) st (Some (tuple_place d.stand, node)) = child_stands m t (in_nulls d) d.stand d.parent node c.requires.can.shape c.requires.can.stands c.requires.inner c.requires.chosen.0 in
@@ -57,18 +57,18 @@ returns-in-Busy g c =
     let seat = c.args.seat in
     let node = c.args.node in
     let rest = c.args.rest in
-    let t1 = c.enter_node-entered.new.table in
+    let t1 = c.follow-entered.new.table in
     let t2 = c.if-by_turn.table in
-    let d2 = c.enter_node-entered.new.descent in
+    let d2 = c.follow-entered.new.descent in
     let is : t2 ≡ turned c.args.by_turn t1 = elim c.if-by_turn.branch [
       | then-by_turn w ↦ w.table-is ∙ w.turn_counter.ensures ∙ ap (λ (b : Bool). turned b t1) (sym w.if-by_turn.true)
       | else-by_turn w ↦ w.table-is ∙ ap (λ (b : Bool). turned b t1) (sym w.if-by_turn.false)
     ] in
     let after : SamePages t1 t2 = subst (λ (z : Table). SamePages t1 z) (sym is) (turned_same c.args.by_turn t1) in
     let latches : (b : ℕ) → latch_at t2 b ≡ latch_at t1 b = λ b. ap (λ (z : Table). latch_at z b) is ∙ turned_latch c.args.by_turn t1 b in
-    let follows = subst (λ (e : Entered). FollowsNode m t t1 d d2 seat node rest e) c.in-Busy.is c.enter_node-entered.ensures.follows in
-    let carries = subst (λ (e : Entered). CarriesBelow m t t1 d d2 node rest e) c.in-Busy.is c.enter_node-entered.ensures.carries in
-    let same : SamePages t t2 = same_trans t t1 t2 (follows_same m t t1 d d2 seat node rest _ c.enter_node-entered.ensures.follows) after in
+    let follows = subst (λ (e : Entered). FollowsNode m t t1 d d2 seat node rest e) c.in-Busy.is c.follow-entered.ensures.follows in
+    let carries = subst (λ (e : Entered). CarriesBelow m t t1 d d2 node rest e) c.in-Busy.is c.follow-entered.ensures.carries in
+    let same : SamePages t t2 = same_trans t t1 t2 (follows_same m t t1 d d2 seat node rest _ c.follow-entered.ensures.follows) after in
     let (eb, held, other, et, ed) = follows in
     record {
       ok = back_out m t t1 t2 d d2 seat c.in-Busy.block c.in-Busy.by node rest follows carries after;

@@ -11,7 +11,7 @@ returns-in-In-clause-shape g c =
     let d = c.args.descent.now in
     let inner : IsAtInner t d.stand = search rules in
     (below m t c.follow.new.table d c.follow.new.descent c.first.result 0 c.new.result c.requires.shape c.requires.stands inner (first_node m t d c.requires.shape c.requires.stands inner)
-    (subst (λ (e : Entered). FollowsNode m t c.follow.new.table d c.follow.new.descent c.first.result 0 c.new.result e) c.in-In.is c.in_ok-follow.ensures.ok)).0
+    (subst (λ (e : Entered). FollowsNode m t c.follow.new.table d c.follow.new.descent c.first.result 0 c.new.result e) c.in-In.is c.follow.ensures.follows)).0
 
 pub returns-in-In-clause-stands : goal.returns-in-In-clause-stands
 returns-in-In-clause-stands g c =
@@ -20,4 +20,4 @@ returns-in-In-clause-stands g c =
     let d = c.args.descent.now in
     let inner : IsAtInner t d.stand = search rules in
     (below m t c.follow.new.table d c.follow.new.descent c.first.result 0 c.new.result c.requires.shape c.requires.stands inner (first_node m t d c.requires.shape c.requires.stands inner)
-    (subst (λ (e : Entered). FollowsNode m t c.follow.new.table d c.follow.new.descent c.first.result 0 c.new.result e) c.in-In.is c.in_ok-follow.ensures.ok)).1
+    (subst (λ (e : Entered). FollowsNode m t c.follow.new.table d c.follow.new.descent c.first.result 0 c.new.result e) c.in-In.is c.follow.ensures.follows)).1

@@ -7,10 +7,10 @@ use Rattle.spg_split.specs.Placing.{taken_by}
 use Rattle.spg_split.specs.Fulls.{AreHomesFull}
 use Rattle.spg_split.specs.Homes.{blocks_touched}
 use Rattle.spg_split.specs.Planning.{IsLeft}
-use Rattle.spg_split.specs.Writing.{parted_table, MayPart}
+use Rattle.spg_split.specs.Writing.{table_below, MayPart}
 use Rattle.spg_split.proofs.Totals.{take_live}
 use Rattle.spg_split.proofs.Deciding.{plan_few, homes_housed, may_part}
-use Rattle.spg_split.proofs.part.part_chain.Goals as goal
+use Rattle.spg_split.proofs.chain.put_chain.Goals as goal
 
 pub left_without-requires-clause-chained : goal.left_without-requires-clause-chained
 left_without-requires-clause-chained c = subst (λ (s : Sheet). IsChainedPage s.tuples) (sym c.page.ensures) c.requires.may.chained
@@ -43,7 +43,7 @@ returns-clause-ok c = record {
   picks = c.in_ok-homes.ensures.ok;
   at = λ k. record { block = c.in_ok-homes.homes.inner; offset = c.write_chain-at.ensures.at k };
   after = c.set_touched.ensures ∙ ap₂ (λ (u : Table) (bs : List ℕ). with_touched u bs)
-      (c.write_chain-at.ensures.table ∙ ap₂ (λ (ts : List Tuple) (ns : List ℕ). parted_table c.pick_homes.new.table c.args.head c.args.parent c.args.node c.in_ok-homes.homes.inner c.in_ok-homes.homes.rest c.args.parts.inner (λ j. taken_by j (take c.plan_lists-plan.result.count ts) ns) c.plan_lists-plan.result.cut (length c.args.parts.links)) c.as_slice.ensures c.as_slice-2.ensures)
+      (c.write_chain-at.ensures.table ∙ ap₂ (λ (ts : List Tuple) (ns : List ℕ). table_below c.pick_homes.new.table c.args.head c.args.parent c.args.node c.in_ok-homes.homes.inner c.in_ok-homes.homes.rest c.args.parts.inner (λ j. taken_by j (take c.plan_lists-plan.result.count ts) ns) c.plan_lists-plan.result.cut (length c.args.parts.links)) c.as_slice.ensures c.as_slice-2.ensures)
       (c.touched_by-touched.ensures ∙ ap₂ (λ a b. blocks_touched c.args.head.block c.args.parent.block c.in_ok-homes.homes a b) c.page_count-before.ensures.value c.page_count.ensures.value);
 }
 

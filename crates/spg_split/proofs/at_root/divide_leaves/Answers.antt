@@ -20,7 +20,7 @@ use Rattle.spg_split.proofs.Fulls.{root_full}
 use Rattle.spg_split.proofs.Held.{root_held}
 use Rattle.spg_tree.proofs.Outcomes.{on_ok_then, on_ok_both, if_ok_then}
 use Rattle.spg_split.proofs.Standing.{at_root, live_there, several, keys, rest_fits, tuple_fits, ready, leaf_count, count_vs, others_fit, values_are, divided_as, keys_as, parts_as, nulls_recon}
-use Rattle.spg_split.proofs.split.split_root.Goals as goal
+use Rattle.spg_split.proofs.at_root.divide_leaves.Goals as goal
 
 pub values_at_root-requires : goal.values_at_root-requires
 values_at_root-requires g c =

@@ -10,11 +10,11 @@ use Rattle.spg_split.specs.declared.parts.Parts.{Parts}
 use Rattle.spg_split.specs.declared.plan.Left.{Left}
 use Rattle.spg_split.specs.declared.plan.Plan.{Plan}
 use Rattle.spg_split.specs.declared.homes.Homes.{Homes}
-use Rattle.spg_split.specs.declared.part.Parting.{Parting}
+use Rattle.spg_split.specs.declared.chain.ChainOut.{ChainOut}
 use Rattle.spg_split.specs.Placing.{taken_by}
 use Rattle.spg_split.specs.Planning.{IsLeft, IsPlan, IsWayOf}
 use Rattle.spg_split.specs.Homes.{PicksHomes, blocks_touched}
-use Rattle.spg_split.specs.Writing.{parted_table}
+use Rattle.spg_split.specs.Writing.{table_below}
 use Rattle.spg_tree.specs.Writes.{new_place}
 
 -- at x a chain of at least one leaf tuple begins, on a leaf page from 3 on, to which node i of the inner tuple at p leads
@@ -39,7 +39,7 @@ abbrev pub put_by : Parts → Plan → List Tuple
 put_by p plan = take plan.count p.leaves
 
 -- pages are picked, and the lists and the inner tuple are put there by the plan
-pub record IsParted (t t2 : Table) (x p : Place) (i seat : ℕ) (parts : Parts) (done : Parting) : Type 0 where
+pub record IsDividedBelow (t t2 : Table) (x p : Place) (i seat : ℕ) (parts : Parts) (done : ChainOut) : Type 0 where
   pub left : Left
   pub plan : Plan
   pub homes : Homes
@@ -50,4 +50,4 @@ pub record IsParted (t t2 : Table) (x p : Place) (i seat : ℕ) (parts : Parts) 
   pub way : IsWayOf parts plan done.way
   pub picks : PicksHomes t housed x.block p.block (size_of parts.inner + 4) plan.rest seat homes
   pub at : done.at ≡ new_place housed homes.inner
-  pub after : t2 ≡ with_touched (parted_table housed x p i homes.inner homes.rest parts.inner (λ j. taken_by j (put_by parts plan) parts.node_of) plan.cut (length parts.links)) (blocks_touched x.block p.block homes (length t.pages) (length housed.pages))
+  pub after : t2 ≡ with_touched (table_below housed x p i homes.inner homes.rest parts.inner (λ j. taken_by j (put_by parts plan) parts.node_of) plan.cut (length parts.links)) (blocks_touched x.block p.block homes (length t.pages) (length housed.pages))
