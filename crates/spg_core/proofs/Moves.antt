@@ -95,6 +95,13 @@ back_out {Key} {Recon} m t t1 t2 d d2 seat block by node rest (eb, held, other, 
       (ap (λ (z : Descending Recon). z.row) ed, ap (λ (z : Descending Recon). in_nulls z) ed, starts, λ key C. subst (λ (S : Sheets). IsCarried m S d2 key) (sym same.0) (carries key C)),
     )
 
+-- an insert stands at a root, or at none
+pub root_or_below : (stand : Stand) → IsAtRoot stand ⊎ (IsAtRoot stand → ⊥)
+root_or_below Start = inr (λ h. h)
+root_or_below (Root b) = inl tt
+root_or_below (At x) = inr (λ h. h)
+root_or_below Empty = inr (λ h. h)
+
 -- below the root of its tree the root is an inner tuple
 pub below_root : {Recon : Type 0} (t : Table) (d : Descending Recon) → Stands t d → IsAtNoInner t d.stand → (IsAtRoot d.stand → ⊥) → HasInnerRoot t (in_nulls d)
 below_root t d at off low = go d.stand d.parent at off.0 low

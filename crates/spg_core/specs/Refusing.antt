@@ -31,14 +31,14 @@ abbrev pub FindsNoPage : {Key Recon Cond : Type 0} → Meaning Key Recon Cond �
 FindsNoPage m t d seat =
     (IsRuleFor t d rules.Put × (d.stand ≡ Empty) × IsFull t (leaf_want d seat))
     ⊎ (IsRuleFor t d rules.Move × IsFull t (carried_want t d seat))
-    ⊎ (IsRuleFor t d rules.Part × ((IsAtRoot d.stand × IsRootFull m t d seat) ⊎ ((IsAtRoot d.stand → ⊥) × IsChainFull m t d seat)))
+    ⊎ (IsRuleFor t d rules.Divide × ((IsAtRoot d.stand × IsRootFull m t d seat) ⊎ ((IsAtRoot d.stand → ⊥) × IsChainFull m t d seat)))
     ⊎ (IsRuleFor t d rules.Choose × FindsNoInner m t d seat)
 
 -- that section raises the clock: a chain moves, or one below a root is divided, or a longer tuple does not fit in its place
 abbrev pub Ticks : {Key Recon Cond : Type 0} → Meaning Key Recon Cond → Table → Descending Recon → Type 0
 Ticks m t d =
     IsRuleFor t d rules.Move
-    ⊎ (IsRuleFor t d rules.Part × (IsAtRoot d.stand → ⊥))
+    ⊎ (IsRuleFor t d rules.Divide × (IsAtRoot d.stand → ⊥))
     ⊎ (IsRuleFor t d rules.Choose × ((at : ℕ) × (label : ℤ) × IsAnswered m t d (choice.Add at label) × (FitsWider t d at label → ⊥)))
 
 -- ---- the whole of a refusal

@@ -88,12 +88,12 @@ abbrev pub PutsLeaf : {Key Recon Cond : Type 0} → Meaning Key Recon Cond → T
 PutsLeaf m t t2 d d2 seat = (d2 ≡ d) × (
     (IsRuleFor t d rules.Put × IsPutOut m t t2 d puts.Put × PutsTable t t2 d seat)
     ⊎ (IsRuleFor t d rules.Move × MovesCarried m t t2 d × IsTicked t t2 × MakesNone t t2 × MovesTable t t2 d seat)
-    ⊎ (IsRuleFor t d rules.Part × Divides m t t2 d d2 seat splits.Put))
+    ⊎ (IsRuleFor t d rules.Divide × Divides m t t2 d d2 seat splits.Put))
 
 -- a section that changes pages puts the leaf; or it changes the inner tuple, or divides the leaves without that of the insert
 abbrev pub Rewrites : {Key Recon Cond : Type 0} → Meaning Key Recon Cond → Table → Table → Descending Recon → Descending Recon → ℕ → InsertOut → Type 0
 Rewrites m t t2 d d2 seat Descended = ⊥
-Rewrites m t t2 d d2 seat Restructured = (IsRuleFor t d rules.Choose × (in_nulls d ≡ false) × ChangesTuple m t t2 d d2 seat) ⊎ (IsRuleFor t d rules.Part × Divides m t t2 d d2 seat splits.LeftOut)
+Rewrites m t t2 d d2 seat Restructured = (IsRuleFor t d rules.Choose × (in_nulls d ≡ false) × ChangesTuple m t t2 d d2 seat) ⊎ (IsRuleFor t d rules.Divide × Divides m t t2 d d2 seat splits.LeftOut)
 Rewrites m t t2 d d2 seat (Restarted block by) = ⊥
 Rewrites m t t2 d d2 seat Put = PutsLeaf m t t2 d d2 seat
 

@@ -4,7 +4,6 @@ ghost use Rattle.spg_tree.specs.Table.{sheets_of};
 ghost use Rattle.spg_tree.specs.declared.stand.Stand.TheVariants.{Start};
 ghost use Rattle.spg_tree.specs.declared.stand.StepRefused.TheVariants.{ClockFull};
 ghost use Rattle.spg_descend.specs.declared.rule.Rule.TheVariants as rules;
-ghost use Rattle.spg_split.specs.Splits.{IsAtRoot};
 ghost use Rattle.spg_seats.specs.Descending.{Stands, HoldsIts, ChangesHeld};
 ghost use Rattle.spg_seats.specs.Latching.{InsertHolds};
 ghost use Rattle.spg_core.specs.Stepping.{MayStep, IsStepOut, MakesAtMostOne};
@@ -21,7 +20,7 @@ use spg_descend::{Entered, PutOut, Rule, enter_root, put_leaf, rule_at};
 use spg_move::move_chain;
 use spg_opclass::OpClass;
 use spg_split::{SplitOut, split_leaf};
-use spg_tree::{Descent, PageTable, Stand, StepRefused};
+use spg_tree::{Descent, PageTable, StepRefused};
 use std::alloc::Global;
 
 /// Enters the root.
@@ -73,8 +72,8 @@ fn move_away<O: OpClass>(
     Ok(InsertOut::Put)
 }
 
-/// Divides the leaves of a root leaf page on which the leaf of an insert does not fit.
-fn divide_root<O: OpClass>(
+/// Divides the leaves where an insert stands, which have no room for its own leaf and may not move.
+fn divide<O: OpClass>(
     alloc: Global,
     class: &O,
     table: &mut PageTable,
@@ -82,29 +81,7 @@ fn divide_root<O: OpClass>(
     seat: SeatNo,
 ) -> Result<InsertOut, StepRefused>
     requires can { MayStep O.meaning table.old descent.old }
-    requires rule { IsRuleFor table.old descent.old rules.Part }
-    requires root { IsAtRoot descent.old.stand }
-    ensures does { IfOk result (λ out. Does O.meaning table.old table.new descent.old descent.new seat out) }
-    ensures clock { IsErrOf result ClockFull → ⊥ }
-    ensures refused { Refuses O.meaning table.old table.new descent.old descent.new seat result }
-{
-    match split_leaf(alloc, class, table, descent, seat)? {
-        SplitOut::Put => Ok(InsertOut::Put),
-        SplitOut::LeftOut => Ok(InsertOut::Restructured),
-    }
-}
-
-/// Divides the chain of an insert, which is too long to move.
-fn divide_chain<O: OpClass>(
-    alloc: Global,
-    class: &O,
-    table: &mut PageTable,
-    descent: &mut Descent<O>,
-    seat: SeatNo,
-) -> Result<InsertOut, StepRefused>
-    requires can { MayStep O.meaning table.old descent.old }
-    requires rule { IsRuleFor table.old descent.old rules.Part }
-    requires below { IsAtRoot descent.old.stand → ⊥ }
+    requires rule { IsRuleFor table.old descent.old rules.Divide }
     ensures does { IfOk result (λ out. Does O.meaning table.old table.new descent.old descent.new seat out) }
     ensures refused { Refuses O.meaning table.old table.new descent.old descent.new seat result }
 {
@@ -132,10 +109,7 @@ fn section<O: OpClass>(
         Rule::Choose => at_inner(alloc, class, table, descent, seat),
         Rule::Put => put(alloc, table, descent, seat),
         Rule::Move => move_away(alloc, table, descent, seat),
-        Rule::Part => match descent.stand() {
-            Stand::Root(_) => divide_root(alloc, class, table, descent, seat),
-            _ => divide_chain(alloc, class, table, descent, seat),
-        },
+        Rule::Divide => divide(alloc, class, table, descent, seat),
     }
 }
 
