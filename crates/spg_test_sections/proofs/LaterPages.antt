@@ -1,5 +1,5 @@
 -- Pages at another moment of the clock, and inserts of nulls over them.
-use Rattle.std.proofs.Common.{[], ◌∷◌, ◌++◌, reverse, ◌≡◌, ℕ, ◌<◌, ◌≤◌, ◌&&◌, not, Bool, true, false, List, Option, Some, None, Result, Ok, Err, length, refl, sym, ap, ◌∙◌, subst, inl, arith}
+use Rattle.std.proofs.Common.{[], ◌∷◌, ◌++◌, reverse, ◌≡◌, ℕ, ◌<◌, ◌≤◌, Bool, true, false, List, Option, Some, None, Result, Ok, Err, length, refl, sym, ap, ◌∙◌, subst, inl, arith}
 use Rattle.std.proofs.lemmas.Bool.{false≢true}
 use Rattle.std.proofs.lemmas.List.{reverse-append}
 use Rattle.spg_base.specs.Row.{RowAt}
