@@ -86,6 +86,33 @@ const MOVED: [(u8, Call, Answer); 13] = [
     (1, Call::Step, Answer::Finished(1)),
 ];
 
+/// A chain is divided while a vacuum is open. Its redirect leads to the new inner tuple, whose
+/// downlinks are listed then: the row stands in the last of its lists.
+const DIVIDED: [(u8, Call, Answer); 22] = [
+    (0, Call::Kill(40), Answer::Done),
+    (1, Call::Vacuum, Answer::Done),
+    (0, Call::Insert(579), Answer::Done),
+    (0, Call::Step, Answer::Descended),
+    (0, Call::Step, Answer::Descended),
+    (0, Call::Step, Answer::Put),
+    (1, Call::Step, Answer::Block),
+    (1, Call::Step, Answer::Block),
+    (1, Call::Step, Answer::Block),
+    (1, Call::Step, Answer::Pending),
+    (1, Call::Step, Answer::Pending),
+    (1, Call::Step, Answer::Pending),
+    (1, Call::Step, Answer::Pending),
+    (1, Call::Step, Answer::Pending),
+    (1, Call::Step, Answer::Pending),
+    (1, Call::Step, Answer::Pending),
+    (1, Call::Step, Answer::Pending),
+    (1, Call::Step, Answer::Pending),
+    (1, Call::Step, Answer::Block),
+    (1, Call::Step, Answer::Block),
+    (1, Call::Step, Answer::Block),
+    (1, Call::Step, Answer::Finished(1)),
+];
+
 /// The first call that answers another thing than is wanted, with its answer.
 fn first_other(
     state: &mut State<Quad>,
@@ -136,13 +163,7 @@ fn insert<O: OpClass>(state: &mut State<O>, row: Row, key: Option<O::Key>) -> Re
 #[test]
 fn finds_a_chain_that_moved(rt: HostRuntime) -> Result<(), Fail> {
     let mut state = State::new(rt.alloc(), Quad, 65536)?;
-    for index in 0..291 {
-        let answers = [
-            answer_of(&mut state, SeatNo::first(), Call::Insert(index + 1))?,
-            step_out(&mut state)?,
-        ];
-        assert_eq!(rt; answers, [Answer::Done, Answer::Put]);
-    }
+    assert_eq!(rt; fill(&mut state, 291)?, 291);
     assert_eq!(rt; first_other(&mut state, &MOVED)?, None);
     let wanted = Stat {
         pages: 5,
@@ -155,6 +176,36 @@ fn finds_a_chain_that_moved(rt: HostRuntime) -> Result<(), Fail> {
     };
     assert_eq!(rt; state.stat(), wanted);
     Ok(())
+}
+
+#[test]
+fn finds_the_lists_of_a_chain_that_was_divided(rt: HostRuntime) -> Result<(), Fail> {
+    let mut state = State::new(rt.alloc(), Quad, 65536)?;
+    assert_eq!(rt; fill(&mut state, 578)?, 578);
+    assert_eq!(rt; first_other(&mut state, &DIVIDED)?, None);
+    let wanted = Stat {
+        pages: 7,
+        inner: 2,
+        leaf: 578,
+        redirect: 1,
+        dead: 0,
+        placeholder: 12,
+        clock: 5,
+    };
+    assert_eq!(rt; state.stat(), wanted);
+    Ok(())
+}
+
+/// Seat 0 inserts so many rows of block 9, from the first on. The answer is how many were put.
+fn fill(state: &mut State<Quad>, count: u16) -> Result<u16, Memory> {
+    let mut put = 0;
+    for index in 0..count {
+        let opened = answer_of(state, SeatNo::first(), Call::Insert(index + 1))?;
+        if opened == Answer::Done && step_out(state)? == Answer::Put {
+            put = index + 1;
+        }
+    }
+    Ok(put)
 }
 
 /// Seat 0 does the sections of its insert until its row is put.
