@@ -1,9 +1,10 @@
 -- Where a pick finds no page, fewer than 4 blocks are left.
-use Rattle.std.proofs.Common.{◌≡◌, ℕ, suc, ◌+◌, ◌-◌, ◌≤◌, nat_le, Bool, true, false, cond, ⊎_elim, Option, None, Some, length, length-append, length-set, replicate, refl, ap, ◌∙◌, arith}
+use Rattle.std.proofs.Common.{◌≡◌, ℕ, suc, ◌+◌, ◌-◌, ◌≤◌, nat_le, Bool, true, false, cond, [], ◌∷◌, ◌++◌, ⊎_elim, Option, None, Some, length, length-append, length-set, replicate, refl, ap, ◌∙◌, arith}
 use Rattle.std.proofs.lemmas.List.{length-replicate}
 use Rattle.spg_opclass.specs.Meaning.{Meaning}
 use Rattle.spg_forest.specs.View.{Place}
 use Rattle.spg_forest.specs.Tuples.{Inner}
+use Rattle.spg_forest.specs.Links.{leaves_on}
 use Rattle.spg_forest.specs.Divisions.{rests_of}
 use Rattle.spg_forest.specs.Sheets.{size_of}
 use Rattle.spg_tree.specs.Table.{Table, sheet_at, tuples_at}
@@ -11,12 +12,13 @@ use Rattle.spg_tree.specs.Descents.{Descending}
 use Rattle.spg_tree.specs.Pick.{Picks, IsFull, has_parity, first_from, new_block, fresh}
 use Rattle.spg_tree.specs.Two.{after_first}
 use Rattle.spg_tree.specs.declared.want.Want.{Want}
+use Rattle.spg_descend.specs.Carried.{carried}
 use Rattle.spg_descend.specs.Follows.{tuple_place}
-use Rattle.spg_split.specs.Causes.{tuples_divided, leaves_below, chain_bytes}
+use Rattle.spg_split.specs.Causes.{tuples_divided, root_bytes, leaves_below, chain_bytes}
 use Rattle.spg_split.specs.Dividing.{division_of}
-use Rattle.spg_split.specs.Fulls.{AreFull, IsChainFull, IsFullBelow, those_put, size_gone}
+use Rattle.spg_split.specs.Fulls.{AreFull, IsRootFull, IsChainFull, IsFullBelow, those_put, size_gone}
 use Rattle.spg_split.specs.Homes.{fits_above, inner_want, rest_want}
-use Rattle.spg_split.specs.Parts.{bare}
+use Rattle.spg_split.specs.Parts.{bare, lists_want}
 use Rattle.spg_split.specs.Planning.{left_at}
 use Rattle.spg_core.specs.Stepping.{IsNearLimit}
 
@@ -58,6 +60,11 @@ homes_near true false t w v any F = absurd F
 homes_near true true t w v any F = full_near t v F
 homes_near false false t w v any F = full_near t w F
 homes_near false true t w v any two = ⊎_elim (λ F. full_near t w F) (λ (a, t1, P, F). second_near t t1 w v a any P F) two
+
+pub root_near : {Key Recon Cond : Type 0} (m : Meaning Key Recon Cond) (t : Table) (d : Descending Recon) (seat : ℕ) → IsRootFull m t d seat → IsNearLimit t
+root_near m t d seat F =
+    let b : ℕ = (tuple_place d.stand).block in
+    full_near t (lists_want (sheet_at t b).nulls (those_put (root_bytes m t d) (tuples_divided m d.recon (leaves_on (tuples_at t b) ++ carried d ∷ []))) seat) F
 
 pub chain_near : {Key Recon Cond : Type 0} (m : Meaning Key Recon Cond) (t : Table) (d : Descending Recon) (seat : ℕ) → IsChainFull m t d seat → IsNearLimit t
 chain_near m t d seat full = below d.parent full

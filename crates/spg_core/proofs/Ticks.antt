@@ -7,9 +7,12 @@ use Rattle.spg_tree.specs.Table.{Table}
 use Rattle.spg_tree.specs.Descents.{Descending}
 use Rattle.spg_tree.specs.declared.stand.Stand.{Stand}
 use Rattle.spg_tree.specs.declared.stand.Stand.TheVariants.{Start}
+use Rattle.spg_descend.specs.declared.rule.Rule.TheVariants as rules
 use Rattle.spg_descend.specs.Answers.{IsAnswered}
 use Rattle.spg_descend.specs.Follows.{IsAtInner}
+use Rattle.spg_split.specs.Splits.{IsAtRoot}
 use Rattle.spg_move.specs.Nodes.{FitsWider}
+use Rattle.spg_core.specs.Telling.{IsRuleFor}
 use Rattle.spg_core.specs.Refusing.{Ticks}
 use Rattle.spg_core.proofs.Ends.{one_answer}
 
@@ -18,6 +21,11 @@ module _ {Key Recon Cond : Type 0} (m : Meaning Key Recon Cond) (t : Table) (d :
   start_ticks e (inl (off, room, short)) = off.0 e
   start_ticks e (inr (inl ((off, room, long), below))) = off.0 e
   start_ticks e (inr (inr (i, (at, label, answered, big)))) = (subst (λ (s : Stand). IsAtInner t s) e i).0
+
+  pub root_ticks : IsRuleFor t d rules.Divide → IsAtRoot d.stand → Ticks m t d → ⊥
+  root_ticks (off, room, long) low (inl (off2, room2, short)) = long short
+  root_ticks (off, room, long) low (inr (inl (rule, below))) = below low
+  root_ticks (off, room, long) low (inr (inr (i, (at, label, answered, big)))) = off.1 i
 
   -- where the class asks for this node, a clock that is raised says that the longer tuple does not fit in its place
   pub add_ticks : (at : ℕ) (label : ℤ) → IsAtInner t d.stand → IsAnswered m t d (Add at label) → Ticks m t d → FitsWider t d at label → ⊥

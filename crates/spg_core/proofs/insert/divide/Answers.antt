@@ -1,11 +1,14 @@
 use Rattle.std.proofs.Common.{rules, ⊎_elim, ap, subst, inl, inr}
 use Rattle.spg_tree.specs.Descents.{Descending}
+use Rattle.spg_tree.specs.declared.stand.StepRefused.TheVariants.{ClockFull}
 use Rattle.spg_split.specs.Cases.{IsLeafFull}
 use Rattle.spg_split.specs.declared.split.SplitOut.{SplitOut}
+use Rattle.spg_core.specs.declared.answer.InsertOut.TheVariants as outs
 use Rattle.spg_core.specs.Telling.{DividesRoot, DividesChain}
 use Rattle.spg_core.proofs.Moves.{root_or_below, root_full, root_leaves, at_chain, not_empty, below_root}
 use Rattle.spg_core.proofs.Limits.{root_near, chain_near}
 use Rattle.spg_core.proofs.Ticks.{root_ticks}
+use Rattle.spg_core.proofs.Refusals.{not_err, done_so}
 use Rattle.spg_core.proofs.insert.divide.Goals as goal
 
 pub split_leaf-requires-clause-spot : goal.split_leaf-requires-clause-spot
@@ -68,3 +71,15 @@ returns-in-LeftOut-clause-does g c =
     (λ below. inr (subst (λ (o : SplitOut). DividesChain m t t2 d d2 c.args.seat o) c.in-LeftOut.is (below, done.ok.below below, done.ticked below, done.table.below below, done.cause.below below, done.rise.below below)))
     (root_or_below d.stand) in
     record { told = inr (c.requires.rule, tells); exact = done.exact; held = done.held; stood = done.stands }
+
+pub returns-in-Put-clause-refused : goal.returns-in-Put-clause-refused
+returns-in-Put-clause-refused g c = done_so _ _ _ _ _ _ outs.Put (λ ticks last. ⊎_elim
+    (λ root. root_ticks g.O.OpClass.meaning c.args.table.now c.args.descent.now c.requires.rule root ticks)
+    (λ below. not_err _ ClockFull (c.in_ok-split_leaf.ensures.clock_first below last))
+    (root_or_below c.args.descent.now.stand))
+
+pub returns-in-LeftOut-clause-refused : goal.returns-in-LeftOut-clause-refused
+returns-in-LeftOut-clause-refused g c = done_so _ _ _ _ _ _ outs.Restructured (λ ticks last. ⊎_elim
+    (λ root. root_ticks g.O.OpClass.meaning c.args.table.now c.args.descent.now c.requires.rule root ticks)
+    (λ below. not_err _ ClockFull (c.in_ok-split_leaf.ensures.clock_first below last))
+    (root_or_below c.args.descent.now.stand))
