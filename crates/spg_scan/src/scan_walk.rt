@@ -6,13 +6,13 @@ ghost use Rattle.spg_scan.specs.Parts.{other_than};
 use crate::scan::Scan;
 use crate::walk::{Closed, ReadOut, Walk};
 use spg_base::{Block, List, Memory, SeatNo};
-use spg_opclass::OpClass;
+use spg_opclass::{OpClass, sift};
 use spg_rows::RowTable;
 use spg_tree::PageTable;
 use std::alloc::Global;
 
 /// The seat that holds a block, where it is another than this one.
-fn held_by_other(table: &PageTable, block: Block, seat: SeatNo) -> Option<SeatNo>
+pub(crate) fn held_by_other(table: &PageTable, block: Block, seat: SeatNo) -> Option<SeatNo>
     requires { block < length table.now.pages }
     ensures { result ≡ other_than seat (latch_at table.now block) }
 {
@@ -38,12 +38,17 @@ impl<O: OpClass> Walk<O> for Scan<O> {
         item: usize,
         seat: SeatNo,
     ) -> Result<ReadOut, Memory> {
-        let place = self.items[item].place;
+        if let Some(copied) = self.copy_of(item)? {
+            let sifted = sift(alloc, class, copied)?;
+            self.take_in(item, &sifted)?;
+            return Ok(ReadOut::Read);
+        }
+        let place = self.place_at(item);
         let block = place.block;
         match held_by_other(table, block, seat) {
             Some(by) => Ok(ReadOut::Latched { block, by }),
             None => {
-                self.read_at(alloc, class, table, rows, item, place)?;
+                self.read_at(alloc, Some(class), table, rows, item, place)?;
                 Ok(ReadOut::Read)
             }
         }
