@@ -65,6 +65,10 @@ is_where (Where conds) = true
 abbrev pub HasPlace : {Recon : Type 0} → List (Item Recon) → ℕ → Type 0
 HasPlace items i = (x : Place) × IsPlaceAt items i x
 
+-- item i, where it is a place, is one of the main tree and has this rebuilt value
+abbrev pub IsMainAt : {Recon : Type 0} → List (Item Recon) → ℕ → Recon → Type 0
+IsMainAt {Recon} items i recon = (x : Place) (r : Option Recon) → IsItem items i (held x r) → r ≡ Some recon
+
 -- the item with another place, where it is one
 abbrev pub sent_on : {Recon : Type 0} → Place → Item Recon → Item Recon
 sent_on y (held x r) = held y r

@@ -1,11 +1,11 @@
 // A scan copies what it comes to.
-ghost use Rattle.std.specs.Prelude.{◌≡◌, ◌<◌, ◌∷◌, [], length, IfOk, OnOk, OnErr, None as Nil, Some as Just};
+ghost use Rattle.std.specs.Prelude.{◌≡◌, ◌<◌, ◌∷◌, [], length, IfOk, OnOk, OnErr, Some as Just};
 ghost use Rattle.spg_forest.specs.Shape.{Shape};
 ghost use Rattle.spg_tree.specs.Table.{sheets_of};
 ghost use Rattle.spg_scan.specs.Held.{kept_as};
 ghost use Rattle.spg_scan.specs.Scanning.{replaced};
 ghost use Rattle.spg_scan.specs.Reading.{IsHeld};
-ghost use Rattle.spg_scan.specs.Parts.{IsPlaceAt, HasPlace, is_where};
+ghost use Rattle.spg_scan.specs.Parts.{IsPlaceAt, IsMainAt, is_where};
 ghost use Rattle.spg_scan.specs.Copying.{kept_copy, IsCopyOf, IsCopying, IsCopyOut, IsPlaceOut};
 
 use crate::copying::{Copying, copy_chain, copy_inner, copy_page};
@@ -70,65 +70,64 @@ impl<O: OpClass> Scan<O> {
         Ok(copied)
     }
 
-    /// The copy of a root, where it is to be copied.
+    /// The copy of a root of the main tree, where it is to be copied.
     fn copy_root(
         &self,
         table: &PageTable,
         rows: &RowTable<O>,
         item: usize,
         place: Place,
+        recon: &O::Recon,
     ) -> Result<Option<Copying<O>>, Memory>
         requires shape { Shape O.meaning (sheets_of table.now) }
         requires held { IsHeld O.meaning (sheets_of table.now) self.now item }
         requires place { IsPlaceAt self.now.items item place }
+        requires recon { IsMainAt self.now.items item recon.now }
         requires root { place.offset ≡ 0 }
         ensures { IfOk result (λ copying. IsCopying (sheets_of table.now) rows.now self.now item copying) }
     {
         let alloc = *self.rows.allocator();
         let page = table.page(place.block);
-        match self.recon_at(item) {
-            None => Ok(None),
-            Some(recon) => {
-                if starts_inner(page) {
-                    Ok(Some(copy_inner(alloc, recon, page, Offset(1))?))
-                } else if is_where(&self.query) {
-                    Ok(Some(copy_page(alloc, recon, rows, page)?))
-                } else {
-                    Ok(None)
-                }
-            }
+        if starts_inner(page) {
+            Ok(Some(copy_inner(alloc, recon, page, Offset(1))?))
+        } else if is_where(&self.query) {
+            Ok(Some(copy_page(alloc, recon, rows, page)?))
+        } else {
+            Ok(None)
         }
     }
 
-    /// The copy of a tuple at a place that is no root, where it is to be copied.
+    /// The copy of a tuple of the main tree at a place that is no root, where it is to be copied.
     fn copy_tuple(
         &self,
         table: &PageTable,
         rows: &RowTable<O>,
         item: usize,
         place: Place,
+        recon: &O::Recon,
     ) -> Result<Option<Copying<O>>, Memory>
         requires shape { Shape O.meaning (sheets_of table.now) }
         requires held { IsHeld O.meaning (sheets_of table.now) self.now item }
         requires place { IsPlaceAt self.now.items item place }
+        requires recon { IsMainAt self.now.items item recon.now }
         requires high { 0 < place.offset }
         ensures { IfOk result (λ copying. IsCopying (sheets_of table.now) rows.now self.now item copying) }
     {
         let alloc = *self.rows.allocator();
         let page = table.page(place.block);
         let at = place.offset;
-        let kind = page.kind_at(at);
-        match self.recon_at(item) {
-            None => Ok(None),
-            Some(recon) => {
-                if kind == TupleKind::Inner {
-                    Ok(Some(copy_inner(alloc, recon, page, at)?))
-                } else if kind == TupleKind::Leaf && is_where(&self.query) {
+        match page.kind_at(at) {
+            TupleKind::Inner => Ok(Some(copy_inner(alloc, recon, page, at)?)),
+            TupleKind::Leaf => {
+                if is_where(&self.query) {
                     Ok(Some(copy_chain(alloc, recon, rows, page, at)?))
                 } else {
                     Ok(None)
                 }
             }
+            TupleKind::Dead => Ok(None),
+            TupleKind::Redirect => Ok(None),
+            TupleKind::Placeholder => unreachable!(),
         }
     }
 
@@ -141,14 +140,20 @@ impl<O: OpClass> Scan<O> {
         place: Place,
     ) -> Result<Option<Copying<O>>, Memory>
         requires shape { Shape O.meaning (sheets_of table.now) }
+        requires item { item < length self.now.items }
         requires held { IsHeld O.meaning (sheets_of table.now) self.now item }
         requires place { IsPlaceAt self.now.items item place }
         ensures { IfOk result (λ copying. IsCopying (sheets_of table.now) rows.now self.now item copying) }
     {
-        if place.offset.0 == 0 {
-            self.copy_root(table, rows, item, place)
-        } else {
-            self.copy_tuple(table, rows, item, place)
+        match self.recon_at(item) {
+            None => Ok(None),
+            Some(recon) => {
+                if place.offset.0 == 0 {
+                    self.copy_root(table, rows, item, place, recon)
+                } else {
+                    self.copy_tuple(table, rows, item, place, recon)
+                }
+            }
         }
     }
 

@@ -1,5 +1,5 @@
 // A scan goes on by a copy that the class sifted.
-ghost use Rattle.std.specs.Prelude.{◌≡◌, ◌<◌, ◌↔◌, ℕ, List, Option, IsTrue, map, get_or, length, IfOk, OnOk, OnErr, IsErrOf, None as Nil};
+ghost use Rattle.std.specs.Prelude.{◌≡◌, ◌<◌, ◌↔◌, ◌++◌, ◌∷◌, [], IsTrue, map, get_or, length, IfOk, OnOk, OnErr, IsErrOf, None as Nil};
 ghost use Rattle.spg_scan.specs.Held.{item_of};
 ghost use Rattle.spg_scan.specs.Items.{hold_all};
 ghost use Rattle.spg_scan.specs.Scanning.{replaced};
@@ -42,6 +42,22 @@ fn link_of(links: &[Option<Place>], node: u16) -> Option<Place>
     }
 }
 
+/// Adds the place at a node of an inner tuple with its rebuilt value, where the downlink is not empty.
+fn hold_child<O: OpClass>(
+    links: &[Option<Place>],
+    node: u16,
+    recon: &O::Recon,
+    children: &mut Vec<Pending<O>>,
+) -> Result<(), Memory>
+    ensures { OnOk result (map item_of children.new.items ≡ map item_of children.old.items ++ hold_all (linked links.now ((node, recon.now) ∷ []))) }
+{
+    if let Some(place) = link_of(links, node) {
+        let recon = Some(recon.copy()?);
+        children.push(Pending::Held(Held { place, recon }))?;
+    }
+    Ok(())
+}
+
 /// The places at nodes of an inner tuple that are not empty, each with its rebuilt value.
 fn children_at<O: OpClass>(
     alloc: Global,
@@ -51,11 +67,9 @@ fn children_at<O: OpClass>(
     ensures { IfOk result (λ children. map item_of children.items ≡ hold_all (linked links.now nodes.now)) }
 {
     let mut children = Vec::new(alloc);
-    for (node, recon) in nodes.as_slice() {
-        if let Some(place) = link_of(links, *node) {
-            let recon = Some(recon.copy()?);
-            children.push(Pending::Held(Held { place, recon }))?;
-        }
+    for kept in nodes.as_slice() {
+        let (node, recon) = kept;
+        hold_child(links, *node, recon, &mut children)?;
     }
     Ok(children)
 }
