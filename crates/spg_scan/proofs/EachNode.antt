@@ -22,7 +22,7 @@ from_more j (suc n) = let e : suc j + n ≡ j + suc n = omega arith in ap (λ (z
 
 from_below : (n : ℕ) → from_on 0 n ≡ below n
 from_below zero = refl
-from_below (suc n) = from_more 0 n ∙ ap (λ (z : List ℕ). z ++ n ∷ []) (from_below n)
+from_below (suc n) = let e : 0 + n ≡ n = omega arith in from_more 0 n ∙ ap (λ (k : ℕ). from_on 0 n ++ k ∷ []) e ∙ ap (λ (z : List ℕ). z ++ n ∷ []) (from_below n)
 
 -- the head of a rising list is below what follows
 behind : (x : ℕ) (xs : List ℕ) → AllPairs (λ x y. x < y) (x ∷ xs) → (y : ℕ) → Contains xs y → x < y

@@ -47,7 +47,7 @@ module _ {O Key Recon Cond : Type 0} (table : rows.Table O Key Recon Cond) where
           where
             keyed : (o : Option Key) → IsSome (option_map Some o) → IsSome o
             keyed None a = a
-            keyed (Some key) a = tt
+            keyed (Some key) a = refl
         go false = rest
 
     -- what was gathered may be kept

@@ -28,20 +28,20 @@ use Rattle.spg_scan.proofs.Stands.{place_cases, dead_spot, forward_spot}
 -- ---- which spots are copied
 
 pub branch_copied : {O Key Recon Cond : Type 0} (query : Query O Key Recon Cond) (x : Place) (r : Option Recon) (v : Spot) (w : Frame) (ns : List (Option Place)) → v ≡ Branch w ns → IsSome r → is_copied query x r v ≡ true
-branch_copied query x None v w ns e h = absurd h
+branch_copied query x None v w ns e h = cc
 branch_copied All x (Some recon) v w ns e h = ap (is_copied All x (Some recon)) e
 branch_copied Null x (Some recon) v w ns e h = ap (is_copied Null x (Some recon)) e
 branch_copied (Where conds) x (Some recon) v w ns e h = ap (is_copied (Where conds) x (Some recon)) e
 
 chain_is : {O Key Recon Cond : Type 0} (query : Query O Key Recon Cond) (x : Place) (r : Option Recon) (ls : List Leaf) → 0 < length ls → IsSome r → is_where query ≡ true → is_copied query x r (Bucket ls) ≡ true
-chain_is query x None ls b h q = absurd h
+chain_is query x None ls b h q = cc
 chain_is All x (Some recon) ls b h q = cc
 chain_is Null x (Some recon) ls b h q = cc
 chain_is (Where conds) x (Some recon) [] b h q = absurd (omega arith)
 chain_is (Where conds) x (Some recon) (l ∷ ls) b h q = refl
 
 root_is : {O Key Recon Cond : Type 0} (query : Query O Key Recon Cond) (x : Place) (r : Option Recon) (ls : List Leaf) → x.offset ≡ 0 → IsSome r → is_where query ≡ true → is_copied query x r (Bucket ls) ≡ true
-root_is query x None ls b h q = absurd h
+root_is query x None ls b h q = cc
 root_is All x (Some recon) ls b h q = cc
 root_is Null x (Some recon) ls b h q = cc
 root_is (Where conds) x (Some recon) [] b h q = eq-eqb x.offset 0 b
@@ -92,7 +92,7 @@ module _ {O Key Recon Cond : Type 0} (table : rows.Table O Key Recon Cond) (x : 
 
 some_is : {X : Type 0} (o : Option X) (y : X) → o ≡ Some y → IsSome o
 some_is None y e = cc
-some_is (Some x) y e = tt
+some_is (Some x) y e = refl
 
 module _ {O Key Recon Cond : Type 0} (m : Meaning Key Recon Cond) (S : Sheets) (H : Shape m S) (s : Scanning O Key Recon Cond) (i : ℕ) (known : IsHeld m S s i) (place : Place) (there : IsPlaceAt s.items i place) where
   -- it is a copy of the item's place, with what was met

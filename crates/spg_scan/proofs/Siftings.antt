@@ -2,7 +2,7 @@
 use Rattle.std.proofs.Common.{◌≡◌, ℕ, Bool, true, false, cond, List, [], ◌∷◌, length, map, get_or, Option, Some, None, option_map, All as Each, refl, sym, ap, ap₂, ◌∙◌, arith, subst}
 use Rattle.std.specs.Prelude.{◌↔◌}
 use Rattle.spg_base.specs.Row.{RowAt}
-use Rattle.spg_opclass.specs.Meaning.{Meaning, is_tuple, matches_rebuilt}
+use Rattle.spg_opclass.specs.Meaning.{Meaning, is_tuple, matches_rebuilt, all_hold}
 use Rattle.spg_opclass.specs.Laws.{KeptLaw}
 use Rattle.spg_opclass.specs.Copies.{InnerAt, LeavesAt, IsInnerAt, IsLeavesAt, matching, kept_at, matching_at}
 use Rattle.spg_opclass.specs.Sifting.{AreAsked}
@@ -16,6 +16,7 @@ use Rattle.spg_forest.specs.Sheets.{Sheets}
 use Rattle.spg_forest.specs.Classes.{down_of}
 use Rattle.spg_forest.specs.Walk.{children_at, followed}
 use Rattle.spg_rows.specs.Table as rows
+use Rattle.spg_scan.specs.declared.pending.Kept.{Kept}
 use Rattle.spg_scan.specs.declared.pending.Kept.TheVariants as kept
 use Rattle.spg_scan.specs.Held.{leaves_with, kept_as}
 use Rattle.spg_scan.specs.Items.{Item, held, inner, leaves, IsItem, hold_all, rows_of}
@@ -44,8 +45,20 @@ leaves_back (l ∷ ls) = ap (λ (z : List Leaf). l ∷ z) (leaves_back ls)
 
 module _ {O Key Recon Cond : Type 0} (query : Query O Key Recon Cond) where
   -- the copy of kept leaves
-  pub kept_leaves : (c : LeavesAt Recon) → length c.rests ≡ length c.rows → kept_copy query (kept_as (kept.Leaves c)) ≡ Some (Leaves c (conds_of query))
+  abbrev pub of_leaves : LeavesAt Recon → Kept O Key Recon Cond
+  of_leaves c = kept.Leaves c
+
+  pub kept_leaves : (c : LeavesAt Recon) → length c.rests ≡ length c.rows → kept_copy query (kept_as (of_leaves c)) ≡ Some (Leaves c (conds_of query))
   kept_leaves c e = λ k. Some (Leaves (record { recon = c.recon; rows = rows_with c.rows c.rests e k; rests = rests_with c.rows c.rests e k }) (conds_of query))
+
+  -- whether a copy that was handed out is this one
+  pub leaves_same : (k : Kept O Key Recon Cond) (copied : Copied O Key Recon Cond) (own other : LeavesAt Recon) (conds : List Cond) → k ≡ kept.Leaves own → copied ≡ Leaves other conds → length own.rests ≡ length own.rows →
+      (kept_copy query (kept_as k) ≡ Some copied) ↔ ((own ≡ other) × (conds_of query ≡ conds))
+  leaves_same k copied own other conds ek ec each =
+      let base : kept_copy query (kept_as k) ≡ Some (Leaves own (conds_of query)) = ap (λ (z : Kept O Key Recon Cond). kept_copy query (kept_as z)) ek ∙ kept_leaves own each in (
+        λ h. let f : Some (Leaves own (conds_of query)) ≡ Some (Leaves other conds) = sym base ∙ h ∙ ap (λ (z : Copied O Key Recon Cond). Some z) ec in (cc f, cc f),
+        λ (a, b). base ∙ ap (λ (z : LeavesAt Recon). Some (Leaves z (conds_of query))) a ∙ ap (λ (z : List Cond). Some (Leaves other z)) b ∙ sym (ap (λ (z : Copied O Key Recon Cond). Some z) ec),
+      )
 
 -- ---- the nodes that were kept
 
@@ -69,26 +82,32 @@ module _ {O Key Recon Cond : Type 0} (m : Meaning Key Recon Cond) (recon : Recon
       ap (λ (b : Bool). cond b (l.row ∷ matching m recon conds (rows_of ls) (rests_of ls)) (matching m recon conds (rows_of ls) (rests_of ls))) (test (m.rebuild recon l.rest))
       ∙ ap (λ (z : List RowAt). cond (asks_for m query (option_map Some (m.rebuild recon l.rest))) (l.row ∷ z) z) (matching_is query conds test ls)
 
-  null_asks : (o : Option Key) → asks_for {O = O} m Null (option_map Some o) ≡ false
-  null_asks None = refl
-  null_asks (Some key) = refl
+  null_asks : (query : Query O Key Recon Cond) → query ≡ Null → (o : Option Key) → asks_for m query (option_map Some o) ≡ false
+  null_asks Null e None = refl
+  null_asks Null e (Some key) = refl
+  null_asks All e o = cc
+  null_asks (Where conds) e o = cc
 
-  none_asked : (ls : List Leaf) → [] ≡ asked_rows {O = O} m Null (Some recon) ls
-  none_asked [] = refl
-  none_asked (l ∷ ls) = none_asked ls ∙ sym (ap (λ (b : Bool). cond b (l.row ∷ asked_rows {O = O} m Null (Some recon) ls) (asked_rows {O = O} m Null (Some recon) ls)) (null_asks (m.rebuild recon l.rest)))
+  none_asked : (query : Query O Key Recon Cond) → query ≡ Null → (ls : List Leaf) → [] ≡ asked_rows m query (Some recon) ls
+  none_asked query e [] = refl
+  none_asked query e (l ∷ ls) = none_asked query e ls ∙ sym (ap (λ (b : Bool). cond b (l.row ∷ asked_rows m query (Some recon) ls) (asked_rows m query (Some recon) ls)) (null_asks query e (m.rebuild recon l.rest)))
 
-  all_asks : (o : Option Key) → matches_rebuilt m [] o ≡ asks_for {O = O} m All (option_map Some o)
-  all_asks None = refl
-  all_asks (Some key) = refl
+  all_asks : (query : Query O Key Recon Cond) → query ≡ All → (o : Option Key) → matches_rebuilt m [] o ≡ asks_for m query (option_map Some o)
+  all_asks All e None = refl
+  all_asks All e (Some key) = refl
+  all_asks Null e o = cc
+  all_asks (Where conds) e o = cc
 
-  where_asks : (conds : List Cond) (o : Option Key) → matches_rebuilt m conds o ≡ asks_for {O = O} m (Where conds) (option_map Some o)
-  where_asks conds None = refl
-  where_asks conds (Some key) = refl
+  where_asks : (query : Query O Key Recon Cond) (conds : List Cond) → query ≡ Where conds → (o : Option Key) → matches_rebuilt m conds o ≡ asks_for m query (option_map Some o)
+  where_asks (Where own) conds e None = refl
+  where_asks (Where own) conds e (Some key) = let f : own ≡ conds = cc e in ap (λ (z : List Cond). all_hold m z key) (sym f)
+  where_asks All conds e o = cc
+  where_asks Null conds e o = cc
 
   pub matching_asked : (query : Query O Key Recon Cond) (ls : List Leaf) → rows_asked query (matching m recon (conds_of query) (rows_of ls) (rests_of ls)) ≡ asked_rows m query (Some recon) ls
-  matching_asked All ls = matching_is All [] all_asks ls
-  matching_asked Null ls = none_asked ls
-  matching_asked (Where conds) ls = matching_is (Where conds) conds (where_asks conds) ls
+  matching_asked All ls = matching_is All [] (all_asks All refl) ls
+  matching_asked Null ls = none_asked Null refl ls
+  matching_asked (Where conds) ls = matching_is (Where conds) conds (where_asks (Where conds) conds refl) ls
 
 -- ---- how a scan goes on by a copy
 

@@ -12,7 +12,7 @@ use crate::copying::{Copying, copy_chain, copy_inner, copy_page};
 use crate::pending::{Pending, hand_out};
 use crate::scan::Scan;
 use crate::scan_walk::held_by_other;
-use crate::steps::starts_inner;
+use crate::steps::{recon_of, starts_inner};
 use spg_base::{Block, Memory, Offset, Place, SeatNo};
 use spg_opclass::{Copied, OpClass, Query};
 use spg_page::TupleKind;
@@ -145,7 +145,7 @@ impl<O: OpClass> Scan<O> {
         requires place { IsPlaceAt self.now.items item place }
         ensures { IfOk result (λ copying. IsCopying (sheets_of table.now) rows.now self.now item copying) }
     {
-        match self.recon_at(item) {
+        match recon_of(&self.items[item]) {
             None => Ok(None),
             Some(recon) => {
                 if place.offset.0 == 0 {
@@ -172,14 +172,13 @@ impl<O: OpClass> Scan<O> {
         ensures ok { IfOk result (λ out. IsPlaceOut O.meaning (sheets_of table.now) rows.now self.old self.new item out) }
         ensures err { OnErr result (self.new ≡ self.old) }
     {
-        match self.copy_place(table, rows, item, place)? {
-            Some(copying) => Ok(ScanCopy::Sift(self.keep(item, copying)?)),
-            None => {
-                let alloc = *self.rows.allocator();
-                self.read_at(alloc, None, table, rows, item, place)?;
-                Ok(ScanCopy::Read)
-            }
+        if let Some(copying) = self.copy_place(table, rows, item, place)? {
+            let copied = self.keep(item, copying)?;
+            return Ok(ScanCopy::Sift(copied));
         }
+        let alloc = *self.rows.allocator();
+        self.read_at(alloc, None, table, rows, item, place)?;
+        Ok(ScanCopy::Read)
     }
 
     /// Copies what an item leads to, so that the class can sift it apart from the index: an inner

@@ -79,9 +79,12 @@ impl<O: OpClass> Scan<O> {
     fn has_copy(&self, item: usize, copied: &Copied<O>) -> bool
         ensures { IsTrue result ↔ HasKept self.now item copied.now }
     {
-        match self.items.get(item) {
-            Some(Pending::Kept(kept)) => is_copy_of(&self.query, kept, copied),
-            _ => false,
+        if item >= self.items.len() {
+            return false;
+        }
+        match &self.items[item] {
+            Pending::Held(_) => false,
+            Pending::Kept(kept) => is_copy_of(&self.query, kept, copied),
         }
     }
 
