@@ -37,18 +37,15 @@ module _ {O Key Recon Cond : Type 0} (table : rows.Table O Key Recon Cond) where
 
     live_keys : (ls : List Leaf) → HaveKeys m (Some recon) ls → AreKeys m recon (rests_of (live_leaves table ls))
     live_keys [] h = All-nil IsKeyed
-    live_keys (l ∷ ls) h = go (is_live (rows.state_in table l.row))
+    live_keys (l ∷ ls) h = go (is_live (rows.state_in table l.row)) (live_keys ls (λ k d b. h (suc k) d (omega arith)))
       where
-        rest : AreKeys m recon (rests_of (live_leaves table ls))
-        rest = live_keys ls (λ k d b. h (suc k) d (omega arith))
+        keyed : (o : Option Key) → IsSome (option_map (λ x. Some x) o) → IsSome o
+        keyed None a = a
+        keyed (Some key) a = refl
 
-        go : (b : Bool) → AreKeys m recon (rests_of (cond b (l ∷ live_leaves table ls) (live_leaves table ls)))
-        go true = All-cons IsKeyed l.rest (rests_of (live_leaves table ls)) (keyed (m.rebuild recon l.rest) (h 0 l (omega arith))) rest
-          where
-            keyed : (o : Option Key) → IsSome (option_map Some o) → IsSome o
-            keyed None a = a
-            keyed (Some key) a = refl
-        go false = rest
+        go : (b : Bool) → AreKeys m recon (rests_of (live_leaves table ls)) → AreKeys m recon (rests_of (cond b (l ∷ live_leaves table ls) (live_leaves table ls)))
+        go true rest = All-cons IsKeyed l.rest (rests_of (live_leaves table ls)) (keyed (m.rebuild recon l.rest) (h 0 l (omega arith))) rest
+        go false rest = rest
 
     -- what was gathered may be kept
     pub gathered_keys : (ls : List Leaf) (ts : List (List ℕ)) → ts ≡ rests_of (live_leaves table ls) → HaveKeys m (Some recon) ls → AreKeys m recon ts

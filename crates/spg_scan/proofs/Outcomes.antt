@@ -47,3 +47,6 @@ module _ {O Key Recon Cond : Type 0} (s : Scanning O Key Recon Cond) (i : ℕ) w
   place_out m t table s2 seat free Read (p, r) = (free, p, r)
   place_out m t table s2 seat free (Latched block by) h = absurd h
   place_out m t table s2 seat free (Sift copied) c = inr (free, c)
+
+  pub place_same : (place : Place) → IsPlaceAt s.items i place → (x : Place) (r : Option Recon) → IsItem s.items i (held x r) → x ≡ place
+  place_same place (q, b) x r a = let e : Some (held x r) ≡ Some (held place q) = sym a ∙ b in let f : held x r ≡ held place q = cc e in cc f

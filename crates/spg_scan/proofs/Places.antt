@@ -27,11 +27,14 @@ use Rattle.spg_scan.proofs.Stands.{place_cases, dead_spot, forward_spot}
 
 -- ---- which spots are copied
 
+branch_is : {O Key Recon Cond : Type 0} (query : Query O Key Recon Cond) (x : Place) (r : Option Recon) (w : Frame) (ns : List (Option Place)) → IsSome r → is_copied query x r (Branch w ns) ≡ true
+branch_is query x None w ns h = cc
+branch_is All x (Some recon) w ns h = refl
+branch_is Null x (Some recon) w ns h = refl
+branch_is (Where conds) x (Some recon) w ns h = refl
+
 pub branch_copied : {O Key Recon Cond : Type 0} (query : Query O Key Recon Cond) (x : Place) (r : Option Recon) (v : Spot) (w : Frame) (ns : List (Option Place)) → v ≡ Branch w ns → IsSome r → is_copied query x r v ≡ true
-branch_copied query x None v w ns e h = cc
-branch_copied All x (Some recon) v w ns e h = ap (is_copied All x (Some recon)) e
-branch_copied Null x (Some recon) v w ns e h = ap (is_copied Null x (Some recon)) e
-branch_copied (Where conds) x (Some recon) v w ns e h = ap (is_copied (Where conds) x (Some recon)) e
+branch_copied query x r v w ns e h = ap (is_copied query x r) e ∙ branch_is query x r w ns h
 
 chain_is : {O Key Recon Cond : Type 0} (query : Query O Key Recon Cond) (x : Place) (r : Option Recon) (ls : List Leaf) → 0 < length ls → IsSome r → is_where query ≡ true → is_copied query x r (Bucket ls) ≡ true
 chain_is query x None ls b h q = cc

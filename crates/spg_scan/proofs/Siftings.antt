@@ -5,7 +5,7 @@ use Rattle.spg_base.specs.Row.{RowAt}
 use Rattle.spg_opclass.specs.Meaning.{Meaning, is_tuple, matches_rebuilt, all_hold}
 use Rattle.spg_opclass.specs.Laws.{KeptLaw}
 use Rattle.spg_opclass.specs.Copies.{InnerAt, LeavesAt, IsInnerAt, IsLeavesAt, matching, kept_at, matching_at}
-use Rattle.spg_opclass.specs.Sifting.{AreAsked}
+use Rattle.spg_opclass.specs.Sifting.{nodes_of, rows_of as sifted_rows, AreAsked}
 use Rattle.spg_opclass.specs.declared.copied.Copied.{Copied}
 use Rattle.spg_opclass.specs.declared.copied.Copied.TheVariants.{Inner, Leaves}
 use Rattle.spg_opclass.specs.declared.query.Query.{Query}
@@ -170,6 +170,18 @@ module _ {O Key Recon Cond : Type 0} (m : Meaning Key Recon Cond) (s s2 : Scanni
         reads = λ S table. (refl, refl);
         after = after ∙ ap (λ (z : List RowAt). replaced s i [] z 0) found;
       }
+
+  pub in_inner : KeptLaw m → (copied : Copied O Key Recon Cond) (at : InnerAt Recon) (conds : List Cond) → copied ≡ Inner at conds → HasKept s i copied → IsInnerAt m at → AreAsked m copied → (ns : List (Option Place)) (nodes : List (ℕ × Recon)) → ns ≡ at.links → nodes ≡ nodes_of m copied →
+      s2 ≡ replaced s i (hold_all (linked ns nodes)) [] 0 → TakesIn m s s2 i copied
+  in_inner law copied at conds e kept is asked ns nodes en ed after =
+      subst (λ (z : Copied O Key Recon Cond). TakesIn m s s2 i z) (sym e)
+      (takes_inner law at conds (subst (λ (z : Copied O Key Recon Cond). HasKept s i z) e kept) is (subst (λ (z : Copied O Key Recon Cond). AreAsked m z) e asked)
+      (after ∙ ap (λ (z : List (Option Place)). replaced s i (hold_all (linked z nodes)) [] 0) en ∙ ap (λ (z : List (ℕ × Recon)). replaced s i (hold_all (linked at.links z)) [] 0) (ed ∙ ap (nodes_of m) e)))
+
+  pub in_leaves : (copied : Copied O Key Recon Cond) (at : LeavesAt Recon) (conds : List Cond) → copied ≡ Leaves at conds → HasKept s i copied → (found : List RowAt) → found ≡ sifted_rows m copied → s2 ≡ replaced s i [] (rows_asked s.query found) 0 → TakesIn m s s2 i copied
+  in_leaves copied at conds e kept found ef after =
+      subst (λ (z : Copied O Key Recon Cond). TakesIn m s s2 i z) (sym e)
+      (takes_leaves at conds (subst (λ (z : Copied O Key Recon Cond). HasKept s i z) e kept) (after ∙ ap (λ (z : List RowAt). replaced s i [] (rows_asked s.query z) 0) (ef ∙ ap (sifted_rows m) e)))
 
   -- what was copied was met when it was copied
   copy_met : (S : Sheets) (query : Query O Key Recon Cond) (item : Item Recon) (copied : Copied O Key Recon Cond) → kept_copy query item ≡ Some copied → met_of S item ≡ 0

@@ -5,7 +5,7 @@ ghost use Rattle.spg_tree.specs.Table.{sheets_of};
 ghost use Rattle.spg_scan.specs.Held.{kept_as};
 ghost use Rattle.spg_scan.specs.Scanning.{replaced};
 ghost use Rattle.spg_scan.specs.Reading.{IsHeld};
-ghost use Rattle.spg_scan.specs.Parts.{IsPlaceAt, IsMainAt, is_where};
+ghost use Rattle.spg_scan.specs.Parts.{IsPlaceAt, HasPlace, IsMainAt, is_where};
 ghost use Rattle.spg_scan.specs.Copying.{kept_copy, IsCopyOf, IsCopying, IsCopyOut, IsPlaceOut};
 
 use crate::copying::{Copying, copy_chain, copy_inner, copy_page};
@@ -172,13 +172,37 @@ impl<O: OpClass> Scan<O> {
         ensures ok { IfOk result (λ out. IsPlaceOut O.meaning (sheets_of table.now) rows.now self.old self.new item out) }
         ensures err { OnErr result (self.new ≡ self.old) }
     {
-        if let Some(copying) = self.copy_place(table, rows, item, place)? {
-            let copied = self.keep(item, copying)?;
-            return Ok(ScanCopy::Sift(copied));
-        }
         let alloc = *self.rows.allocator();
-        self.read_at(alloc, None, table, rows, item, place)?;
-        Ok(ScanCopy::Read)
+        match self.copy_place(table, rows, item, place)? {
+            Some(copying) => Ok(ScanCopy::Sift(self.keep(item, copying)?)),
+            None => {
+                self.read_at(alloc, None, table, rows, item, place)?;
+                Ok(ScanCopy::Read)
+            }
+        }
+    }
+
+    /// Copies or reads an item that is a place.
+    fn copy_held(
+        &mut self,
+        table: &PageTable,
+        rows: &RowTable<O>,
+        item: usize,
+        seat: SeatNo,
+    ) -> Result<ScanCopy<O>, Memory>
+        requires shape { Shape O.meaning (sheets_of table.now) }
+        requires item { item < length self.old.items }
+        requires held { IsHeld O.meaning (sheets_of table.now) self.old item }
+        requires place { HasPlace self.old.items item }
+        ensures ok { IfOk result (λ out. IsCopyOut O.meaning table.now rows.now self.old self.new item seat out) }
+        ensures err { OnErr result (self.new ≡ self.old) }
+    {
+        let place = self.place_at(item);
+        let block = place.block;
+        match held_by_other(table, block, seat) {
+            Some(by) => Ok(ScanCopy::Latched { block, by }),
+            None => self.copy_at(table, rows, item, place),
+        }
     }
 
     /// Copies what an item leads to, so that the class can sift it apart from the index: an inner
@@ -202,14 +226,7 @@ impl<O: OpClass> Scan<O> {
     {
         match self.copy_of(item)? {
             Some(copied) => Ok(ScanCopy::Sift(copied)),
-            None => {
-                let place = self.place_at(item);
-                let block = place.block;
-                match held_by_other(table, block, seat) {
-                    Some(by) => Ok(ScanCopy::Latched { block, by }),
-                    None => self.copy_at(table, rows, item, place),
-                }
-            }
+            None => self.copy_held(table, rows, item, seat),
         }
     }
 }

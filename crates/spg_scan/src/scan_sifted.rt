@@ -11,7 +11,7 @@ use crate::pending::{Held, Pending, is_copy_of};
 use crate::scan::Scan;
 use crate::steps::put_in_place;
 use spg_base::{List, Memory, Place, Row, Same};
-use spg_opclass::{Copied, OpClass, Query, Sifted};
+use spg_opclass::{Copied, OpClass, Query, Sifted, sift};
 use std::alloc::Global;
 
 /// Why a copy that was sifted was not taken in.
@@ -42,17 +42,16 @@ fn link_of(links: &[Option<Place>], node: u16) -> Option<Place>
     }
 }
 
-/// Adds the place at a node of an inner tuple with its rebuilt value, where the downlink is not empty.
+/// Adds the place at a node that was kept, where its downlink is not empty.
 fn hold_child<O: OpClass>(
     links: &[Option<Place>],
-    node: u16,
-    recon: &O::Recon,
+    kept: &(u16, O::Recon),
     children: &mut Vec<Pending<O>>,
 ) -> Result<(), Memory>
-    ensures { OnOk result (map item_of children.new.items ≡ map item_of children.old.items ++ hold_all (linked links.now ((node, recon.now) ∷ []))) }
+    ensures { OnOk result (map item_of children.new.items ≡ map item_of children.old.items ++ hold_all (linked links.now (kept.now ∷ []))) }
 {
-    if let Some(place) = link_of(links, node) {
-        let recon = Some(recon.copy()?);
+    if let Some(place) = link_of(links, kept.0) {
+        let recon = Some(kept.1.copy()?);
         children.push(Pending::Held(Held { place, recon }))?;
     }
     Ok(())
@@ -62,14 +61,14 @@ fn hold_child<O: OpClass>(
 fn children_at<O: OpClass>(
     alloc: Global,
     links: &[Option<Place>],
-    nodes: &List<(u16, O::Recon)>,
+    kept: &List<(u16, O::Recon)>,
 ) -> Result<Vec<Pending<O>>, Memory>
-    ensures { IfOk result (λ children. map item_of children.items ≡ hold_all (linked links.now nodes.now)) }
+    ensures { IfOk result (λ children. map item_of children.items ≡ hold_all (linked links.now kept.now)) }
 {
+    let nodes = kept.as_slice();
     let mut children = Vec::new(alloc);
-    for kept in nodes.as_slice() {
-        let (node, recon) = kept;
-        hold_child(links, *node, recon, &mut children)?;
+    for i in 0..nodes.len() {
+        hold_child(links, &nodes[i], &mut children)?;
     }
     Ok(children)
 }
@@ -101,7 +100,8 @@ impl<O: OpClass> Scan<O> {
     {
         let alloc = *self.rows.allocator();
         let children = children_at(alloc, links, nodes)?;
-        put_in_place(&mut self.items, item, children)
+        put_in_place(&mut self.items, item, children)?;
+        Ok(())
     }
 
     /// Goes on by a copy of an item.
@@ -114,6 +114,22 @@ impl<O: OpClass> Scan<O> {
             Copied::Inner { tuple, .. } => self.take_nodes(item, tuple.links(), sifted.nodes()),
             Copied::Leaves { .. } => self.take_rows(item, sifted.rows().as_slice()),
         }
+    }
+
+    /// Goes on by a copy of an item, which the class sifts first.
+    pub(crate) fn read_copy(
+        &mut self,
+        alloc: Global,
+        class: &O,
+        item: usize,
+        copied: Copied<O>,
+    ) -> Result<(), Memory>
+        requires { HasKept self.old item copied }
+        ensures ok { OnOk result (TakesIn O.meaning self.old self.new item copied) }
+        ensures err { OnErr result (self.new ≡ self.old) }
+    {
+        let sifted = sift(alloc, class, copied)?;
+        self.take_in(item, &sifted)
     }
 
     /// Ends an item of which these rows match.

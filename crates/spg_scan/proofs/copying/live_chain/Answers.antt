@@ -26,8 +26,8 @@ loop-leaf-preserved g c =
     let ls = leaves_of (map member_of ys) in
     let table = c.args.table.now in (
       omega (arith, c.loop-leaf.invariant.0, length-append ys (c.in-Some.leaf ∷ [])),
-      c.in_ok-copy_leaf.ensures.rows ∙ ap (λ z. z ++ rows_of (live_leaves table (l ∷ []))) c.loop-leaf.invariant.1.0 ∙ rows-more table ls (l ∷ []) ∙ ap (λ k. rows_of (live_leaves table k)) (sym (leaves_more ys c.in-Some.leaf)),
-      c.in_ok-copy_leaf.ensures.rests ∙ ap (λ z. z ++ rests_of (live_leaves table (l ∷ []))) c.loop-leaf.invariant.1.1 ∙ rests-more table ls (l ∷ []) ∙ ap (λ k. rests_of (live_leaves table k)) (sym (leaves_more ys c.in-Some.leaf)),
+      c.in_ok-copy_leaf.ensures.rows ∙ ap (λ z. z ++ rows_of (live_leaves table (l ∷ []))) c.loop-leaf.invariant.1 ∙ rows-more table ls (l ∷ []) ∙ ap (λ k. rows_of (live_leaves table k)) (sym (leaves_more ys c.in-Some.leaf)),
+      c.in_ok-copy_leaf.ensures.rests ∙ ap (λ z. z ++ rests_of (live_leaves table (l ∷ []))) c.loop-leaf.invariant.2 ∙ rests-more table ls (l ∷ []) ∙ ap (λ k. rests_of (live_leaves table k)) (sym (leaves_more ys c.in-Some.leaf)),
     )
 
 pub returns-clause-met : goal.returns-clause-met

@@ -4,8 +4,8 @@ use Rattle.spg_scan.specs.Items.{held}
 use Rattle.spg_scan.proofs.Replacing.{no_place}
 use Rattle.spg_scan.proofs.steps.recon_of.Goals as goal
 
-pub returns-in-Held : goal.returns-in-Held
-returns-in-Held g c = λ x r e.
+pub returns : goal.returns
+returns g c = λ x r e.
     let h = c.in-Held.held in
     let f : held h.place h.recon ≡ held x r = sym (ap item_of c.in-Held.is) ∙ e in
     cc f
