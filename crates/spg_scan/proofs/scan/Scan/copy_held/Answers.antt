@@ -2,6 +2,7 @@ use Rattle.std.proofs.Common.{◌≡◌, Option, refl, sym, ap, ◌∙◌}
 use Rattle.std.proofs.lemmas.Result.{IfOk-weaker}
 use Rattle.spg_forest.specs.View.{Place}
 use Rattle.spg_tree.specs.Table.{sheets_of, latch_at}
+use Rattle.spg_scan.specs.Reading.{IsFreeFor}
 use Rattle.spg_scan.specs.Copying.{IsPlaceOut, IsCopyOut}
 use Rattle.spg_scan.proofs.Readings.{page_there, other_some, other_none}
 use Rattle.spg_scan.proofs.Outcomes.{place_same, place_out}
@@ -23,6 +24,6 @@ returns-in-None-clause-ok g c =
     let t = c.args.table.now in
     let now = c.args.self.now in
     let new = c.copy_at.new.self in
-    let free = λ x r by a e. other_none c.args.seat by (latch_at t place.block) (sym c.held_by_other.ensures ∙ c.in-None.is) (ap (λ (y : Place). latch_at t y.block) (sym (place_same now c.args.item place c.place_at-place.ensures x r a)) ∙ e) in
+    let free : IsFreeFor t now c.args.item c.args.seat = λ x r by a e. other_none c.args.seat by (latch_at t place.block) (sym c.held_by_other.ensures ∙ c.in-None.is) (ap (λ (y : Place). latch_at t y.block) (sym (place_same now c.args.item place c.place_at-place.ensures x r a)) ∙ e) in
     IfOk-weaker c.copy_at.result (λ out. IsPlaceOut g.O.OpClass.meaning (sheets_of t) c.args.rows.now now new c.args.item out) (λ out. IsCopyOut g.O.OpClass.meaning t c.args.rows.now now new c.args.item c.args.seat out)
     (λ out h. place_out now c.args.item g.O.OpClass.meaning t c.args.rows.now new c.args.seat free out h) c.copy_at.ensures.ok
