@@ -142,9 +142,9 @@ module _ {O Key Recon Cond : Type 0} (m : Meaning Key Recon Cond) (s s2 : Scanni
   takes_inner law at conds (item, there, copy) is asked after =
       let (same, ec) = inner_item s.query item at conds copy in
       let nodes : m.kept at.recon at.tuple conds ≡ followed m s.query (Some at.recon) at.tuple at.links =
-          ap (λ (z : List Cond). m.kept at.recon at.tuple z) ec ∙ kept_followed m law s.query at.recon at.tuple at.links is.recon is.tuple is.each in
+      ap (λ (z : List Cond). m.kept at.recon at.tuple z) ec ∙ kept_followed m law s.query at.recon at.tuple at.links is.recon is.tuple is.each in
       let kids : hold_all (linked at.links (kept_at m at conds)) ≡ hold_all (followed_at m s.query (Some at.recon) at.tuple at.links) =
-          ap hold_all (linked_kept m at.recon at.tuple at.links (m.kept at.recon at.tuple conds) ∙ ap (children_at (down_of m) (Some at.recon) at.tuple at.links) nodes) in
+      ap hold_all (linked_kept m at.recon at.tuple at.links (m.kept at.recon at.tuple conds) ∙ ap (children_at (down_of m) (Some at.recon) at.tuple at.links) nodes) in
       record {
         item = inner (Some at.recon) at.tuple at.links;
         items = hold_all (followed_at m s.query (Some at.recon) at.tuple at.links);
@@ -159,8 +159,8 @@ module _ {O Key Recon Cond : Type 0} (m : Meaning Key Recon Cond) (s s2 : Scanni
   takes_leaves at conds (item, there, copy) after =
       let (ls, same, er, et, ec) = leaves_item s.query item at conds copy in
       let found : rows_asked s.query (matching_at m at conds) ≡ asked_rows m s.query (Some at.recon) ls =
-          ap (λ (z : List RowAt). rows_asked s.query (matching m at.recon conds z at.rests)) er ∙ ap (λ (z : List (List ℕ)). rows_asked s.query (matching m at.recon conds (rows_of ls) z)) et
-          ∙ ap (λ (z : List Cond). rows_asked s.query (matching m at.recon z (rows_of ls) (rests_of ls))) ec ∙ matching_asked m at.recon s.query ls in
+      ap (λ (z : List RowAt). rows_asked s.query (matching m at.recon conds z at.rests)) er ∙ ap (λ (z : List (List ℕ)). rows_asked s.query (matching m at.recon conds (rows_of ls) z)) et
+      ∙ ap (λ (z : List Cond). rows_asked s.query (matching m at.recon z (rows_of ls) (rests_of ls))) ec ∙ matching_asked m at.recon s.query ls in
       record {
         item = leaves (Some at.recon) ls;
         items = [];

@@ -111,11 +111,7 @@ fn live_chain<O: OpClass>(
 }
 
 /// The live leaves of a root leaf page.
-fn live_page<O: OpClass>(
-    alloc: Global,
-    table: &RowTable<O>,
-    page: &Page,
-) -> Result<Live, Memory>
+fn live_page<O: OpClass>(alloc: Global, table: &RowTable<O>, page: &Page) -> Result<Live, Memory>
     requires { AreLive page.now.tuples }
     ensures rows { IfOk result (λ live. live.rows ≡ rows_of (live_leaves table.now (leaves_on page.now.tuples))) }
     ensures rests { IfOk result (λ live. live.rests ≡ rests_of (live_leaves table.now (leaves_on page.now.tuples))) }

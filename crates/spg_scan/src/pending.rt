@@ -74,11 +74,7 @@ pub(crate) fn hand_out<O: OpClass>(
 }
 
 /// Whether a copy that was handed out is this one.
-pub(crate) fn is_copy_of<O: OpClass>(
-    query: &Query<O>,
-    kept: &Kept<O>,
-    copied: &Copied<O>,
-) -> bool
+pub(crate) fn is_copy_of<O: OpClass>(query: &Query<O>, kept: &Kept<O>, copied: &Copied<O>) -> bool
     ensures { IsTrue result ↔ (kept_copy query.now (kept_as kept.now) ≡ Just copied.now) }
 {
     match (kept, copied) {

@@ -25,10 +25,7 @@ pub enum ScanCopy<O: OpClass> {
     /// It read the item, of which the class is not asked.
     Read,
     /// Another seat holds its block, and nothing changed.
-    Latched {
-        block: Block,
-        by: SeatNo,
-    },
+    Latched { block: Block, by: SeatNo },
     /// The item is being sifted, and this is its copy.
     Sift(Copied<O>),
 }

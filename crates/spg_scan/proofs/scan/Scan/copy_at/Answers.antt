@@ -15,6 +15,8 @@ returns-in_ok-keep-in-Some-clause-ok g c =
     (subst (λ z. IsCopying (sheets_of c.args.table.now) c.args.rows.now c.args.self.now c.args.item z) c.in-Some.is c.in_ok-copying.ensures) c.in_ok-keep-in-Some.ensures.after c.in_ok-keep-in-Some.ensures.ok
 
 pub returns-in_ok-read_at-in-None-clause-ok : goal.returns-in_ok-read_at-in-None-clause-ok
-returns-in_ok-read_at-in-None-clause-ok g c =
-    (plain c.args.self.now c.args.item g.O.OpClass.meaning (sheets_of c.args.table.now) c.args.rows.now c.read_at.new.self c.args.place c.requires.place
-    (subst (λ z. IsCopying (sheets_of c.args.table.now) c.args.rows.now c.args.self.now c.args.item z) c.in-None.is c.in_ok-copying.ensures), c.in_ok-read_at-in-None.ensures.ok)
+returns-in_ok-read_at-in-None-clause-ok g c = (
+  plain c.args.self.now c.args.item g.O.OpClass.meaning (sheets_of c.args.table.now) c.args.rows.now c.read_at.new.self c.args.place c.requires.place
+      (subst (λ z. IsCopying (sheets_of c.args.table.now) c.args.rows.now c.args.self.now c.args.item z) c.in-None.is c.in_ok-copying.ensures),
+  c.in_ok-read_at-in-None.ensures.ok,
+)
