@@ -1,5 +1,5 @@
 -- The live leaves that a scan copies, one leaf after another.
-use Rattle.std.proofs.Common.{◌≡◌, ℕ, Bool, true, false, cond, List, [], ◌∷◌, ◌++◌, length, map, get_or, All, IsSome, Option, Some, None, option_map, refl, sym, ap, ap₂, ◌∙◌, subst, suc, arith}
+use Rattle.std.proofs.Common.{◌≡◌, ℕ, Bool, true, false, cond, List, [], ◌∷◌, ◌++◌, length, get_or, IsSome, Option, Some, None, option_map, refl, sym, ap, ap₂, ◌∙◌, subst, suc, arith}
 use Rattle.std.proofs.lemmas.List.{map-append, length-map}
 use Rattle.std.proofs.lemmas.List.Elements.{All-nil, All-cons}
 use Rattle.spg_base.specs.Row.{RowAt}
@@ -7,7 +7,7 @@ use Rattle.spg_opclass.specs.Meaning.{Meaning}
 use Rattle.spg_opclass.specs.Copies.{AreKeys}
 use Rattle.spg_forest.specs.View.{Place, Leaf}
 use Rattle.spg_rows.specs.Table as rows
-use Rattle.spg_scan.specs.Items.{Item, hold_all, leaves, rows_of}
+use Rattle.spg_scan.specs.Items.{hold_all, leaves, rows_of}
 use Rattle.spg_scan.specs.Held.{leaves_with}
 use Rattle.spg_scan.specs.Scanning.{is_live}
 use Rattle.spg_scan.specs.Reading.{live_leaves}

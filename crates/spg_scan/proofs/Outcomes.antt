@@ -1,5 +1,5 @@
 -- What comes of an item that is copied, read, or gone on by.
-use Rattle.std.proofs.Common.{◌≡◌, ◌⊎◌, inl, inr, ℕ, true, false, List, [], ◌∷◌, Option, Some, None, refl, sym, ap, ◌∙◌}
+use Rattle.std.proofs.Common.{◌≡◌, inr, ℕ, true, [], ◌∷◌, Option, Some, None, sym, ap, ◌∙◌}
 use Rattle.std.proofs.lemmas.Bool.{false≢true}
 use Rattle.spg_opclass.specs.Meaning.{Meaning}
 use Rattle.spg_opclass.specs.declared.copied.Copied.{Copied}
@@ -15,8 +15,8 @@ use Rattle.spg_scan.specs.declared.scan_copy.ScanCopy.TheVariants.{Read, Latched
 use Rattle.spg_scan.specs.Items.{Item, held, IsItem}
 use Rattle.spg_scan.specs.Held.{kept_as}
 use Rattle.spg_scan.specs.Scanning.{Scanning, replaced}
-use Rattle.spg_scan.specs.Reading.{Reads, IsFreeFor}
-use Rattle.spg_scan.specs.Parts.{IsPlaceAt, IsMainAt}
+use Rattle.spg_scan.specs.Reading.{IsFreeFor}
+use Rattle.spg_scan.specs.Parts.{IsPlaceAt}
 use Rattle.spg_scan.specs.Copying.{is_copied, kept_copy, HasKept, IsCopying, Copies, IsPlain, IsPlaceOut, IsCopyOut}
 
 -- what is kept is no place

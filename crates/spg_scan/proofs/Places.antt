@@ -1,17 +1,15 @@
 -- What is copied of what stands at a place.
-use Rattle.std.proofs.Common.{◌≡◌, ℕ, ◌<◌, ◌≤◌, ⊎_elim, Bool, true, false, List, [], ◌∷◌, Option, Some, None, IsSome, length, nat_eq, refl, sym, ap, ◌∙◌, arith, subst}
+use Rattle.std.proofs.Common.{◌≡◌, ℕ, ◌<◌, ◌≤◌, ⊎_elim, true, false, List, [], ◌∷◌, Option, Some, None, IsSome, length, refl, sym, ap, ◌∙◌, arith, subst}
 use Rattle.std.proofs.lemmas.Bool.{eq-eqb, ne_eqb}
 use Rattle.spg_opclass.specs.Meaning.{Meaning}
-use Rattle.spg_opclass.specs.Laws.{CodeLaw}
 use Rattle.spg_opclass.specs.declared.query.Query.{Query}
 use Rattle.spg_opclass.specs.declared.query.Query.TheVariants.{All, Null, Where}
 use Rattle.spg_forest.specs.View.{Place, Leaf}
-use Rattle.spg_forest.specs.Spot.{Frame, Spot, Branch, Bucket, Forward, Nothing}
+use Rattle.spg_forest.specs.Spot.{Frame, Spot, Branch, Bucket, Forward}
 use Rattle.spg_forest.specs.Sheets.{Sheet, Sheets, sheet_at, links}
 use Rattle.spg_forest.specs.Shape.{Shape, spots}
 use Rattle.spg_forest.specs.Pages.{tuple_on}
 use Rattle.spg_forest.specs.Links.{leaves_on}
-use Rattle.spg_forest.specs.Walk.{met_at}
 use Rattle.spg_page.specs.Kinds.{IsLive, IsInner, IsRedirect, kind_of}
 use Rattle.spg_page.specs.declared.tuple.TupleKind.TheVariants as kinds
 use Rattle.spg_page.specs.Reads.{frame_in, target_in}
@@ -22,7 +20,7 @@ use Rattle.spg_scan.specs.Scanning.{Scanning, CanFollow}
 use Rattle.spg_scan.specs.Reading.{IsHeld, CopiesSpot, live_leaves, met_with}
 use Rattle.spg_scan.specs.Parts.{starts_inner, is_where, HaveKeys, IsPlaceAt, IsMainAt}
 use Rattle.spg_scan.specs.Copying.{is_copied}
-use Rattle.spg_scan.proofs.Readings.{met_some, met_root, dead_is, spot_is, at_inner, at_chain, root_spot_is, root_branch, root_bucket, root_offset, at, inner_known, chain_keys, root_known, root_keys, place_there}
+use Rattle.spg_scan.proofs.Readings.{met_some, met_root, dead_is, spot_is, at_inner, at_chain, root_spot_is, root_branch, root_bucket, root_offset, at, place_there}
 use Rattle.spg_scan.proofs.Stands.{place_cases, dead_spot, forward_spot}
 
 -- ---- which spots are copied

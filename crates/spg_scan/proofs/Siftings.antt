@@ -1,10 +1,10 @@
 -- What a sifted copy gives is what a read of the copy gives.
-use Rattle.std.proofs.Common.{◌≡◌, ℕ, Bool, true, false, cond, List, [], ◌∷◌, length, map, get_or, Option, Some, None, option_map, All as Each, refl, sym, ap, ap₂, ◌∙◌, arith, subst}
+use Rattle.std.proofs.Common.{◌≡◌, ℕ, Bool, true, false, cond, List, [], ◌∷◌, length, map, get_or, Option, Some, None, option_map, All as Each, refl, sym, ap, ◌∙◌, arith, subst}
 use Rattle.std.specs.Prelude.{◌↔◌}
 use Rattle.spg_base.specs.Row.{RowAt}
 use Rattle.spg_opclass.specs.Meaning.{Meaning, is_tuple, matches_rebuilt, all_hold}
 use Rattle.spg_opclass.specs.Laws.{KeptLaw}
-use Rattle.spg_opclass.specs.Copies.{InnerAt, LeavesAt, IsInnerAt, IsLeavesAt, matching, kept_at, matching_at}
+use Rattle.spg_opclass.specs.Copies.{InnerAt, LeavesAt, IsInnerAt, matching, kept_at, matching_at}
 use Rattle.spg_opclass.specs.Sifting.{nodes_of, rows_of as sifted_rows, AreAsked}
 use Rattle.spg_opclass.specs.declared.copied.Copied.{Copied}
 use Rattle.spg_opclass.specs.declared.copied.Copied.TheVariants.{Inner, Leaves}
@@ -20,8 +20,8 @@ use Rattle.spg_scan.specs.declared.pending.Kept.{Kept}
 use Rattle.spg_scan.specs.declared.pending.Kept.TheVariants as kept
 use Rattle.spg_scan.specs.Held.{leaves_with, kept_as}
 use Rattle.spg_scan.specs.Items.{Item, held, inner, leaves, IsItem, hold_all, rows_of}
-use Rattle.spg_scan.specs.Scanning.{Scanning, IsAskedAt, CanFollow, asks_for, replaced}
-use Rattle.spg_scan.specs.Reading.{asked_rows, followed_at, ReadsItem, Reads, met_of}
+use Rattle.spg_scan.specs.Scanning.{Scanning, IsAskedAt, asks_for, replaced}
+use Rattle.spg_scan.specs.Reading.{asked_rows, followed_at, Reads, met_of}
 use Rattle.spg_scan.specs.Parts.{linked, rows_asked}
 use Rattle.spg_scan.specs.Copying.{rests_of, conds_of, kept_copy, HasKept, TakesIn}
 use Rattle.spg_scan.proofs.EachNode.{kept_all}

@@ -7,7 +7,7 @@ use Rattle.spg_opclass.specs.declared.copied.Copied.TheVariants.{Inner, Leaves}
 use Rattle.spg_opclass.specs.declared.query.Query.{Query}
 use Rattle.spg_opclass.specs.declared.query.Query.TheVariants.{All, Null, Where}
 use Rattle.spg_forest.specs.View.{Place, Leaf}
-use Rattle.spg_forest.specs.Spot.{Spot, Branch, Bucket, Forward, Nothing}
+use Rattle.spg_forest.specs.Spot.{Spot, Branch, Bucket}
 use Rattle.spg_forest.specs.Sheets.{Sheets}
 use Rattle.spg_forest.specs.Shape.{spots}
 use Rattle.spg_rows.specs.Table as rows

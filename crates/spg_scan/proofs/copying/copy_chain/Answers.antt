@@ -1,4 +1,4 @@
-use Rattle.std.proofs.Common.{◌≡◌, ◌∙◌, Some, ap}
+use Rattle.std.proofs.Common.{◌≡◌, ◌∙◌, Some}
 use Rattle.std.proofs.lemmas.Result.{IfOk-weaker}
 use Rattle.spg_chain.specs.Chains.{chain_members, leaves_of}
 use Rattle.spg_scan.specs.Held.{kept_as, leaves_with}

@@ -1,6 +1,6 @@
 use Rattle.std.proofs.Common.{◌∙◌, sym, ap, subst}
 use Rattle.spg_scan.specs.Held.{item_of, kept_as}
-use Rattle.spg_scan.specs.Items.{Item, IsItem}
+use Rattle.spg_scan.specs.Items.{IsItem}
 use Rattle.spg_scan.specs.Copying.{kept_copy}
 use Rattle.spg_scan.proofs.Replacing.{item_here}
 use Rattle.spg_scan.proofs.scan.Scan.copy_of.Goals as goal

@@ -1,4 +1,4 @@
-use Rattle.std.proofs.Common.{◌≡◌, ◌∙◌, sym}
+use Rattle.std.proofs.Common.{◌∙◌, sym}
 use Rattle.spg_tree.specs.Table.{sheets_of}
 use Rattle.spg_scan.specs.Items.{held}
 use Rattle.spg_scan.proofs.Replacing.{item_at}

@@ -6,7 +6,7 @@ use Rattle.spg_page.specs.Reads.{frame_in}
 use Rattle.spg_tree.specs.Table.{sheets_of}
 use Rattle.spg_scan.specs.Held.{kept_as}
 use Rattle.spg_scan.specs.Parts.{is_where}
-use Rattle.spg_scan.proofs.Readings.{page_there, root_known, root_live, root_keys}
+use Rattle.spg_scan.proofs.Readings.{root_known, root_live, root_keys}
 use Rattle.spg_scan.proofs.Places.{main_follows, main_keys, makes_root_inner, makes_root_leaves, plain_root}
 use Rattle.spg_scan.proofs.scan.Scan.copy_root.Goals as goal
 

@@ -1,10 +1,10 @@
-use Rattle.std.proofs.Common.{◌≡◌, ◌∙◌, ◌<◌, Some, sym, ap, subst, length, arith}
+use Rattle.std.proofs.Common.{◌≡◌, ◌∙◌, ◌<◌, sym, ap, subst, length, arith}
 use Rattle.std.proofs.lemmas.List.{length-map}
 use Rattle.std.proofs.lemmas.Bool.{false≢true}
 use Rattle.spg_scan.specs.Held.{item_of, kept_as}
-use Rattle.spg_scan.specs.Items.{Item, IsItem}
+use Rattle.spg_scan.specs.Items.{IsItem}
 use Rattle.spg_scan.specs.Copying.{kept_copy}
-use Rattle.spg_scan.proofs.Replacing.{item_at, item_here, within_item}
+use Rattle.spg_scan.proofs.Replacing.{item_at, item_here}
 use Rattle.spg_scan.proofs.Outcomes.{no_copy}
 use Rattle.spg_scan.proofs.scan.Scan.has_copy.Goals as goal
 

@@ -1,4 +1,4 @@
-use Rattle.std.proofs.Common.{◌∙◌, ap, subst}
+use Rattle.std.proofs.Common.{ap, subst}
 use Rattle.spg_scan.specs.Held.{item_of}
 use Rattle.spg_scan.specs.Items.{Item, held, IsItem}
 use Rattle.spg_scan.proofs.Replacing.{item_at, item_here, no_place}

@@ -1,10 +1,8 @@
-use Rattle.std.proofs.Common.{◌≡◌, Option, refl, sym, ap, ◌∙◌}
-use Rattle.std.proofs.lemmas.Result.{IfOk-weaker}
+use Rattle.std.proofs.Common.{refl, sym, ap, ◌∙◌}
 use Rattle.spg_forest.specs.View.{Place}
 use Rattle.spg_tree.specs.Table.{sheets_of, latch_at}
-use Rattle.spg_scan.specs.Copying.{IsPlaceOut, IsCopyOut}
 use Rattle.spg_scan.proofs.Readings.{page_there, other_some, other_none}
-use Rattle.spg_scan.proofs.Outcomes.{place_same, place_out}
+use Rattle.spg_scan.proofs.Outcomes.{place_same}
 use Rattle.spg_scan.proofs.scan.Scan.read_held.Goals as goal
 
 pub held_by_other-requires : goal.held_by_other-requires
