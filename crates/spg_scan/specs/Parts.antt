@@ -1,6 +1,9 @@
 -- Words of the parts of a read.
-use Rattle.std.specs.Prelude.{◌≡◌, ℕ, Bool, true, false, List, [], ◌∷◌, Option, Some, None, IsSome, All, nat_eq, if◌then◌else◌}
+use Rattle.std.specs.Prelude.{◌≡◌, ℕ, Bool, true, false, List, [], ◌∷◌, Option, Some, None, IsSome, All as Each, get_or, nat_eq, if◌then◌else◌}
+use Rattle.spg_base.specs.Row.{RowAt}
 use Rattle.spg_opclass.specs.Meaning.{Meaning}
+use Rattle.spg_opclass.specs.declared.query.Query.{Query}
+use Rattle.spg_opclass.specs.declared.query.Query.TheVariants.{All, Null, Where}
 use Rattle.spg_forest.specs.View.{Place, Leaf}
 use Rattle.spg_forest.specs.Spot.{Branch}
 use Rattle.spg_forest.specs.Classes.{key_of}
@@ -11,13 +14,13 @@ use Rattle.spg_forest.specs.Walk.{met_at}
 use Rattle.spg_page.specs.Kinds.{IsOffset, IsLive}
 use Rattle.spg_page.specs.Reads.{frame_in}
 use Rattle.spg_rows.specs.Table as rows
-use Rattle.spg_scan.specs.Items.{Item, held, IsItem, hold_all}
+use Rattle.spg_scan.specs.Items.{Item, held, inner, leaves, IsItem, hold_all}
 use Rattle.spg_scan.specs.Scanning.{Scanning, IsAskedAt, taken_of, replaced}
 use Rattle.spg_scan.specs.Reading.{followed_at}
 
 -- each leaf has a key with this rebuilt value
 abbrev pub HaveKeys : {Key Recon Cond : Type 0} → Meaning Key Recon Cond → Option Recon → List Leaf → Type 0
-HaveKeys m r ls = All (λ (l : Leaf). IsSome (key_of m r l.rest)) ls
+HaveKeys m r ls = Each (λ (l : Leaf). IsSome (key_of m r l.rest)) ls
 
 -- only live leaf tuples stand on the page
 abbrev pub AreLive : List Tuple → Type 0
@@ -51,3 +54,34 @@ starts_inner (Placeholder ∷ ts) = false
 abbrev pub other_than : ℕ → Option ℕ → Option ℕ
 other_than seat None = None
 other_than seat (Some by) = if nat_eq by seat then None else Some by
+
+-- the query has conditions
+abbrev pub is_where : {O Key Recon Cond : Type 0} → Query O Key Recon Cond → Bool
+is_where All = false
+is_where Null = false
+is_where (Where conds) = true
+
+-- item i is a place
+abbrev pub HasPlace : {Recon : Type 0} → List (Item Recon) → ℕ → Type 0
+HasPlace items i = (x : Place) × IsPlaceAt items i x
+
+-- item i, where it is a place, is one of the main tree and has this rebuilt value
+abbrev pub IsMainAt : {Recon : Type 0} → List (Item Recon) → ℕ → Recon → Type 0
+IsMainAt {Recon} items i recon = (x : Place) (r : Option Recon) → IsItem items i (held x r) → r ≡ Some recon
+
+-- the item with another place, where it is one
+abbrev pub sent_on : {Recon : Type 0} → Place → Item Recon → Item Recon
+sent_on y (held x r) = held y r
+sent_on y (inner q w ns) = inner q w ns
+sent_on y (leaves q ls) = leaves q ls
+
+-- the places to which these nodes lead, each with its rebuilt value, but for empty downlinks
+abbrev pub linked : {Recon : Type 0} → List (Option Place) → List (ℕ × Recon) → List (Place × Option Recon)
+linked ns [] = []
+linked ns (n ∷ nodes) = elim (get_or ns n.0 None) [ None ↦ linked ns nodes | Some y ↦ (y, Some n.1) ∷ linked ns nodes ]
+
+-- of the rows that match a copy those that the query asks for: for nulls none of the main tree
+abbrev pub rows_asked : {O Key Recon Cond : Type 0} → Query O Key Recon Cond → List RowAt → List RowAt
+rows_asked All rs = rs
+rows_asked Null rs = []
+rows_asked (Where conds) rs = rs

@@ -1,7 +1,9 @@
 // A scan is a walk.
-ghost use Rattle.std.specs.Prelude.{◌≡◌, ◌<◌, length};
-ghost use Rattle.spg_tree.specs.Table.{latch_at};
-ghost use Rattle.spg_scan.specs.Parts.{other_than};
+ghost use Rattle.std.specs.Prelude.{◌≡◌, ◌<◌, length, IfOk, OnErr};
+ghost use Rattle.spg_forest.specs.Shape.{Shape};
+ghost use Rattle.spg_tree.specs.Table.{latch_at, sheets_of};
+ghost use Rattle.spg_scan.specs.Reading.{IsHeld, IsReadOut};
+ghost use Rattle.spg_scan.specs.Parts.{HasPlace, other_than};
 
 use crate::scan::Scan;
 use crate::walk::{Closed, ReadOut, Walk};
@@ -12,13 +14,43 @@ use spg_tree::PageTable;
 use std::alloc::Global;
 
 /// The seat that holds a block, where it is another than this one.
-fn held_by_other(table: &PageTable, block: Block, seat: SeatNo) -> Option<SeatNo>
+pub(crate) fn held_by_other(table: &PageTable, block: Block, seat: SeatNo) -> Option<SeatNo>
     requires { block < length table.now.pages }
     ensures { result ≡ other_than seat (latch_at table.now block) }
 {
     match table.latch_of(block) {
         Some(by) if by != seat => Some(by),
         _ => None,
+    }
+}
+
+impl<O: OpClass> Scan<O> {
+    /// Reads an item that is a place.
+    fn read_held(
+        &mut self,
+        alloc: Global,
+        class: &O,
+        table: &PageTable,
+        rows: &RowTable<O>,
+        item: usize,
+        seat: SeatNo,
+    ) -> Result<ReadOut, Memory>
+        requires shape { Shape O.meaning (sheets_of table.now) }
+        requires item { item < length self.old.items }
+        requires held { IsHeld O.meaning (sheets_of table.now) self.old item }
+        requires place { HasPlace self.old.items item }
+        ensures ok { IfOk result (λ out. IsReadOut O.meaning table.now rows.now self.old self.new item seat out) }
+        ensures err { OnErr result (self.new ≡ self.old) }
+    {
+        let place = self.place_at(item);
+        let block = place.block;
+        match held_by_other(table, block, seat) {
+            Some(by) => Ok(ReadOut::Latched { block, by }),
+            None => {
+                self.read_at(alloc, Some(*class), table, rows, item, place)?;
+                Ok(ReadOut::Read)
+            }
+        }
     }
 }
 
@@ -38,14 +70,12 @@ impl<O: OpClass> Walk<O> for Scan<O> {
         item: usize,
         seat: SeatNo,
     ) -> Result<ReadOut, Memory> {
-        let place = self.items[item].place;
-        let block = place.block;
-        match held_by_other(table, block, seat) {
-            Some(by) => Ok(ReadOut::Latched { block, by }),
-            None => {
-                self.read_at(alloc, class, table, rows, item, place)?;
+        match self.copy_of(item)? {
+            Some(copied) => {
+                self.read_copy(alloc, class, item, copied)?;
                 Ok(ReadOut::Read)
             }
+            None => self.read_held(alloc, class, table, rows, item, seat),
         }
     }
 

@@ -58,3 +58,6 @@ returns-in_err-reserve-clause-err g c =
     let s = c.self.inside in
     let e = ap (λ j. seen_as j (map stage_of s.slots.items) s.table s.origin) c.reserve.ensures.events ∙ c.self.view_is in
     on_err c.from_residual-in_err-reserve.result e
+
+pub set_slot-requires : goal.set_slot-requires
+set_slot-requires g c = seats g.O.OpClass.meaning c.self.inside c.self.invariant
