@@ -23,8 +23,8 @@ use Rattle.spg_descend.specs.Follows.{tuple_place}
 use Rattle.spg_descend.specs.Answers.{IsAnswered}
 use Rattle.spg_descend.specs.Makes.{MakesOne}
 use Rattle.spg_seats.specs.Descending.{HasInnerRoot, Stands}
-use Rattle.spg_core.specs.declared.choose.Chosen.{Chosen}
-use Rattle.spg_core.specs.declared.choose.Chosen.TheVariants.{Node, Add, Split}
+use Rattle.spg_core.specs.declared.choose.InnerStep.{InnerStep}
+use Rattle.spg_core.specs.declared.choose.InnerStep.TheVariants.{Node, Add, Split}
 use Rattle.spg_core.specs.declared.answer.InsertOut.{InsertOut}
 use Rattle.spg_core.specs.declared.answer.InsertOut.TheVariants.{Descended, Restructured, Restarted, Put}
 
@@ -86,7 +86,7 @@ IsNamed m t d node rest by_turn =
     ((d.recon ≡ None) × (node ≡ t.counter) × (rest ≡ []) × (by_turn ≡ true)) ⊎ ((answer : ℕ) × IsAnswered m t d (choice.Match answer rest) × (node ≡ named t.counter w answer) × (by_turn ≡ w.all_same))
 
 -- What an insert does at an inner tuple: it goes down a node that is there, below which it carries what it carried, by what the class answers, with the rebuilt value there; or the class asks for a node or a split
-abbrev pub IsChosen : {O Key Recon Cond : Type 0} → Meaning Key Recon Cond → Table → Descending Recon → Chosen O Key Recon Cond → Type 0
+abbrev pub IsChosen : {O Key Recon Cond : Type 0} → Meaning Key Recon Cond → Table → Descending Recon → InnerStep O Key Recon Cond → Type 0
 IsChosen {O} {Key} m t d (Node node rest by_turn below) =
     let x : Place = tuple_place d.stand in
     (node < length (links (tuple_at t x))) × IsRestOf m (in_nulls d) rest × ((key : Option Key) → IsCarried m (sheets_of t) d key → GoesBelow m d.recon (frame_in (tuple_at t x)) node rest key) × IsNamed m t d node rest by_turn

@@ -11,7 +11,7 @@ use std::alloc::Global;
 
 /// What an insert does at an inner tuple.
 #[derive(Drop)]
-pub(crate) enum Chosen<O: OpClass> {
+pub(crate) enum InnerStep<O: OpClass> {
     /// It goes down a node, with what is left of its rest there, and the rebuilt value below. The
     /// rotating counter may have named the node.
     Node {
@@ -49,7 +49,7 @@ fn choose_for<O: OpClass>(
     table: &PageTable,
     descent: &Descent<O>,
     recon: &O::Recon,
-) -> Result<Chosen<O>, Memory>
+) -> Result<InnerStep<O>, Memory>
     requires can { MayStep O.meaning table.now descent.now }
     requires inner { IsAtInner table.now descent.now.stand }
     requires recon { descent.now.recon ≡ Just recon.now }
@@ -63,20 +63,20 @@ fn choose_for<O: OpClass>(
             let node = named(table.counter(), &view, node);
             let by_turn = view.all_same;
             let below = class.down(alloc, recon, &view, node)?;
-            Ok(Chosen::Node {
+            Ok(InnerStep::Node {
                 node,
                 rest,
                 by_turn,
                 below: Some(below),
             })
         }
-        Choice::Add { at, label } => Ok(Chosen::Add { at, label }),
+        Choice::Add { at, label } => Ok(InnerStep::Add { at, label }),
         Choice::Split {
             upper_prefix,
             upper_labels,
             child,
             lower_prefix,
-        } => Ok(Chosen::Split {
+        } => Ok(InnerStep::Split {
             upper_prefix,
             upper_labels,
             child,
@@ -92,13 +92,13 @@ pub(crate) fn choose<O: OpClass>(
     class: &O,
     table: &PageTable,
     descent: &Descent<O>,
-) -> Result<Chosen<O>, Memory>
+) -> Result<InnerStep<O>, Memory>
     requires can { MayStep O.meaning table.now descent.now }
     requires inner { IsAtInner table.now descent.now.stand }
     ensures { IfOk result (λ chosen. IsChosen {O = O} O.meaning table.now descent.now chosen) }
 {
     match descent.recon() {
-        None => Ok(Chosen::Node {
+        None => Ok(InnerStep::Node {
             node: u16::from(table.counter()),
             rest: Bytes::new(alloc),
             by_turn: true,

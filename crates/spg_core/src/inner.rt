@@ -1,12 +1,12 @@
 ghost use Rattle.std.specs.Prelude.{IfOk};
 ghost use Rattle.spg_descend.specs.Follows.{IsAtInner};
-ghost use Rattle.spg_core.specs.declared.choose.Chosen.TheVariants.{Node, Add};
+ghost use Rattle.spg_core.specs.declared.choose.InnerStep.TheVariants.{Node, Add};
 ghost use Rattle.spg_core.specs.Stepping.{MayStep, IsChosen};
 ghost use Rattle.spg_core.specs.Telling.{Does};
 ghost use Rattle.spg_core.specs.Refusing.{Refuses};
 
 use crate::answer::InsertOut;
-use crate::choose::{Chosen, choose};
+use crate::choose::{InnerStep, choose};
 use spg_base::{Bytes, SeatNo};
 use spg_descend::{Entered, follow};
 use spg_move::{add_node, split_tuple};
@@ -65,7 +65,7 @@ fn apply<O: OpClass>(
     table: &mut PageTable,
     descent: &mut Descent<O>,
     seat: SeatNo,
-    chosen: Chosen<O>,
+    chosen: InnerStep<O>,
 ) -> Result<InsertOut, StepRefused>
     requires can { MayStep O.meaning table.old descent.old }
     requires inner { IsAtInner table.old descent.old.stand }
@@ -74,14 +74,14 @@ fn apply<O: OpClass>(
     ensures refused { Refuses O.meaning table.old table.new descent.old descent.new seat result }
 {
     match chosen {
-        Chosen::Node {
+        InnerStep::Node {
             node,
             rest,
             by_turn,
             below,
         } => Ok(go_down(table, descent, seat, node, rest, by_turn, below)),
-        Chosen::Add { at, label } => widen(alloc, table, descent, seat, at, label),
-        Chosen::Split {
+        InnerStep::Add { at, label } => widen(alloc, table, descent, seat, at, label),
+        InnerStep::Split {
             upper_prefix,
             upper_labels,
             child,
