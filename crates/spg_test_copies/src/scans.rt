@@ -1,9 +1,8 @@
 use crate::makes::{inner_of, leaves_of, rests_of};
-use spg_base::{Block, List, Memory, Offset, Place, Point, PointCond, Row, Rows, Same, Stamp};
-use spg_opclass::{Copied, InnerCopy, LeavesCopy, OpClass, Query, Sifted, sift};
+use spg_base::{Block, List, Memory, Offset, Place, Point, PointCond, Row, Rows, Same};
+use spg_opclass::{Copied, InnerCopy, LeavesCopy, Sifted, sift};
 use spg_points::{encode, zero_labels};
 use spg_quad::{Quad, QuadRecon};
-use spg_scan::{Scan, SiftRefused};
 use std::alloc::Global;
 use std::test::Fail;
 
@@ -100,33 +99,6 @@ fn rows_of_leaves_are_sifted(rt: HostRuntime) -> Result<(), Fail> {
             assert_eq!(rt; sifted.rows().len(), 1);
             assert!(rt; sifted.rows().get(0) == Some(&Row::at(1, 2)));
             assert!(rt; sifted.nodes().is_empty() && sifted.copied().same(&again));
-        }
-        None => assert!(rt; false),
-    }
-    Ok(())
-}
-
-/// Whether a scan refuses a sifted copy for an item.
-fn is_changed(scan: &mut Scan<Quad>, item: usize, sifted: &Sifted<Quad>) -> bool {
-    match scan.take_sifted(item, sifted) {
-        Err(SiftRefused::Changed) => true,
-        Ok(()) | Err(SiftRefused::Memory) => false,
-    }
-}
-
-#[test]
-fn a_scan_refuses_what_it_did_not_copy(rt: HostRuntime) -> Result<(), Fail> {
-    let alloc = rt.alloc();
-    let start = Quad.start(alloc)?;
-    let mut scan = Scan::open(alloc, Query::All, start, 0, Stamp::at(0))?;
-    match inner(alloc)? {
-        Some(tuple) => {
-            let conds = List::new(alloc);
-            let sifted = sift(alloc, &Quad, Copied::Inner { tuple, conds })?;
-            for item in 0..3usize {
-                assert!(rt; is_changed(&mut scan, item, &sifted));
-            }
-            assert_eq!(rt; scan.found(), 0);
         }
         None => assert!(rt; false),
     }
