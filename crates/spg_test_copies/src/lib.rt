@@ -2,6 +2,8 @@
 #![tactic(auto)]
 
 #[cfg(test)]
+mod copied_scans;
+#[cfg(test)]
 mod inserts;
 #[cfg(test)]
 mod makes;

@@ -2,7 +2,7 @@
 ghost use Rattle.std.specs.Prelude.{◌≡◌, ◌<◌, true, length, IsTrue};
 ghost use Rattle.spg_opclass.specs.Copies.{AreKeys};
 
-use spg_base::{Bytes, Labels, List, Memory, Place, Point, Rows};
+use spg_base::{Bytes, Labels, List, Memory, Place, Point, PointCond, Rows};
 use spg_opclass::{Bunch, InnerCopy, InnerView, LeavesCopy, OpClass, Spotted};
 use spg_points::{encode, zero_labels};
 use std::alloc::Global;
@@ -101,4 +101,11 @@ pub fn leaves_of<O: OpClass>(
     } else {
         None
     }
+}
+
+/// One condition.
+pub fn conds_of(alloc: Global, cond: PointCond) -> Result<List<PointCond>, Memory> {
+    let mut conds = List::new(alloc);
+    conds.push(cond)?;
+    Ok(conds)
 }

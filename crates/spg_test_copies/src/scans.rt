@@ -1,4 +1,4 @@
-use crate::makes::{inner_of, leaves_of, rests_of};
+use crate::makes::{conds_of, inner_of, leaves_of, rests_of};
 use spg_base::{Block, List, Memory, Offset, Place, Point, PointCond, Row, Rows, Same};
 use spg_opclass::{Copied, InnerCopy, LeavesCopy, Sifted, sift};
 use spg_points::{encode, zero_labels};
@@ -33,12 +33,6 @@ fn leaves(alloc: Global) -> Result<Option<LeavesCopy<Quad>>, Memory> {
     rows.push(Row::at(1, 2))?;
     let rests = rests_of(alloc, &[(1, 1), (5, -1)])?;
     Ok(leaves_of(&Quad, QuadRecon, rows, rests))
-}
-
-fn conds_of(alloc: Global, cond: PointCond) -> Result<List<PointCond>, Memory> {
-    let mut conds = List::new(alloc);
-    conds.push(cond)?;
-    Ok(conds)
 }
 
 /// The nodes of a sifted copy, each plus one, as the digits of a number.
