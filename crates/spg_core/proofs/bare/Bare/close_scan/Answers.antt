@@ -7,7 +7,7 @@ use Rattle.spg_core.specs.Kept.{IsState}
 use Rattle.spg_core.proofs.Scans.{is_read, told_events, closes_seats, kept_closes, closes_seen}
 use Rattle.spg_core.proofs.Slots.{stage_is}
 use Rattle.spg_core.proofs.Steps.{with_fields, kept_same, room_left}
-use Rattle.spg_core.proofs.state.State.close_scan.Goals as goal
+use Rattle.spg_core.proofs.bare.Bare.close_scan.Goals as goal
 
 pub close_slot-requires-clause-scan : goal.close_slot-requires-clause-scan
 close_slot-requires-clause-scan g c =

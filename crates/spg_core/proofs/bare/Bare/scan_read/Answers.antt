@@ -8,7 +8,7 @@ use Rattle.spg_core.specs.Kept.{IsState}
 use Rattle.spg_core.proofs.Slots.{stage_is, seen_as}
 use Rattle.spg_core.proofs.Steps.{with_fields, fits, kept_same}
 use Rattle.spg_core.proofs.Scans.{can_read, kept_reads, reads_seen}
-use Rattle.spg_core.proofs.state.State.scan_read.Goals as goal
+use Rattle.spg_core.proofs.bare.Bare.scan_read.Goals as goal
 
 pub read_slot-requires-clause-scan : goal.read_slot-requires-clause-scan
 read_slot-requires-clause-scan g c =

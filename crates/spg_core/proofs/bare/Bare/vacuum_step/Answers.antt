@@ -11,7 +11,7 @@ use Rattle.spg_core.specs.Sweeping.{SetsSwept, LeaveSet}
 use Rattle.spg_core.proofs.Slots.{stage_is}
 use Rattle.spg_core.proofs.Steps.{with_fields, kept_with, kept_same}
 use Rattle.spg_core.proofs.Vacuumed as vacuumed
-use Rattle.spg_core.proofs.state.State.vacuum_step.Goals as goal
+use Rattle.spg_core.proofs.bare.Bare.vacuum_step.Goals as goal
 
 pub sweep_slot-requires-clause-vacuum : goal.sweep_slot-requires-clause-vacuum
 sweep_slot-requires-clause-vacuum g c =

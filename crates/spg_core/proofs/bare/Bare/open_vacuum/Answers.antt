@@ -17,9 +17,9 @@ use Rattle.spg_core.proofs.Steps.{with_all, with_fields, kept_with, seats, on_er
 use Rattle.spg_core.proofs.Steps as steps
 use Rattle.spg_core.proofs.Opens.{room_for_all}
 use Rattle.spg_core.proofs.Sweepers.{none_sweeps, kept_sets, open_by, none_by, no_seat, opens_behind, opens_vacuum}
-use Rattle.spg_core.proofs.state.State.open_vacuum.Given.{Over}
-use Rattle.spg_core.proofs.state.State.open_vacuum.Goals as goal
-use Rattle.spg_core.proofs.state.State.open_vacuum.Goals.{In_default, After-vacuum_seat}
+use Rattle.spg_core.proofs.bare.Bare.open_vacuum.Given.{Over}
+use Rattle.spg_core.proofs.bare.Bare.open_vacuum.Goals as goal
+use Rattle.spg_core.proofs.bare.Bare.open_vacuum.Goals.{In_default, After-vacuum_seat}
 
 -- which seat is found
 found : (g : Over) (c : After-vacuum_seat g) → c.vacuum_seat.result ≡ lowest_seat is_sweeping 64 (map stage_of c.self.inside.slots.items)

@@ -13,7 +13,7 @@ use Rattle.spg_core.specs.Kept.{IsState}
 use Rattle.spg_core.proofs.Slots.{stage_is, past_is, table_is}
 use Rattle.spg_core.proofs.Steps.{with_all, with_fields, kept_with, kept_later}
 use Rattle.spg_core.proofs.Opens.{kills, killed_seen}
-use Rattle.spg_core.proofs.state.State.kill.Goals as goal
+use Rattle.spg_core.proofs.bare.Bare.kill.Goals as goal
 
 pub returns-then-not-is_live-clause-ok : goal.returns-then-not-is_live-clause-ok
 returns-then-not-is_live-clause-ok g c =

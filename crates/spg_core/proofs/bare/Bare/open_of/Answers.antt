@@ -3,7 +3,7 @@ use Rattle.spg_core.specs.declared.slot.Slot.TheVariants.{Free}
 use Rattle.spg_core.specs.Slot.{stage_of}
 use Rattle.spg_core.proofs.Slots.{stage_is, past_is, fits_stage}
 use Rattle.spg_core.proofs.Steps.{fits, seen_fits, past}
-use Rattle.spg_core.proofs.state.State.open_of.Goals as goal
+use Rattle.spg_core.proofs.bare.Bare.open_of.Goals as goal
 
 pub returns-clause-journal : goal.returns-clause-journal
 returns-clause-journal g c =

@@ -13,9 +13,9 @@ use Rattle.spg_core.specs.Kept.{IsState}
 use Rattle.spg_core.proofs.Slots.{stage_set, stage_is, table_is, logged_is, not_free_open}
 use Rattle.spg_core.proofs.Steps.{with_all, seats, fits, held, room_left}
 use Rattle.spg_core.proofs.Opens.{can_release, gives_up, others_left, none_left_of, but_untouched}
-use Rattle.spg_core.proofs.state.State.abandon.Given.{Over}
-use Rattle.spg_core.proofs.state.State.abandon.Goals as goal
-use Rattle.spg_core.proofs.state.State.abandon.Goals.{After-release_slot}
+use Rattle.spg_core.proofs.bare.Bare.abandon.Given.{Over}
+use Rattle.spg_core.proofs.bare.Bare.abandon.Goals as goal
+use Rattle.spg_core.proofs.bare.Bare.abandon.Goals.{After-release_slot}
 
 pub release_slot-requires : goal.release_slot-requires
 release_slot-requires g c =

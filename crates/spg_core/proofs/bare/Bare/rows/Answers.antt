@@ -2,7 +2,7 @@ use Rattle.std.proofs.Common.{ap, sym, ◌∙◌}
 use Rattle.spg_rows.specs.Rows.{state_of}
 use Rattle.spg_seats.specs.Slots.{kept_key}
 use Rattle.spg_core.proofs.Slots.{past_is}
-use Rattle.spg_core.proofs.state.State.rows.Goals as goal
+use Rattle.spg_core.proofs.bare.Bare.rows.Goals as goal
 
 pub returns-clause-states : goal.returns-clause-states
 returns-clause-states g c = λ row. c.self.invariant.tells.states row ∙ ap (state_of row) (sym (past_is c.self.inside c.args.self.now c.self.view_is 0))

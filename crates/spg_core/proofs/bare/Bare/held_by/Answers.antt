@@ -5,7 +5,7 @@ use Rattle.spg_core.specs.declared.slot.Slot.{Slot}
 use Rattle.spg_core.specs.Slot.{stage_of}
 use Rattle.spg_core.proofs.Slots.{past_is}
 use Rattle.spg_core.proofs.Steps.{stages, swept_waits, others_wait}
-use Rattle.spg_core.proofs.state.State.held_by.Goals as goal
+use Rattle.spg_core.proofs.bare.Bare.held_by.Goals as goal
 
 pub returns-in_default : goal.returns-in_default
 returns-in_default g c =

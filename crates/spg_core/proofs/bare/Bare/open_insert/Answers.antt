@@ -19,9 +19,9 @@ use Rattle.spg_core.proofs.Slots.{stage_set, stage_is, past_is, logged_is, seen_
 use Rattle.spg_core.specs.Kept.{IsState}
 use Rattle.spg_core.proofs.Steps.{with_fields, kept_with, seats, unclaimed_row, used_row, can_claim, on_err}
 use Rattle.spg_core.proofs.Opens.{room_for_all, insert_opens}
-use Rattle.spg_core.proofs.state.State.open_insert.Given.{Over}
-use Rattle.spg_core.proofs.state.State.open_insert.Goals as goal
-use Rattle.spg_core.proofs.state.State.open_insert.Goals.{After-is_used}
+use Rattle.spg_core.proofs.bare.Bare.open_insert.Given.{Over}
+use Rattle.spg_core.proofs.bare.Bare.open_insert.Goals as goal
+use Rattle.spg_core.proofs.bare.Bare.open_insert.Goals.{After-is_used}
 
 -- the row's state, as the test answers
 is_state : (g : Over) (c : After-is_used g) (b : Bool) → c.is_used.result ≡ b → is_used (state_in c.self.inside.rows c.args.row) ≡ b
@@ -93,14 +93,15 @@ invariant_of-self-2 g c =
     let I = c.self.invariant in
     let seat = c.args.seat in
     let row = c.args.row in
-    let key = c.args.key in
-    let ed : c.in_ok-descent.descent ≡ opened_for m row key = search rules in
+    let key = c.into_key-key.result in
+    let ek : c.args.started ≡ key = sym c.into_key-key.ensures.value in
+    let ed : c.in_ok-descent.descent ≡ opened_for m row key = c.in_ok-descent.ensures.at_start ∙ ap (opened_for m row) ek in
     let slot = Insert key c.in_ok-descent.descent in
     let events = c.append.ensures.events ∙ ap (λ j. j ++ OpenInsert seat row c.in_ok-told.told ∷ []) c.reserve.ensures.events ∙ ap (λ k. s.journal.events ++ OpenInsert seat row k ∷ []) c.in_ok-told.ensures in
     let was : stage_of (get_or s.slots.items seat Free) ≡ stages.free = sym (stage_is s c.args.self.now c.self.view_is seat) ∙ c.requires.free in
     let free = unclaimed g ((goal.at.invariant_of-self-2 g c).After-is_used) c.if-is_used.false in
     let keys = subst (λ k. SetsKey s.rows c.claim.new.self row (Some k)) c.in_ok-claimed.ensures c.in_ok-claim.ensures.key in
-    let carries : CarriesNew m c.in_ok-descent.descent key = subst (λ (k : Option _). CarriesNew m c.in_ok-descent.descent k) c.as_ref.ensures.value c.in_ok-descent.ensures.carries in
+    let carries : CarriesNew m c.in_ok-descent.descent key = subst (λ (k : Option _). CarriesNew m c.in_ok-descent.descent k) ek c.in_ok-descent.ensures.carries in
     let room = room_for_all m s I seat c.set_slot.new.slots.items c.reserve.new.self.spare c.append.new.self.spare slot c.set_slot.ensures.items c.in_ok-reserve.ensures.ok c.append.ensures.spare in
     subst (λ (t : Table). IsState m (with_fields m s t c.claim.new.self c.set_slot.new.slots c.append.new.self)) (sym (c.set_touched.ensures ∙ ap (λ ts. with_touched s.table ts) c.new.ensures))
     (insert_opens m s I seat row key c.in_ok-descent.descent c.claim.new.self c.set_slot.new.slots c.append.new.self ed carries free was c.set_slot.ensures.in_range c.set_slot.ensures.items events c.in_ok-claim.ensures.state keys room)
@@ -112,8 +113,9 @@ returns-clause-ok g c =
     let seen = c.args.self.now in
     let seat = c.args.seat in
     let row = c.args.row in
-    let key = c.args.key in
-    let ed : c.in_ok-descent.descent ≡ opened_for m row key = search rules in
+    let key = c.into_key-key.result in
+    let ek : c.args.started ≡ key = sym c.into_key-key.ensures.value in
+    let ed : c.in_ok-descent.descent ≡ opened_for m row key = c.in_ok-descent.ensures.at_start ∙ ap (opened_for m row) ek in
     let slot = Insert key c.in_ok-descent.descent in
     let events = c.append.ensures.events ∙ ap (λ j. j ++ OpenInsert seat row c.in_ok-told.told ∷ []) c.reserve.ensures.events ∙ ap (λ k. s.journal.events ++ OpenInsert seat row k ∷ []) c.in_ok-told.ensures in
     let low : seat < 64 = c.set_slot.ensures.in_range in

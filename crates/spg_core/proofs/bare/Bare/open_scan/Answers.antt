@@ -12,9 +12,9 @@ use Rattle.spg_core.proofs.Slots.{seen_as, stage_is, stage_set, table_is, logged
 use Rattle.spg_core.proofs.Steps.{with_fields, kept_with, seats, on_err}
 use Rattle.spg_core.proofs.Opens.{room_for_all}
 use Rattle.spg_core.proofs.Scans.{scan_opens}
-use Rattle.spg_core.proofs.state.State.open_scan.Given.{Over}
-use Rattle.spg_core.proofs.state.State.open_scan.Goals as goal
-use Rattle.spg_core.proofs.state.State.open_scan.Goals.{In_ok-scan}
+use Rattle.spg_core.proofs.bare.Bare.open_scan.Given.{Over}
+use Rattle.spg_core.proofs.bare.Bare.open_scan.Goals as goal
+use Rattle.spg_core.proofs.bare.Bare.open_scan.Goals.{In_ok-scan}
 
 pub invariant_of-self : goal.invariant_of-self
 invariant_of-self g c = kept_with g.O.OpClass.meaning c.self.inside c.self.invariant c.self.inside.rows c.reserve.new.self refl c.reserve.ensures.events c.reserve.ensures.room
