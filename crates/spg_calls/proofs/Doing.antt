@@ -56,7 +56,7 @@ module _ {O Key Recon Cond : Type 0} where
         | inr other ↦ ap (λ b. doing_of (cond b (opened_by e past (open_of seat past)) (open_of seat past))) other.0 ∙ (of_history seat past ∙ (sym (ap (λ b. cond b (doing_by e was) was) other.0) ∙ sym here))
       ]
 
-  doing_whole : (seat : ℕ) (journal : History O Key Recon Cond) → doing_of (open_of seat (reverse journal)) ≡ doing_after seat idle journal
+  pub doing_whole : (seat : ℕ) (journal : History O Key Recon Cond) → doing_of (open_of seat (reverse journal)) ≡ doing_after seat idle journal
   doing_whole seat journal = of_history seat (reverse journal) ∙ ap (doing_after seat idle) (reverse-reverse journal)
 
   -- ---- the rows that it swept

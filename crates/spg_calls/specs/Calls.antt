@@ -44,13 +44,21 @@ span_at from to = record { from = from; to = to }
 abbrev pub joined : Span → Span → Span
 joined first next = if nat_lt next.from next.to then (if nat_lt first.from first.to then span_at first.from next.to else next) else first
 
+-- one section: no event of the seat since what had been seen, and these at the end
+abbrev pub OneSection : (O Key Recon Cond : Type 0) → Type 0
+OneSection O Key Recon Cond = (seat : ℕ) (seen lent events : List (Event O Key Recon Cond)) → Watched seat seen lent → AllByRecursion (λ e. seat_of e ≡ seat) events → Called seat seen (lent ++ events) (span_at (length lent) (length (lent ++ events))) events
+
+-- sections without an event follow
+abbrev pub WatchFollows : (O Key Recon Cond : Type 0) → Type 0
+WatchFollows O Key Recon Cond = (seat : ℕ) (seen later last : List (Event O Key Recon Cond)) (span : Span) (events : List (Event O Key Recon Cond)) → Called seat seen later span events → Watched seat later last → Called seat seen last span events
+
+-- a section with events follows one with events
+abbrev pub NextFollows : (O Key Recon Cond : Type 0) → Type 0
+NextFollows O Key Recon Cond = (seat : ℕ) (seen later last : List (Event O Key Recon Cond)) (s1 s2 : Span) (es1 es2 : List (Event O Key Recon Cond)) → s1.from < s1.to → s2.from < s2.to → Called seat seen later s1 es1 → Called seat later last s2 es2 → Called seat seen last (span_at s1.from s2.to) (es1 ++ es2)
+
 pub record CallsAdd (O Key Recon Cond : Type 0) : Type 0 where
-  -- one section: no event of the seat since what had been seen, and these at the end
-  pub one : (seat : ℕ) (seen lent events : List (Event O Key Recon Cond)) → Watched seat seen lent → AllByRecursion (λ e. seat_of e ≡ seat) events → Called seat seen (lent ++ events) (span_at (length lent) (length (lent ++ events))) events
-  -- sections without an event follow
-  pub watch : (seat : ℕ) (seen later last : List (Event O Key Recon Cond)) (span : Span) (events : List (Event O Key Recon Cond)) → Called seat seen later span events → Watched seat later last → Called seat seen last span events
-  -- a section with events follows one with events
-  pub next : (seat : ℕ) (seen later last : List (Event O Key Recon Cond)) (s1 s2 : Span) (es1 es2 : List (Event O Key Recon Cond)) → s1.from < s1.to → s2.from < s2.to → Called seat seen later s1 es1 → Called seat later last s2 es2
-      → Called seat seen last (span_at s1.from s2.to) (es1 ++ es2)
+  pub one : OneSection O Key Recon Cond
+  pub watch : WatchFollows O Key Recon Cond
+  pub next : NextFollows O Key Recon Cond
   -- sections of any kind follow one another
   pub add : (seat : ℕ) (seen later last : List (Event O Key Recon Cond)) (s1 s2 : Span) (es1 es2 : List (Event O Key Recon Cond)) → Called seat seen later s1 es1 → Called seat later last s2 es2 → Called seat seen last (joined s1 s2) (es1 ++ es2)

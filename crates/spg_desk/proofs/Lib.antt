@@ -1,1 +1,3 @@
 pub mod Views
+pub mod Sections
+pub mod Composing

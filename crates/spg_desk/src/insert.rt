@@ -1,12 +1,8 @@
-ghost use Rattle.std.specs.Prelude.{◌≡◌, ◌++◌, ◌∷◌, [], Option, OnOk, OnErr, IsErrOf, MatchResult};
-ghost use Rattle.spg_base.specs.Row.{RowAt};
-ghost use Rattle.spg_opclass.specs.Copies.{AtTuple};
-ghost use Rattle.spg_rows.specs.declared.event.Event.TheVariants.{OpenInsert as Opens};
+ghost use Rattle.std.specs.Prelude.{◌≡◌, ◌<◌, Some, length};
 ghost use Rattle.spg_turn.specs.Passes.{pass_turn, pass_view};
-ghost use Rattle.spg_calls.specs.Doing.{puts, idle};
+ghost use Rattle.spg_calls.specs.Doing.{idle};
 ghost use Rattle.spg_desk.specs.Knowing.{doing_at};
-ghost use Rattle.spg_desk.specs.Told.{Told};
-ghost use Rattle.spg_desk.specs.Acting.{IsOn, TellsPut, TellsLook, OpensPut};
+ghost use Rattle.spg_desk.specs.Acting.{IsPut, TellsPut, TellsLook, OpensPut};
 ghost use Rattle.spg_desk.specs.Passes.{desk_id, desk_of, view_of};
 ghost use Rattle.spg_desk.specs.Answers.{DidInsert};
 

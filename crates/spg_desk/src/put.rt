@@ -33,7 +33,8 @@ pub(crate) fn look_on<O: OpClass>(bare: &mut Bare<O>, seat: SeatNo) -> Looked<O>
     match bare.insert_look(seat) {
         Ok(Look::Stepped(out)) => Looked::Stepped(ended(&out)),
         Ok(Look::Choose(spotted)) => Looked::Choose(spotted),
-        Ok(Look::Part(bunch)) => Looked::Part(bunch),
+        Ok(Look::Part(bunch)) if bunch.rests().len() > 0 => Looked::Part(bunch),
+        Ok(Look::Part(_)) => Looked::Stepped(None),
         Err(StepRefused::IndexFull) => {
             bare.abandon(seat, Why::Full);
             Looked::Stepped(Some(Ended::Full))

@@ -5,7 +5,7 @@ ghost use Rattle.spg_rows.specs.declared.event.Event.{Event as Entry};
 ghost use Rattle.spg_rows.specs.History.{seat_of};
 ghost use Rattle.spg_core.specs.Seen.{stage_at};
 ghost use Rattle.spg_turn.specs.Passes.{pass_turn, pass_view, held_turn, held_view, held_state};
-ghost use Rattle.spg_calls.specs.Calls.{Watched};
+ghost use Rattle.spg_calls.specs.Calls.{Watched, span_at};
 ghost use Rattle.spg_desk.specs.Knowing.{doing_at, IsLent};
 ghost use Rattle.spg_desk.specs.Told.{Told};
 ghost use Rattle.spg_desk.specs.Acting.{IsStageFor};
@@ -47,6 +47,7 @@ impl<O: OpClass> Desk<O> {
         requires grown { (more : List (Entry O O.Key O.Recon O.Cond)) × ((held_state held).journal ≡ (held_view held).seen ++ more) × AllByRecursion (λ e. seat_of e ≡ (held_view held).number) more }
         requires origin { (held_state held).origin ≡ (held_view held).origin }
         ensures own { pass_turn result.0.pass ≡ desk_id self.now }
+        ensures span { result.1 ≡ span_at (length (held_view held).seen) (length (pass_view result.0.pass).seen) }
         ensures told { Told O.meaning (held_view held) (pass_view result.0.pass) result.1 (drop (length (held_view held).seen) (held_state held).journal) }
     {
         // The journal is right.

@@ -1,12 +1,14 @@
-ghost use Rattle.std.specs.Prelude.{◌≡◌, ◌∷◌, [], List};
-ghost use Rattle.spg_base.specs.Row.{RowAt};
+ghost use Rattle.std.specs.Prelude.{◌≡◌, ◌∷◌, []};
+ghost use Rattle.spg_rows.specs.declared.event.Event.{Event as Entry};
+ghost use Rattle.spg_rows.specs.declared.event.Event.TheVariants.{OpenVacuum as Opens};
+ghost use Rattle.spg_turn.specs.declared.rule.View.{View};
 ghost use Rattle.spg_turn.specs.Passes.{pass_turn, pass_view};
 ghost use Rattle.spg_calls.specs.Doing.{idle, sweeps};
 ghost use Rattle.spg_core.specs.Seen.{stage_at};
 ghost use Rattle.spg_core.specs.Stage.{IsSweeping};
 ghost use Rattle.spg_desk.specs.Knowing.{doing_at};
 ghost use Rattle.spg_desk.specs.Told.{Told};
-ghost use Rattle.spg_desk.specs.Acting.{StepsVacuum, OpensSweep, TellsSweep, TellsSwept};
+ghost use Rattle.spg_desk.specs.Acting.{StepsSweep, OpensSweep, TellsSweep, EndsSweep};
 ghost use Rattle.spg_desk.specs.Passes.{desk_id, desk_of, view_of};
 ghost use Rattle.spg_desk.specs.Answers.{DidVacuum};
 
@@ -24,7 +26,7 @@ use std::sync::Wait;
 /// Does the next section of the seat's vacuum. After a refusal the vacuum is given up.
 fn sweep_on<O: OpClass>(bare: &mut Bare<O>, seat: SeatNo) -> Swept
     requires sweeping { IsSweeping (stage_at bare.old seat) }
-    ensures { StepsVacuum bare.old bare.new seat result }
+    ensures { StepsSweep bare.old bare.new seat result }
 {
     match &bare.vacuum_step(seat) {
         Ok(VacuumOut::Block | VacuumOut::Pending | VacuumOut::Latched { .. }) => Swept::On,
@@ -81,6 +83,7 @@ impl<O: OpClass> Desk<O> {
         requires own { pass_turn going.pass ≡ desk_id self.now }
         requires sweeping { doing_at (pass_view going.pass) ≡ sweeps }
         ensures own { pass_turn result.0.pass ≡ desk_id self.now }
+        ensures told { (v : View (Entry O O.Key O.Recon O.Cond)) → Told O.meaning v (pass_view going.pass) opened (Opens v.number ∷ []) → EndsSweep O.meaning v (pass_view result.0.pass) result.1 result.2 }
     {
         let mut going = going;
         let mut span = opened;

@@ -17,6 +17,7 @@ use Rattle.spg_script.specs.Speech.{Speech, key_or_null_in, query_in}
 use Rattle.spg_report.specs.declared.outcome.Outcome.{Outcome}
 use Rattle.spg_report.specs.declared.outcome.Outcome.TheVariants as outcome
 use Rattle.spg_report.specs.declared.record.Record.{Record}
+pub use Rattle.spg_calls.specs.Calls.{between, past_at, IsBySeat}
 use Rattle.spg_histories.specs.Tasks.{Task}
 
 -- ---- kinds of commands
@@ -85,18 +86,6 @@ module _ {O Key Recon Cond : Type 0} (speech : Speech Key Cond) where
   Does t before events outcome.Memory = (events ≡ []) ⊎ GivesUp t.seat events t.command
 
 -- ---- records
-
--- the events from a position up to another
-abbrev pub between : {X : Type 0} → ℕ → ℕ → List X → List X
-between low high journal = take (high - low) (drop low journal)
-
--- what was before a position, the newest event first
-abbrev pub past_at : {O Key Recon Cond : Type 0} → ℕ → List (Event O Key Recon Cond) → History O Key Recon Cond
-past_at at journal = reverse (take at journal)
-
--- the event at this position is one of the seat
-abbrev pub IsBySeat : {O Key Recon Cond : Type 0} → ℕ → List (Event O Key Recon Cond) → ℕ → Type 0
-IsBySeat seat journal at = IsSomeAnd (slice_get journal at) (λ e. seat_of e ≡ seat)
 
 -- the record of a command says what the journal says
 pub record Did {O Key Recon Cond : Type 0} (speech : Speech Key Cond) (journal : List (Event O Key Recon Cond)) (t : Task) (r : Record) : Type 0 where
