@@ -10,7 +10,7 @@ ghost use Rattle.spg_desk.specs.Knowing.{doing_at};
 ghost use Rattle.spg_desk.specs.Told.{Told};
 ghost use Rattle.spg_desk.specs.Acting.{StepsSweep, OpensSweep, TellsSweep, EndsSweep};
 ghost use Rattle.spg_desk.specs.Passes.{desk_id, desk_of, view_of};
-ghost use Rattle.spg_desk.specs.Answers.{DidVacuum};
+ghost use Rattle.spg_desk.specs.Answers.{DidVacuum, refused_vacuum, ended_vacuum};
 
 use crate::answer::VacuumAnswer;
 use crate::desk::Desk;
@@ -35,6 +35,26 @@ fn sweep_on<O: OpClass>(bare: &mut Bare<O>, seat: SeatNo) -> Swept
             bare.abandon(seat, Why::Given);
             Swept::Refused
         }
+    }
+}
+
+/// What a vacuum answers that was not opened.
+fn refused_vacuum(refused: &VacuumRefused, span: Span) -> VacuumAnswer
+    ensures { result ≡ refused_vacuum refused.now span }
+{
+    match refused {
+        VacuumRefused::Open { by } => VacuumAnswer::Open { by: *by, span },
+        VacuumRefused::Memory => VacuumAnswer::Memory(span),
+    }
+}
+
+/// What a vacuum answers that has ended.
+fn ended_vacuum(swept: Result<u64, Memory>, span: Span) -> VacuumAnswer
+    ensures { result ≡ ended_vacuum swept span }
+{
+    match swept {
+        Ok(swept) => VacuumAnswer::Vacuumed { swept, span },
+        Err(Memory) => VacuumAnswer::Memory(span),
     }
 }
 
@@ -110,22 +130,10 @@ impl<O: OpClass> Desk<O> {
     {
         let Pass { going } = pass;
         let (going, first, opened) = self.open_vacuum(rt, going);
-        match &opened {
-            Ok(()) => {}
-            Err(VacuumRefused::Open { by }) => {
-                let open = VacuumAnswer::Open {
-                    by: *by,
-                    span: first,
-                };
-                return (Pass { going }, open);
-            }
-            Err(VacuumRefused::Memory) => return (Pass { going }, VacuumAnswer::Memory(first)),
+        if let Err(refused) = &opened {
+            return (Pass { going }, refused_vacuum(refused, first));
         }
         let (going, span, swept) = self.sweep(rt, going, first);
-        let answer = match swept {
-            Ok(swept) => VacuumAnswer::Vacuumed { swept, span },
-            Err(Memory) => VacuumAnswer::Memory(span),
-        };
-        (Pass { going }, answer)
+        (Pass { going }, ended_vacuum(swept, span))
     }
 }
