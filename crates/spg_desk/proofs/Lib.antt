@@ -3,3 +3,6 @@ pub mod Rows
 pub mod Sections
 pub mod Composing
 pub mod Calls
+pub mod Inserting
+pub mod Finding
+pub mod Sweeping

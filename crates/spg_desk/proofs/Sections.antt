@@ -240,6 +240,9 @@ module _ {O Key Recon Cond : Type 0} where
       let seen : h.seen ≡ old.journal = ap (λ (z : View (Event O Key Recon Cond)). z.seen) view ∙ sym (ap (λ (s : Seen O Key Recon Cond). s.journal) is) in
       adds_grown h old new (E seat) seen (subst (λ (n : ℕ). AllByRecursion (λ (e : Event O Key Recon Cond). seat_of e ≡ n) (E seat)) number (each seat)) adds
 
+  pub section_origin : (h : View (Event O Key Recon Cond)) (lent old new : Seen O Key Recon Cond) (events : List (Event O Key Recon Cond)) → old ≡ lent → lent.origin ≡ h.origin → Adds old new events → new.origin ≡ h.origin
+  section_origin h lent old new events is origin adds = adds.1 ∙ (ap (λ (s : Seen O Key Recon Cond). s.origin) is ∙ origin)
+
   pub section_did : (m : Meaning Key Recon Cond) (v h w : View (Event O Key Recon Cond)) (lent old new : Seen O Key Recon Cond) (seat : ℕ) (span : Span) (E : ℕ → List (Event O Key Recon Cond)) → h ≡ record v { seen = lent.journal } → old ≡ lent → seat ≡ h.number → Watched v.number v.seen lent.journal → Adds old new (E seat)
       → Told m h w span (drop (length h.seen) new.journal) → Told m v w span (E v.number)
   section_did m v h w lent old new seat span E view is number watched adds told =

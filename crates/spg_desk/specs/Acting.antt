@@ -44,6 +44,15 @@ ended_of outs.Restructured = None
 ended_of (outs.Restarted block by) = None
 ended_of outs.Put = Some ended.Put
 
+abbrev no_memory : Memory
+no_memory = record {}
+
+-- how a section of a vacuum ended it, if it did
+abbrev pub sweep_end : Swept → Option (Result ℕ Memory)
+sweep_end swept.On = None
+sweep_end (swept.Closed count) = Some (Ok count)
+sweep_end swept.Refused = Some (Err no_memory)
+
 module _ {O Key Recon Cond : Type 0} where
   -- these events were added, and nothing else of the journal changed
   abbrev pub Adds : Seen O Key Recon Cond → Seen O Key Recon Cond → List (Event O Key Recon Cond) → Type 0
@@ -96,6 +105,10 @@ module _ {O Key Recon Cond : Type 0} where
   vacuum_events n (Ok x) = OpenVacuum n ∷ []
   vacuum_events n (Err e) = []
 
+  -- a seat has a vacuum open
+  abbrev pub HasVacuum : History O Key Recon Cond → ℕ → Type 0
+  HasVacuum past seat = (before : History O Key Recon Cond) × (open_of seat past ≡ vacuuming before)
+
   -- ---- inserts
 
   -- the event that ends the insert of a row
@@ -133,6 +146,13 @@ module _ {O Key Recon Cond : Type 0} where
   readings n (read.Sift item copied) = []
   readings n (read.Closed rows) = CloseScan n rows ∷ []
   readings n read.Refused = Leave n ∷ []
+
+  -- how a section of a scan closed it, if it did
+  abbrev pub closed_by : Read O Key Recon Cond → Option (Result (List RowAt) Memory)
+  closed_by read.On = None
+  closed_by (read.Sift item copied) = None
+  closed_by (read.Closed rows) = Some (Ok rows)
+  closed_by read.Refused = Some (Err no_memory)
 
   abbrev pub closings : ℕ → Result (List RowAt) Memory → List (Event O Key Recon Cond)
   closings n (Ok rows) = CloseScan n rows ∷ []

@@ -3,7 +3,7 @@ ghost use Rattle.spg_turn.specs.Passes.{pass_turn, pass_view};
 ghost use Rattle.spg_calls.specs.Doing.{idle};
 ghost use Rattle.spg_desk.specs.Knowing.{doing_at};
 ghost use Rattle.spg_desk.specs.Told.{Told};
-ghost use Rattle.spg_desk.specs.Acting.{IsScan, scan_events, readings, closings};
+ghost use Rattle.spg_desk.specs.Acting.{IsScan, scan_events, readings, closings, closed_by};
 ghost use Rattle.spg_desk.specs.Passes.{desk_id, desk_of, view_of};
 ghost use Rattle.spg_desk.specs.Answers.{DidFind, ended_find};
 
@@ -16,6 +16,17 @@ use crate::span::joined;
 use spg_base::{Memory, Rows, Span};
 use spg_opclass::{Copied, OpClass, Query, sift};
 use std::sync::Wait;
+
+/// How the section ended the scan, if it did.
+fn closed_by<O: OpClass>(read: Read<O>) -> Option<Result<Rows, Memory>>
+    ensures { result ≡ closed_by read }
+{
+    match read {
+        Read::On | Read::Sift { .. } => None,
+        Read::Closed(rows) => Some(Ok(rows)),
+        Read::Refused => Some(Err(Memory)),
+    }
+}
 
 /// What a search answers that has ended.
 fn ended_find(closed: Result<Rows, Memory>, span: Span) -> FindAnswer
@@ -115,10 +126,8 @@ impl<O: OpClass> Desk<O> {
         for _ in rt.forever() {
             let (next, span, read) = self.read_once(rt, going);
             going = next;
-            match read {
-                Read::On | Read::Sift { .. } => {}
-                Read::Closed(rows) => return (going, span, Ok(rows)),
-                Read::Refused => return (going, span, Err(Memory)),
+            if let Some(closed) = closed_by(read) {
+                return (going, span, closed);
             }
         }
         unreachable!()

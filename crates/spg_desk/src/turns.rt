@@ -66,6 +66,7 @@ impl<O: OpClass> Desk<O> {
     {
         let held = self.enter(rt, going);
         let from = held.state().journal().len();
-        self.leave(held, from)
+        let (going, span) = self.leave(held, from);
+        (going, span)
     }
 }

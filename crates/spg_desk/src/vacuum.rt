@@ -1,14 +1,15 @@
-ghost use Rattle.std.specs.Prelude.{◌≡◌, ◌∷◌, []};
+ghost use Rattle.std.specs.Prelude.{◌≡◌, ◌∷◌, [], ℕ, OnOk, OnErr, IsErrOf};
 ghost use Rattle.spg_rows.specs.declared.event.Event.{Event as Entry};
 ghost use Rattle.spg_rows.specs.declared.event.Event.TheVariants.{OpenVacuum as Opens};
 ghost use Rattle.spg_turn.specs.declared.rule.View.{View};
 ghost use Rattle.spg_turn.specs.Passes.{pass_turn, pass_view};
 ghost use Rattle.spg_calls.specs.Doing.{idle, sweeps};
-ghost use Rattle.spg_core.specs.Seen.{stage_at};
-ghost use Rattle.spg_core.specs.Stage.{IsSweeping};
+ghost use Rattle.spg_core.specs.Seen.{stage_at, past_of};
+ghost use Rattle.spg_core.specs.Stage.{free, IsSweeping};
+ghost use Rattle.spg_core.specs.Sections.{OpensVacuum};
 ghost use Rattle.spg_desk.specs.Knowing.{doing_at};
 ghost use Rattle.spg_desk.specs.Told.{Told};
-ghost use Rattle.spg_desk.specs.Acting.{StepsSweep, OpensSweep, TellsSweep, EndsSweep};
+ghost use Rattle.spg_desk.specs.Acting.{HasVacuum, sweep_end, StepsSweep, OpensSweep, TellsSweep, EndsSweep};
 ghost use Rattle.spg_desk.specs.Passes.{desk_id, desk_of, view_of};
 ghost use Rattle.spg_desk.specs.Answers.{DidVacuum, refused_vacuum, ended_vacuum};
 
@@ -23,6 +24,21 @@ use spg_opclass::OpClass;
 use spg_rows::Why;
 use std::sync::Wait;
 
+/// Opens a vacuum. `Open` only where that seat has one open.
+fn open_on<O: OpClass>(bare: &mut Bare<O>, seat: SeatNo) -> Result<(), VacuumRefused>
+    requires free { stage_at bare.old seat ≡ free }
+    ensures ok { OnOk result (OpensVacuum bare.old bare.new seat) }
+    ensures open { (by : ℕ) → IsErrOf result (VacuumRefused.Open by) → HasVacuum (past_of bare.old) by }
+    ensures err { OnErr result (bare.new ≡ bare.old) }
+{
+    let opened = bare.open_vacuum(seat);
+    if let Err(VacuumRefused::Open { by }) = &opened {
+        // What a seat has open is what the journal says.
+        let _open = bare.open_of(*by);
+    }
+    opened
+}
+
 /// Does the next section of the seat's vacuum. After a refusal the vacuum is given up.
 fn sweep_on<O: OpClass>(bare: &mut Bare<O>, seat: SeatNo) -> Swept
     requires sweeping { IsSweeping (stage_at bare.old seat) }
@@ -35,6 +51,17 @@ fn sweep_on<O: OpClass>(bare: &mut Bare<O>, seat: SeatNo) -> Swept
             bare.abandon(seat, Why::Given);
             Swept::Refused
         }
+    }
+}
+
+/// How the section ended the vacuum, if it did.
+fn sweep_end(swept: Swept) -> Option<Result<u64, Memory>>
+    ensures { result ≡ sweep_end swept }
+{
+    match swept {
+        Swept::On => None,
+        Swept::Closed(count) => Some(Ok(count)),
+        Swept::Refused => Some(Err(Memory)),
     }
 }
 
@@ -73,7 +100,7 @@ impl<O: OpClass> Desk<O> {
         let mut held = self.enter(rt, going);
         let seat = held.seat();
         let from = held.state().journal().len();
-        let opened = held.state_mut().open_vacuum(seat);
+        let opened = open_on(held.state_mut(), seat);
         let (going, span) = self.leave(held, from);
         (going, span, opened)
     }
@@ -111,10 +138,8 @@ impl<O: OpClass> Desk<O> {
             let (next, more, swept) = self.sweep_once(rt, going);
             going = next;
             span = joined(span, more);
-            match swept {
-                Swept::On => {}
-                Swept::Closed(swept) => return (going, span, Ok(swept)),
-                Swept::Refused => return (going, span, Err(Memory)),
+            if let Some(end) = sweep_end(swept) {
+                return (going, span, end);
             }
         }
         unreachable!()
