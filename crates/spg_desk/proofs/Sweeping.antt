@@ -29,7 +29,7 @@ use Rattle.spg_desk.specs.declared.ended.Swept.{Swept}
 use Rattle.spg_desk.specs.declared.ended.Swept.TheVariants as swept
 use Rattle.spg_desk.proofs.Views.{lent_doing, told_add, told_doing}
 use Rattle.spg_desk.proofs.Sections.{section_did}
-use Rattle.spg_desk.proofs.Composing.{own_sweeps, sweeps_on, swept_rows}
+use Rattle.spg_desk.proofs.Composing.{some_same, never_some, never_none, own_sweeps, sweeps_on, swept_rows}
 
 module _ {O Key Recon Cond : Type 0} where
   sweeps_open : (has : Opened O Key Recon Cond) → doing_of has ≡ sweeps → (before : History O Key Recon Cond) × (has ≡ vacuuming before)
@@ -120,25 +120,16 @@ module _ {O Key Recon Cond : Type 0} (m : Meaning Key Recon Cond) where
   pub sweeps_refused : (u v w : View (Event O Key Recon Cond)) (s1 s2 : Span) (rows : List RowAt) (e : Memory) → Told m u v s1 (OpenVacuum u.number ∷ map (λ (r : RowAt). Sweep u.number r) rows) → Told m v w s2 (Leave v.number ∷ []) → EndsSweep m u w (joined s1 s2) (Err e)
   sweeps_refused u v w s1 s2 rows e a b = (rows, sweeps_last u v w s1 s2 rows (λ n. Leave n) a b)
 
-  some_same : {X : Type 0} (x y : X) → Some x ≡ Some y → x ≡ y
-  some_same x y is = (cc)
-
-  never_some : {X : Type 0} (x : X) → Some x ≡ None → ⊥
-  never_some x is = absurd (cc)
-
-  never_none : {X : Type 0} (x : X) → None ≡ Some x → ⊥
-  never_none x is = absurd (cc)
-
   -- a section of a vacuum that goes on
   pub sweep_step : (u v w : View (Event O Key Recon Cond)) (s1 s2 : Span) (out : Swept) → (rows : List RowAt) × Told m u v s1 (OpenVacuum u.number ∷ swept_rows u.number rows) → TellsSweep m v w s2 out → sweep_end out ≡ None → (rows : List RowAt) × Told m u w (joined s1 s2) (OpenVacuum u.number ∷ swept_rows u.number rows)
   sweep_step u v w s1 s2 swept.On (rows, a) ((more, b), counted) is = (rows ++ more, sweeps_more u v w s1 s2 rows more a b)
-  sweep_step u v w s1 s2 (swept.Closed count) had tells is = absurd (never_some (Ok {E = Memory} count) is)
-  sweep_step u v w s1 s2 swept.Refused had tells is = absurd (never_some (Err {T = ℕ} no_memory) is)
+  sweep_step u v w s1 s2 (swept.Closed count) had tells is = let x : Result ℕ Memory = Ok count in absurd (never_some x is)
+  sweep_step u v w s1 s2 swept.Refused had tells is = let x : Result ℕ Memory = Err no_memory in absurd (never_some x is)
 
   pub sweep_still : (v w : View (Event O Key Recon Cond)) (span : Span) (out : Swept) → doing_at v ≡ sweeps → TellsSweep m v w span out → sweep_end out ≡ None → doing_at w ≡ sweeps
   sweep_still v w span swept.On does ((more, b), counted) is = sweep_doing v w span more does b
-  sweep_still v w span (swept.Closed count) does tells is = absurd (never_some (Ok {E = Memory} count) is)
-  sweep_still v w span swept.Refused does tells is = absurd (never_some (Err {T = ℕ} no_memory) is)
+  sweep_still v w span (swept.Closed count) does tells is = let x : Result ℕ Memory = Ok count in absurd (never_some x is)
+  sweep_still v w span swept.Refused does tells is = let x : Result ℕ Memory = Err no_memory in absurd (never_some x is)
 
   -- one that ended it
   pub sweep_ends : (u v w : View (Event O Key Recon Cond)) (s1 s2 : Span) (out : Swept) (r : Result ℕ Memory) → (rows : List RowAt) × Told m u v s1 (OpenVacuum u.number ∷ swept_rows u.number rows) → TellsSweep m v w s2 out → sweep_end out ≡ Some r → EndsSweep m u w (joined s1 s2) r
