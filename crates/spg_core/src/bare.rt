@@ -26,6 +26,7 @@ ghost use Rattle.spg_core.specs.Sections.{IsNew, OpensInsert, IsInsertOut, Tells
 use crate::answer::{InsertOut, OpenKind, OpenRefused, VacuumOut, VacuumRefused};
 use crate::look::{ApplyRefused, Look};
 use crate::operations::{close_slot, end_insert, end_vacuum, read_slot, release_slot, step_slot};
+use crate::sifting::{copy_slot, sift_slot};
 use crate::slot::{SEATS, Slot, free_slots, give_up, kind, set_slot, slot_at};
 use crate::stat::stat_of;
 use crate::sweeping::{sweep_slot, tell_sweeps};
@@ -421,7 +422,9 @@ impl<O: OpClass> Bare<O> {
         ensures ok { IfOk result (λ out. CopiesItem O.meaning self.old self.new seat item out) }
         ensures err { OnErr result (self.new ≡ self.old) }
     {
-        Err(Memory)
+        let out = copy_slot(&self.table, &self.rows, &mut self.slots, seat, item)?;
+        self.table.set_touched(Touched::new());
+        Ok(out)
     }
 
     /// Takes in what the class answered for the copy of an item that is being sifted: the kept places
@@ -435,9 +438,12 @@ impl<O: OpClass> Bare<O> {
     ) -> Result<(), SiftRefused>
         requires reading { IsReading (stage_at self.old seat) }
         ensures ok { OnOk result (SiftsItem O.meaning self.old self.new seat item sifted.now) }
+        ensures changed { IsErrOf result SiftRefused.Changed ↔ (KeptIn (stage_at self.old seat) item sifted.now → ⊥) }
         ensures err { OnErr result (self.new ≡ self.old) }
     {
-        Err(SiftRefused::Memory)
+        sift_slot(&mut self.slots, seat, item, sifted)?;
+        self.table.set_touched(Touched::new());
+        Ok(())
     }
 
     /// Ends a scan that holds nothing, and gives its rows, ascending.
