@@ -16,4 +16,5 @@ pub mod Ends
 pub mod Telling
 pub mod Refusing
 pub mod Runs
+pub mod Plans
 pub mod Looking

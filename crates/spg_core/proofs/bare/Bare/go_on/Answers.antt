@@ -16,8 +16,8 @@ use Rattle.spg_core.proofs.Growing.{grows_as}
 use Rattle.spg_core.proofs.Slots.{stage_is, table_is, inserting_open}
 use Rattle.spg_core.proofs.Steps.{kept_same, seats, fits, low, room_left}
 use Rattle.spg_core.proofs.Inserts.{finds_seen, ticks_seen, ticks_kept, can_step, heavy_for, kept_step, put_row, kept_put, row_claimed, steps_insert, steps_length, seen_step, seen_put, tells_step, tells_put, latches_step, latches_put, others_step, within_step, grows_step, ends_step, makes_step}
-use Rattle.spg_core.proofs.bare.Bare.insert_step.Goals as goal
-use Rattle.spg_core.proofs.bare.Bare.insert_step.Goals.{then-has_ended, else-has_ended}
+use Rattle.spg_core.proofs.bare.Bare.go_on.Goals as goal
+use Rattle.spg_core.proofs.bare.Bare.go_on.Goals.{then-has_ended, else-has_ended}
 
 pub step_slot-requires-clause-insert : goal.step_slot-requires-clause-insert
 step_slot-requires-clause-insert g c =
