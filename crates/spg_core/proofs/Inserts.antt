@@ -22,15 +22,15 @@ use Rattle.spg_core.specs.declared.answer.InsertOut.TheVariants as outs
 use Rattle.spg_core.specs.declared.slot.Slot.{Slot}
 use Rattle.spg_core.specs.declared.slot.Slot.TheVariants.{Free, Insert, Scan, Vacuum}
 use Rattle.spg_core.specs.declared.bare.Bare.TheInside.{Inside}
-use Rattle.spg_core.specs.Stepping.{SamePages, Grows, MakesAtMostOne, IsStepOut}
+use Rattle.spg_core.specs.Stepping.{SamePages, Grows, MakesAtMostOne, IsStepOut, MayStep}
 use Rattle.spg_core.specs.Telling.{StepTells, StepDone}
 use Rattle.spg_core.specs.Ends.{EndsWithin, StageEnds, SeatEnds, SeatThenEnds}
-use Rattle.spg_core.specs.Operations.{CanStep, IsOutgrownBy, StepsFrom, IsInsert, IsRowOf}
+use Rattle.spg_core.specs.Operations.{CanStep, IsOutgrownBy, StepsFrom, IsInsert, IsDescentOf, IsRowOf}
 use Rattle.spg_core.specs.Sections.{IsOutOf, IsHeavyFor, FindsNoPageFor, SeatFindsNoPage, TicksFor, SeatTicks, StoodFor, TellsFor, LatchesAfter, HasNone, OthersHold}
 use Rattle.spg_core.specs.Latches.{HoldsAfter}
 use Rattle.spg_core.specs.Slot.{stage_of}
 use Rattle.spg_core.specs.Stage.{IsInserting}
-use Rattle.spg_core.specs.Seen.{Seen, moved, logged}
+use Rattle.spg_core.specs.Seen.{Seen, stage_at, moved, logged}
 use Rattle.spg_core.specs.Kept.{fields_of, seen_of, IsState}
 use Rattle.spg_core.proofs.Weights.{nulls_key}
 use Rattle.spg_core.proofs.Keeping.{outgrown_heavy, its_held, section_changes, section_grows, step_keeps, put_keeps}
@@ -52,6 +52,33 @@ module _ {O Key Recon Cond : Type 0} (m : Meaning Key Recon Cond) (s : Inside O 
   pub ticks_kept : SeatTicks m seen seat → TicksFor m s.table (stage_of (get_or s.slots.items seat Free))
   ticks_kept h = subst (λ (t : pages.Table). TicksFor m t (stage_of (get_or s.slots.items seat Free))) (table_is s seen view 0) (subst (λ (x : Stage O Key Recon Cond). TicksFor m seen.table x) (stage_is s seen view seat) h)
 
+-- the insert in the seat's slot, as callers see it
+module _ {O Key Recon Cond : Type 0} (s : Inside O Key Recon Cond) (seen : Seen O Key Recon Cond) (view : seen_of s ≡ seen) (seat : ℕ) where
+  pub is_insert : IsInserting (stage_at seen seat) → IsInsert (get_or s.slots.items seat Free)
+  is_insert is = go (get_or s.slots.items seat Free) (subst (λ (x : Stage O Key Recon Cond). IsInserting x) (stage_is s seen view seat) is)
+    where
+      go : (slot : Slot O Key Recon Cond) → IsInserting (stage_of slot) → IsInsert slot
+      go Free h = absurd h
+      go (Insert key d) h = tt
+      go (Scan x) h = absurd h
+      go (Vacuum x) h = absurd h
+
+  pub stage_here : (d : Descending Recon) → IsDescentOf (get_or s.slots.items seat Free) d → (key : Option Key) × (stage_at seen seat ≡ descending key d)
+  stage_here d h = let (key, e) = go (get_or s.slots.items seat Free) h in (key, stage_is s seen view seat ∙ e)
+    where
+      go : (slot : Slot O Key Recon Cond) → IsDescentOf slot d → (key : Option Key) × (stage_of slot ≡ descending key d)
+      go Free e = absurd e
+      go (Insert key d2) e = (key, ap (λ (z : Descending Recon). descending key z) (sym e))
+      go (Scan x) e = absurd e
+      go (Vacuum x) e = absurd e
+
+  -- what is said of it by the table and its stage is said of what callers see
+  pub seen_here : (P : pages.Table → Stage O Key Recon Cond → Type 0) (key : Option Key) (d : Descending Recon) → stage_at seen seat ≡ descending key d → P s.table (descending key d) → P seen.table (stage_at seen seat)
+  seen_here P key d e h = subst (λ (x : Stage O Key Recon Cond). P seen.table x) (sym e) (subst (λ (t : pages.Table). P t (descending key d)) (sym (table_is s seen view seat)) h)
+
+  pub kept_here : (P : pages.Table → Stage O Key Recon Cond → Type 0) (key : Option Key) (d : Descending Recon) → stage_at seen seat ≡ descending key d → P seen.table (stage_at seen seat) → P s.table (descending key d)
+  kept_here P key d e h = subst (λ (t : pages.Table). P t (descending key d)) (table_is s seen view seat) (subst (λ (x : Stage O Key Recon Cond). P seen.table x) e h)
+
 module _ {O Key Recon Cond : Type 0} (m : Meaning Key Recon Cond) (codes : CodeLaw m) (s : Inside O Key Recon Cond) (I : IsState m s) (seat : ℕ) where
   abbrev before : History O Key Recon Cond
   before = past m s I
@@ -61,6 +88,13 @@ module _ {O Key Recon Cond : Type 0} (m : Meaning Key Recon Cond) (codes : CodeL
   can_step (Insert key d) has is = (has.1, has.2)
   can_step (Scan x) has is = absurd is
   can_step (Vacuum x) has is = absurd is
+
+  -- its insert may do a section
+  pub may_step : (slot : Slot O Key Recon Cond) (d : Descending Recon) → StageFits m s.table before seat (stage_of slot) → IsDescentOf slot d → MayStep m s.table d
+  may_step Free d has e = absurd e
+  may_step (Insert key d2) d has e = subst (λ (z : Descending Recon). MayStep m s.table z) (sym e) (record { shape = I.tells.holds.shape; of_key = (key, has.0); stands = has.1 })
+  may_step (Scan x) d has e = absurd e
+  may_step (Vacuum x) d has e = absurd e
 
   pub heavy_for : (seen : Seen O Key Recon Cond) → seen_of s ≡ seen → (slot : Slot O Key Recon Cond) → StageFits m s.table before seat (stage_of slot) → IsOutgrownBy s.table slot → IsHeavyFor m seen (stage_of slot)
   heavy_for seen view Free has out = absurd out
