@@ -1,6 +1,6 @@
 -- What a look at an insert finds, and what is done as the class chose for a copy.
-use Rattle.std.proofs.Common.{◌≡◌, ◌⊎◌, ℕ, ◌<◌, ◌+◌, zero, suc, Bool, true, false, List, [], ◌∷◌, ◌++◌, Option, Some, None, length, get_or, map, refl, sym, ap, ◌∙◌, subst, inl, inr, arith}
-use Rattle.std.specs.Prelude.{IsSome, is_none, if◌then◌else◌}
+use Rattle.std.proofs.Common.{◌≡◌, ◌⊎◌, ℕ, ◌<◌, ◌+◌, zero, suc, Bool, true, false, List, [], ◌∷◌, ◌++◌, Option, Some, None, length, get_or, map, refl, sym, ap, ◌∙◌, subst, inl, inr, arith, ⊎_elim}
+use Rattle.std.specs.Prelude.{◌==◌, is_none, if◌then◌else◌}
 use Rattle.std.proofs.lemmas.Bool.{false≢true}
 use Rattle.std.proofs.lemmas.List.{length-append, length-map, length-replicate, map-append, get_or_append_left}
 use Rattle.std.proofs.Math.Seq.{get_or-append_seam}
@@ -39,11 +39,7 @@ use Rattle.spg_core.proofs.Chooses.{framed, node_there, rest_ok, goes}
 -- ---- where leaves are divided
 
 pub split_spot : {Key Recon Cond : Type 0} (m : Meaning Key Recon Cond) (t : Table) (d : Descending Recon) → Shape m (sheets_of t) → Stands t d → IsRuleFor t d rules.Divide → IsSplitSpot t d
-split_spot m t d shape stands (off, room, long) = go (root_or_below d.stand)
-  where
-    go : _ → IsSplitSpot t d
-    go (inl root) = inl (root, root_leaves m t d shape stands off root)
-    go (inr below) = inr (at_chain t d stands off below (not_empty t d room))
+split_spot m t d shape stands (off, room, long) = ⊎_elim (λ root. inl (root, root_leaves m t d shape stands off root)) (λ below. inr (at_chain t d stands off below (not_empty t d room))) (root_or_below d.stand)
 
 -- ---- where the class has no say
 
@@ -72,7 +68,7 @@ asks_nulls m t d key C e (main, where_) = false≢true (sym main ∙ nulls_are m
 
 -- ---- one copy
 
-at_tuple : {Recon : Type 0} → Recon → InnerView → List ℕ → AtTuple Recon
+abbrev at_tuple : {Recon : Type 0} → Recon → InnerView → List ℕ → AtTuple Recon
 at_tuple r w s = record { recon = r; tuple = w; rest = s }
 
 pub spotted_one : {Recon : Type 0} (t : Table) (d : Descending Recon) (x y : AtTuple Recon) → IsSpottedAt t d x → IsSpottedAt t d y → x ≡ y
@@ -81,7 +77,7 @@ spotted_one t d x y a b =
     let r : x.recon ≡ y.recon = cc in
     ap (λ (z : _). at_tuple z x.tuple x.rest) r ∙ ap (λ (w : InnerView). at_tuple y.recon w x.rest) (a.2 ∙ sym b.2) ∙ ap (λ (s : List ℕ). at_tuple y.recon y.tuple s) (a.3 ∙ sym b.3)
 
-rests_at : {Recon : Type 0} → Recon → List (List ℕ) → RestsAt Recon
+abbrev rests_at : {Recon : Type 0} → Recon → List (List ℕ) → RestsAt Recon
 rests_at r s = record { recon = r; rests = s }
 
 pub bunch_one : {Recon : Type 0} (t : Table) (d : Descending Recon) (x y : RestsAt Recon) → IsBunchAt t d x → IsBunchAt t d y → x ≡ y
@@ -91,26 +87,26 @@ bunch_one t d x y a b =
     ap (λ (z : _). rests_at z x.rests) r ∙ ap (λ (s : List (List ℕ)). rests_at y.recon s) (a.1.1 ∙ sym b.1.1)
 
 -- what is found tells whether this copy is the one
-module _ {O Key Recon Cond : Type 0} (m : Meaning Key Recon Cond) (t : Table) (d : Descending Recon) (key : Option Key) (C : IsCarried m (sheets_of t) d key) where
+module _ {Key Recon Cond : Type 0} (m : Meaning Key Recon Cond) (t : Table) (d : Descending Recon) (key : Option Key) (C : IsCarried m (sheets_of t) d key) where
   pub spotted_asks : (x : AtTuple Recon) → IsSpottedAt t d x → AsksAt t d
   spotted_asks x a = (main_of m t d key x.recon C a.1, inl a.0)
 
   pub bunch_asks : (x : RestsAt Recon) → IsBunchAt t d x → AsksAt t d
   bunch_asks x a = (main_of m t d key x.recon C a.1.0, inr a.0)
 
-  pub no_spotted : (found : Found O Key Recon Cond) (x : AtTuple Recon) → ((y : AtTuple Recon) → found ≡ finds.Choose y → ⊥) → IsFound m t d found → IsSpottedAt t d x → ⊥
+  pub no_spotted : {O : Type 0} (found : Found O Key Recon Cond) (x : AtTuple Recon) → ((y : AtTuple Recon) → found ≡ finds.Choose y → ⊥) → IsFound m t d found → IsSpottedAt t d x → ⊥
   no_spotted (finds.Plan plan) x n f a = f.0 (spotted_asks x a)
   no_spotted (finds.Choose y) x n f a = n y refl
   no_spotted (finds.Part bunch) x n f a = f.0.0.1 a.0
 
-  pub no_bunch : (found : Found O Key Recon Cond) (x : RestsAt Recon) → ((y : RestsAt Recon) → found ≡ finds.Part y → ⊥) → IsFound m t d found → IsBunchAt t d x → ⊥
+  pub no_bunch : {O : Type 0} (found : Found O Key Recon Cond) (x : RestsAt Recon) → ((y : RestsAt Recon) → found ≡ finds.Part y → ⊥) → IsFound m t d found → IsBunchAt t d x → ⊥
   no_bunch (finds.Plan plan) x n f a = f.0 (bunch_asks x a)
   no_bunch (finds.Choose y) x n f a = a.0.0.1 f.0
   no_bunch (finds.Part y) x n f a = n y refl
 
 -- ---- what is done as the class chose
 
-module _ {O Key Recon Cond : Type 0} (m : Meaning Key Recon Cond) (matches : MatchLaw m) (t : Table) (d : Descending Recon) (H : Shape m (sheets_of t)) (st : Stands t d) (key : Option Key) (C : IsCarried m (sheets_of t) d key) (x : AtTuple Recon) (S : IsSpottedAt t d x) where
+module _ {Key Recon Cond : Type 0} (m : Meaning Key Recon Cond) (matches : MatchLaw m) (t : Table) (d : Descending Recon) (H : Shape m (sheets_of t)) (st : Stands t d) (key : Option Key) (C : IsCarried m (sheets_of t) d key) (x : AtTuple Recon) (S : IsSpottedAt t d x) where
   abbrev w : Frame
   w = frame_in (tuple_at t (tuple_place d.stand))
 
@@ -120,7 +116,7 @@ module _ {O Key Recon Cond : Type 0} (m : Meaning Key Recon Cond) (matches : Mat
   here : m.answer x.recon w d.rest ≡ answer_at m x
   here = sym (ap (λ (v : Frame). m.answer x.recon v x.rest) S.2 ∙ ap (λ (r : List ℕ). m.answer x.recon w r) S.3)
 
-  pub chosen_by : (step : InnerStep O Key Recon Cond) → t.counter < 8 → IsStepFor m x t.counter step → IsChosen m t d step
+  pub chosen_by : {O : Type 0} (step : InnerStep O Key Recon Cond) → t.counter < 8 → IsStepFor m x t.counter step → IsChosen m t d step
   chosen_by (Node node rest by_turn below) low (answer, e, n, b, z) =
       let is : m.answer x.recon w d.rest ≡ choice.Match answer rest = here ∙ e in
       let en : node ≡ named t.counter w answer = n ∙ ap (λ (v : Frame). named t.counter v answer) S.2 in (
@@ -164,19 +160,23 @@ pub at_of : Bool → ℕ → ℕ
 at_of all_same turn = if all_same then turn else 0
 
 module _ {Key Recon Cond : Type 0} (m : Meaning Key Recon Cond) (x : AtTuple Recon) (turn node : ℕ) (rest : List ℕ) (is : answer_at m x ≡ choice.Match node rest) (there : x.tuple.all_same ≡ true → turn < length x.tuple.labels) where
-  recons : Choice → List Recon
+  abbrev recons : Choice → List Recon
   recons c = recons_of m x.recon x.tuple c
+
+  -- those of a tuple that is all-the-same, or is not
+  abbrev picks : Bool → List Recon
+  picks b = if b then downs m x.recon x.tuple (first_nodes (length x.tuple.labels)) else downs m x.recon x.tuple (node ∷ [])
 
   pub at_there : at_of x.tuple.all_same turn < length (recons_at m x)
   at_there = subst (λ (c : Choice). at_of x.tuple.all_same turn < length (recons c)) (sym is) (go x.tuple.all_same refl)
     where
-      go : (b : Bool) → x.tuple.all_same ≡ b → at_of x.tuple.all_same turn < length (recons (choice.Match node rest))
-      go true s = rw s (subst (λ (k : ℕ). turn < k) (sym (length-first (λ (i : ℕ). m.down x.recon x.tuple i) (length x.tuple.labels))) (there s))
-      go false s = rw s (omega arith)
+      go : (b : Bool) → x.tuple.all_same ≡ b → at_of b turn < length (picks b)
+      go true s = subst (λ (k : ℕ). turn < k) (sym (length-first (λ (i : ℕ). m.down x.recon x.tuple i) (length x.tuple.labels))) (there s)
+      go false s = omega arith
 
   pub below_is : (z : Recon) → get_or (recons_at m x) (at_of x.tuple.all_same turn) z ≡ m.down x.recon x.tuple (named turn x.tuple node)
   below_is z = ap (λ (c : Choice). get_or (recons c) (at_of x.tuple.all_same turn) z) is ∙ go x.tuple.all_same refl
     where
-      go : (b : Bool) → x.tuple.all_same ≡ b → get_or (recons (choice.Match node rest)) (at_of x.tuple.all_same turn) z ≡ m.down x.recon x.tuple (named turn x.tuple node)
-      go true s = rw s (read-first (λ (i : ℕ). m.down x.recon x.tuple i) (length x.tuple.labels) turn z (there s))
-      go false s = rw s refl
+      go : (b : Bool) → x.tuple.all_same ≡ b → get_or (picks b) (at_of b turn) z ≡ m.down x.recon x.tuple (if b then turn else node)
+      go true s = read-first (λ (i : ℕ). m.down x.recon x.tuple i) (length x.tuple.labels) turn z (there s)
+      go false s = refl
