@@ -1,10 +1,18 @@
+<<<<<<< HEAD
 ghost use Rattle.std.specs.Prelude.{◌≡◌, ◌<◌, ◌⊎◌, length, Option, IfOk, IfSome};
+=======
+ghost use Rattle.std.specs.Prelude.{◌≡◌, ◌<◌, ◌++◌, ◌∷◌, [], length, Option, IfOk, IfSome};
+>>>>>>> df91265cbc2723a138a5360b97a9775577dab008
 ghost use Rattle.spg_forest.specs.Links.{leaves_on};
 ghost use Rattle.spg_forest.specs.Divisions.{rests_of};
 ghost use Rattle.spg_forest.specs.Shape.{Shape};
 ghost use Rattle.spg_chain.specs.Chains.{chain_members, leaves_of};
 ghost use Rattle.spg_tree.specs.Table.{sheets_of};
+<<<<<<< HEAD
 ghost use Rattle.spg_descend.specs.Carried.{IsCarried};
+=======
+ghost use Rattle.spg_descend.specs.Carried.{carried, IsCarried};
+>>>>>>> df91265cbc2723a138a5360b97a9775577dab008
 ghost use Rattle.spg_split.specs.Cases.{IsSplitSpot};
 ghost use Rattle.spg_split.specs.Dividing.{AreAllLive};
 ghost use Rattle.spg_split.specs.Parting.{IsPartedAt};
@@ -40,8 +48,40 @@ fn rests_of_chain(alloc: Global, page: &Page, head: Offset) -> Result<List<Bytes
     Ok(rests)
 }
 
+<<<<<<< HEAD
 /// The rests of the leaves that are to be divided where an insert stands, and that of the insert
 /// behind them.
+=======
+/// The rests of the leaves of a root leaf page in their order, and that of an insert behind them.
+fn rests_at_root<O: OpClass>(
+    alloc: Global,
+    page: &Page,
+    descent: &Descent<O>,
+) -> Result<List<Bytes>, Memory>
+    requires { AreAllLive page.now.tuples }
+    ensures { IfOk result (λ rests. rests ≡ rests_of (leaves_on page.now.tuples ++ carried descent.now ∷ [])) }
+{
+    let mut rests = rests_on(alloc, page)?;
+    rests.push(Bytes::copy(alloc, descent.rest().as_slice())?)?;
+    Ok(rests)
+}
+
+/// The rests of the leaves of the chain at a head in chain order, and that of an insert behind them.
+fn rests_at_chain<O: OpClass>(
+    alloc: Global,
+    page: &Page,
+    head: Offset,
+    descent: &Descent<O>,
+) -> Result<List<Bytes>, Memory>
+    ensures { IfOk result (λ rests. rests ≡ rests_of (leaves_of (chain_members page.now.tuples head) ++ carried descent.now ∷ [])) }
+{
+    let mut rests = rests_of_chain(alloc, page, head)?;
+    rests.push(Bytes::copy(alloc, descent.rest().as_slice())?)?;
+    Ok(rests)
+}
+
+/// The rests of the leaves that are to be divided where an insert stands, with its own.
+>>>>>>> df91265cbc2723a138a5360b97a9775577dab008
 fn rests_at<O: OpClass>(
     alloc: Global,
     table: &PageTable,
@@ -52,6 +92,7 @@ fn rests_at<O: OpClass>(
     requires of_key { (key : Option O.Key) × IsCarried O.meaning (sheets_of table.now) descent.now key }
     ensures { IfOk result (λ rests. rests ≡ parting.rests_at table.now descent.now) }
 {
+<<<<<<< HEAD
     let mut rests = match descent.stand() {
         Stand::Root(root) => rests_on(alloc, table.page(root))?,
         Stand::At(Place { block, offset }) => rests_of_chain(alloc, table.page(block), offset)?,
@@ -59,6 +100,16 @@ fn rests_at<O: OpClass>(
     };
     rests.push(Bytes::copy(alloc, descent.rest().as_slice())?)?;
     Ok(rests)
+=======
+    match descent.stand() {
+        Stand::Root(root) => rests_at_root(alloc, table.page(root), descent),
+        Stand::At(head) => {
+            let Place { block, offset } = head;
+            rests_at_chain(alloc, table.page(block), offset, descent)
+        }
+        Stand::Start | Stand::Empty => unreachable!(),
+    }
+>>>>>>> df91265cbc2723a138a5360b97a9775577dab008
 }
 
 /// A copy of the values that are to be divided where an insert stands: the rebuilt value there, the

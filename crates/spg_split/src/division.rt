@@ -7,7 +7,11 @@ ghost use Rattle.spg_split.specs.Nodes.{turns, IsOnlyNode};
 ghost use Rattle.spg_split.specs.Parting.{DividesBunch};
 
 use spg_base::{Bytes, Labels, List, Memory, Same};
+<<<<<<< HEAD
 use spg_opclass::{InnerView, OpClass, Parted};
+=======
+use spg_opclass::{InnerView, OpClass, Parted, Picked};
+>>>>>>> df91265cbc2723a138a5360b97a9775577dab008
 use std::alloc::Global;
 
 /// How values are divided: what the class sees of the new inner tuple, and for each value its node and
@@ -80,11 +84,25 @@ fn divide_nulls(alloc: Global, count: usize) -> Result<Division, Memory>
     })
 }
 
+<<<<<<< HEAD
 /// A copy of the nodes of values.
 fn copy_nodes(alloc: Global, nodes: &[u16]) -> Result<List<u16>, Memory>
     ensures { IfOk result (λ copied. copied ≡ nodes.now) }
 {
     Ok(List::from_vec(Vec::from_slice(alloc, nodes)?))
+=======
+/// A copy of how a class divided values.
+fn copy_picked(alloc: Global, picked: &Picked) -> Result<Picked, Memory>
+    ensures { IfOk result (λ copied. copied ≡ picked.now) }
+{
+    let node_of = Vec::from_slice(alloc, picked.node_of.as_slice())?;
+    Ok(Picked {
+        prefix: picked.prefix.copy()?,
+        labels: picked.labels.copy()?,
+        node_of: List::from_vec(node_of),
+        rests: picked.rests.copy()?,
+    })
+>>>>>>> df91265cbc2723a138a5360b97a9775577dab008
 }
 
 /// The label of a node.
@@ -96,6 +114,7 @@ fn label_at(labels: &Labels, node: u16) -> i16
     labels.as_slice()[node as usize]
 }
 
+<<<<<<< HEAD
 /// Divides values as the class did. Where it put all in one node, they fill an all-the-same tuple.
 fn divide_values<O: OpClass>(alloc: Global, parted: &Parted<O>) -> Result<Division, Memory>
     requires several { 2 ≤ length parted.now.rests }
@@ -104,6 +123,20 @@ fn divide_values<O: OpClass>(alloc: Global, parted: &Parted<O>) -> Result<Divisi
     let picked = parted.picked();
     let prefix = picked.prefix.copy()?;
     let rests = picked.rests.copy()?;
+=======
+/// Divides so many values, at least 2, as the class did. Where it put all in one node, they fill an
+/// all-the-same tuple.
+fn divide_values<O: OpClass>(
+    alloc: Global,
+    count: usize,
+    parted: &Parted<O>,
+) -> Result<Division, Memory>
+    requires several { 2 ≤ count }
+    requires count { length parted.now.rests ≡ count }
+    ensures { IfOk result (λ division. IsDivided O.meaning (Just parted.now.recon) parted.now.rests division) }
+{
+    let picked = copy_picked(alloc, parted.picked())?;
+>>>>>>> df91265cbc2723a138a5360b97a9775577dab008
     match only_node(picked.node_of.as_slice()) {
         None => Ok(Division {
             frame: InnerView {
@@ -117,9 +150,15 @@ fn divide_values<O: OpClass>(alloc: Global, parted: &Parted<O>) -> Result<Divisi
         Some(node) => {
             let label = label_at(&picked.labels, node);
             Ok(Division {
+<<<<<<< HEAD
                 frame: all_the_same(alloc, prefix, label)?,
                 node_of: nodes_in_turn(alloc, parted.bunch().rests().len())?,
                 rests,
+=======
+                frame: all_the_same(alloc, picked.prefix, label)?,
+                node_of: nodes_in_turn(alloc, count)?,
+                rests: picked.rests,
+>>>>>>> df91265cbc2723a138a5360b97a9775577dab008
             })
         }
     }
@@ -137,6 +176,10 @@ pub(crate) fn divide<O: OpClass>(
 {
     match parted {
         None => divide_nulls(alloc, count),
+<<<<<<< HEAD
         Some(parted) => divide_values(alloc, parted),
+=======
+        Some(parted) => divide_values(alloc, count, parted),
+>>>>>>> df91265cbc2723a138a5360b97a9775577dab008
     }
 }
