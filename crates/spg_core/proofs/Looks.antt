@@ -156,7 +156,7 @@ module _ {A : Type 0} (f : ℕ → A) where
           get_or_append_left (map f (first_nodes n)) (f n ∷ []) z i (let l = length-first n in omega (arith, l, less)) ∙ read-first n i z less
 
 -- where the rebuilt value below the node that is followed stands among them
-pub at_of : Bool → ℕ → ℕ
+abbrev pub at_of : Bool → ℕ → ℕ
 at_of all_same turn = if all_same then turn else 0
 
 module _ {Key Recon Cond : Type 0} (m : Meaning Key Recon Cond) (x : AtTuple Recon) (turn node : ℕ) (rest : List ℕ) (is : answer_at m x ≡ choice.Match node rest) (there : x.tuple.all_same ≡ true → turn < length x.tuple.labels) where
