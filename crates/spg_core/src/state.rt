@@ -175,10 +175,10 @@ impl<O: OpClass> State<O> {
     {
         match start_at(self.bare.alloc, &self.class, key) {
             Ok(started) => self.bare.open_insert(seat, row, started),
-            Err(Memory) => {
-                self.bare.may_claim(row)?;
-                Err(OpenRefused::Memory)
-            }
+            Err(Memory) => match self.bare.may_claim(row) {
+                Ok(()) => Err(OpenRefused::Memory),
+                Err(refused) => Err(refused),
+            },
         }
     }
 
