@@ -5,6 +5,7 @@ use Rattle.std.specs.declared.alloc.Global.{Global}
 use Rattle.spg_base.specs.Row.{RowAt}
 use Rattle.spg_opclass.specs.Meaning.{Meaning}
 use Rattle.spg_opclass.specs.Laws.{CodeLaw}
+use Rattle.spg_opclass.specs.Copies.{AtTuple, RestsAt}
 use Rattle.spg_forest.specs.Walk.{weight_of}
 use Rattle.spg_rows.specs.declared.event.Event.TheVariants.{Put}
 use Rattle.spg_rows.specs.declared.table.RowState.TheVariants as row_state
@@ -28,6 +29,9 @@ use Rattle.spg_core.specs.Ends.{EndsWithin, StageEnds, SeatEnds, SeatThenEnds}
 use Rattle.spg_core.specs.Operations.{CanStep, IsOutgrownBy, StepsFrom, IsInsert, IsDescentOf, IsRowOf}
 use Rattle.spg_core.specs.Sections.{IsOutOf, IsHeavyFor, FindsNoPageFor, SeatFindsNoPage, TicksFor, SeatTicks, StoodFor, TellsFor, LatchesAfter, HasNone, OthersHold}
 use Rattle.spg_core.specs.Latches.{HoldsAfter}
+use Rattle.spg_core.specs.declared.plan.Plan.{Plan}
+use Rattle.spg_core.specs.Plans.{IsPlanned, PlannedIn, IsSpottedAt, IsBunchAt, AsksAt}
+use Rattle.spg_core.specs.Looking.{SpottedIn, IsSpotted, BunchIn, IsBunch, AsksIn, Asks}
 use Rattle.spg_core.specs.Slot.{stage_of}
 use Rattle.spg_core.specs.Stage.{IsInserting}
 use Rattle.spg_core.specs.Seen.{Seen, stage_at, moved, logged}
@@ -78,6 +82,26 @@ module _ {O Key Recon Cond : Type 0} (s : Inside O Key Recon Cond) (seen : Seen 
 
   pub kept_here : (P : pages.Table → Stage O Key Recon Cond → Type 0) (key : Option Key) (d : Descending Recon) → stage_at seen seat ≡ descending key d → P seen.table (stage_at seen seat) → P s.table (descending key d)
   kept_here P key d e h = subst (λ (t : pages.Table). P t (descending key d)) (table_is s seen view seat) (subst (λ (x : Stage O Key Recon Cond). P seen.table x) e h)
+
+  -- its plan, and the copies that a look gives
+  module _ (d : Descending Recon) (its : IsDescentOf (get_or s.slots.items seat Free) d) where
+    pub plan_seen : (m : Meaning Key Recon Cond) (plan : Plan O Key Recon Cond) (parted : Option (RestsAt Recon)) → IsPlanned m s.table d plan parted → PlannedIn m seen.table (stage_at seen seat) plan parted
+    plan_seen m plan parted h = let (key, e) = stage_here d its in seen_here (λ t x. PlannedIn m t x plan parted) key d e h
+
+    pub spotted_seen : (x : AtTuple Recon) → IsSpottedAt s.table d x → IsSpotted seen seat x
+    spotted_seen x h = let (key, e) = stage_here d its in seen_here (λ t z. SpottedIn t z x) key d e h
+
+    pub spotted_kept : (x : AtTuple Recon) → IsSpotted seen seat x → IsSpottedAt s.table d x
+    spotted_kept x h = let (key, e) = stage_here d its in kept_here (λ t z. SpottedIn t z x) key d e h
+
+    pub bunch_seen : (x : RestsAt Recon) → IsBunchAt s.table d x → IsBunch seen seat x
+    bunch_seen x h = let (key, e) = stage_here d its in seen_here (λ t z. BunchIn t z x) key d e h
+
+    pub bunch_kept : (x : RestsAt Recon) → IsBunch seen seat x → IsBunchAt s.table d x
+    bunch_kept x h = let (key, e) = stage_here d its in kept_here (λ t z. BunchIn t z x) key d e h
+
+    pub asks_kept : Asks seen seat → AsksAt s.table d
+    asks_kept h = let (key, e) = stage_here d its in kept_here (λ t z. AsksIn t z) key d e h
 
 module _ {O Key Recon Cond : Type 0} (m : Meaning Key Recon Cond) (codes : CodeLaw m) (s : Inside O Key Recon Cond) (I : IsState m s) (seat : ℕ) where
   abbrev before : History O Key Recon Cond

@@ -144,16 +144,16 @@ module _ {A : Type 0} (f : ℕ → A) where
 
   read-first : (n i : ℕ) (z : A) → i < n → get_or (map f (first_nodes n)) i z ≡ f i
   read-first zero i z h = absurd (omega (arith, h))
-  read-first (suc n) i z h = ap (λ (l : List A). get_or l i z) (map-append f (first_nodes n) (n ∷ [])) ∙ go (i == n) refl
+  read-first (suc n) i z h = ap (λ (l : List A). get_or l i z) (map-append f (first_nodes n) (n ∷ [])) ∙ go (i == n) refl (read-first n i z)
     where
-      go : (b : Bool) → (i == n) ≡ b → get_or (map f (first_nodes n) ++ f n ∷ []) i z ≡ f i
-      go true e =
+      go : (b : Bool) → (i == n) ≡ b → (i < n → get_or (map f (first_nodes n)) i z ≡ f i) → get_or (map f (first_nodes n) ++ f n ∷ []) i z ≡ f i
+      go true e below =
           let same : i ≡ n = omega (arith, e) in
           subst (λ (k : ℕ). get_or (map f (first_nodes n) ++ f n ∷ []) k z ≡ f k) (sym same)
           (subst (λ (k : ℕ). get_or (map f (first_nodes n) ++ f n ∷ []) k z ≡ f n) (length-first n) (get_or-append_seam (map f (first_nodes n)) (f n) [] z))
-      go false e =
+      go false e below =
           let less : i < n = omega (arith, e, h) in
-          get_or_append_left (map f (first_nodes n)) (f n ∷ []) z i (let l = length-first n in omega (arith, l, less)) ∙ read-first n i z less
+          get_or_append_left (map f (first_nodes n)) (f n ∷ []) z i (let l = length-first n in omega (arith, l, less)) ∙ below less
 
 -- where the rebuilt value below the node that is followed stands among them
 abbrev pub at_of : Bool → ℕ → ℕ

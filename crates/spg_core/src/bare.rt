@@ -342,7 +342,8 @@ impl<O: OpClass> Bare<O> {
 
     /// Looks at an open insert. `Choose` exactly where it stands at an inner tuple of the main tree,
     /// `Part` exactly where it divides leaves of the main tree: the class has a say there, gets a copy,
-    /// and nothing changes. Else the next section is done, as `State::insert_step` tells.
+    /// and nothing changes. Else the next section is done, as `State::insert_step` tells, and `IndexFull`
+    /// and `ClockFull` come only then.
     pub fn insert_look(&mut self, seat: SeatNo) -> Result<Look<O>, StepRefused>
         requires inserting { IsInserting (stage_at self.old seat) }
         ensures ok { IfOk result (λ look. LooksAt O.meaning self.old self.new seat look) }
