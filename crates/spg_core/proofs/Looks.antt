@@ -1,7 +1,7 @@
 -- What a look at an insert finds, and what is done as the class chose for a copy.
 use Rattle.std.proofs.Common.{◌≡◌, ◌⊎◌, ℕ, ◌<◌, ◌+◌, zero, suc, Bool, true, false, List, [], ◌∷◌, ◌++◌, Option, Some, None, length, get_or, map, refl, sym, ap, ◌∙◌, subst, inl, inr, arith, ⊎_elim}
-use Rattle.std.specs.Prelude.{◌==◌, is_none, if◌then◌else◌}
-use Rattle.std.proofs.lemmas.Bool.{false≢true}
+use Rattle.std.specs.Prelude.{is_none, if◌then◌else◌}
+use Rattle.std.proofs.lemmas.Bool.{false≢true, cases_order}
 use Rattle.std.proofs.lemmas.List.{length-append, length-map, length-replicate, map-append, get_or_append_left}
 use Rattle.std.proofs.Math.Seq.{get_or-append_seam}
 use Rattle.spg_opclass.specs.Meaning.{Meaning}
@@ -144,16 +144,14 @@ module _ {A : Type 0} (f : ℕ → A) where
 
   read-first : (n i : ℕ) (z : A) → i < n → get_or (map f (first_nodes n)) i z ≡ f i
   read-first zero i z h = absurd (omega (arith, h))
-  read-first (suc n) i z h = ap (λ (l : List A). get_or l i z) (map-append f (first_nodes n) (n ∷ [])) ∙ go (i == n) refl (read-first n i z)
+  read-first (suc n) i z h = ap (λ (l : List A). get_or l i z) (map-append f (first_nodes n) (n ∷ [])) ∙ go (cases_order i n) (read-first n i z)
     where
-      go : (b : Bool) → (i == n) ≡ b → (i < n → get_or (map f (first_nodes n)) i z ≡ f i) → get_or (map f (first_nodes n) ++ f n ∷ []) i z ≡ f i
-      go true e below =
-          let same : i ≡ n = omega (arith, e) in
+      go : (i ≡ n) ⊎ ((i < n) ⊎ (n < i)) → (i < n → get_or (map f (first_nodes n)) i z ≡ f i) → get_or (map f (first_nodes n) ++ f n ∷ []) i z ≡ f i
+      go (inl same) below =
           subst (λ (k : ℕ). get_or (map f (first_nodes n) ++ f n ∷ []) k z ≡ f k) (sym same)
           (subst (λ (k : ℕ). get_or (map f (first_nodes n) ++ f n ∷ []) k z ≡ f n) (length-first n) (get_or-append_seam (map f (first_nodes n)) (f n) [] z))
-      go false e below =
-          let less : i < n = omega (arith, e, h) in
-          get_or_append_left (map f (first_nodes n)) (f n ∷ []) z i (let l = length-first n in omega (arith, l, less)) ∙ below less
+      go (inr (inl less)) below = get_or_append_left (map f (first_nodes n)) (f n ∷ []) z i (let l = length-first n in omega (arith, l, less)) ∙ below less
+      go (inr (inr more)) below = absurd (omega (arith, more, h))
 
 -- where the rebuilt value below the node that is followed stands among them
 abbrev pub at_of : Bool → ℕ → ℕ

@@ -171,14 +171,6 @@ module _ {O Key Recon Cond : Type 0} (m : Meaning Key Recon Cond) where
         go (row_state.Killed at) told is none = absurd (false≢true (sym is))
         go (row_state.Swept vacuum) told is none = told.0 ∙ ap is_some none
 
-    -- one that is not claimed is not used
-    pub unused_row : (row : RowAt) → is_claimed row past ≡ false → is_used (state_in s.rows row) ≡ false
-    unused_row row e = go (is_used (state_in s.rows row)) refl
-      where
-        go : (b : Bool) → is_used (state_in s.rows row) ≡ b → b ≡ false
-        go true is = absurd (false≢true (sym e ∙ (used_row row is).0))
-        go false is = refl
-
     -- the table takes an insert of it
     pub can_claim : (row : RowAt) → is_used (state_in s.rows row) ≡ false → CanClaim s.rows row
     can_claim row = go (state_in s.rows row) refl

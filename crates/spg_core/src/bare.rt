@@ -218,7 +218,12 @@ impl<O: OpClass> Bare<O> {
         ensures row_held { (by : ℕ) → IsErrOf result (OpenRefused.RowHeld by) ↔ (held_by row (past_of self.old) ≡ Some by) }
         ensures err { OnErr result (self.new ≡ self.old) }
     {
-        self.may_claim(row)?;
+        if let Some(by) = self.held_by(row) {
+            return Err(OpenRefused::RowHeld { by });
+        }
+        if is_used(self.rows.state(row)) {
+            return Err(OpenRefused::RowUsed);
+        }
         let descent = open_descent(row, &started)?;
         let key = started.into_key();
         let told = copy_key::<O>(&key)?;
