@@ -1,6 +1,6 @@
 -- What the class answers where an insert stands.
 use Rattle.std.proofs.Common.{◌≡◌, ℕ, ◌<◌, Bool, true, false, List, ◌⊎◌, Option, Some, None, length, refl, sym, ap, ◌∙◌, subst, inl, inr, arith}
-use Rattle.std.specs.Prelude.{option_map, IsSome}
+use Rattle.std.specs.Prelude.{option_map}
 use Rattle.std.proofs.lemmas.List.{length-replicate}
 use Rattle.spg_opclass.specs.Meaning.{Meaning, is_tuple}
 use Rattle.spg_opclass.specs.Laws.{MatchLaw}
@@ -55,15 +55,11 @@ module _ {Key Recon Cond : Type 0} (m : Meaning Key Recon Cond) (matches : Match
   abbrev w : Frame
   w = frame_in (tuple_at t (tuple_place d.stand))
 
-  pub tuple_ok : is_tuple m w ≡ true
+  tuple_ok : is_tuple m w ≡ true
   tuple_ok = subst (λ (b : Bool). IsTupleOf m b w) main (framed m t d H i st).kind
 
   rebuilt : (key : Option Key) → IsCarried m (sheets_of t) d key → (k : Key) × (m.rebuild recon d.rest ≡ Some k) × (key ≡ Some k)
   rebuilt key C = key_given m recon d.rest key (subst (λ (r : Option Recon). key_of m r d.rest ≡ Some key) er C.rebuilt)
-
-  -- the rest gives a key
-  pub rest_gives : (key : Option Key) → IsCarried m (sheets_of t) d key → IsSome (m.rebuild recon d.rest)
-  rest_gives key C = let (k, ek, q) = rebuilt key C in subst (λ (o : Option Key). IsSome o) (sym ek) refl
 
   -- the node is there
   pub node_there : (key : Option Key) → IsCarried m (sheets_of t) d key → (node : ℕ) (rest : List ℕ) (turn : ℕ) → turn < 8 → m.answer recon w d.rest ≡ Match node rest → named turn w node < length (links (tuple_at t (tuple_place d.stand)))

@@ -1,10 +1,11 @@
-use Rattle.std.proofs.Common.{rules, refl, sym, subst, inl, inr, ⊎_elim}
+use Rattle.std.proofs.lemmas.Result.{err_from_is_err_and}
+use Rattle.std.proofs.Common.{refl, sym, subst, inl, inr, ⊎_elim}
 use Rattle.spg_tree.specs.declared.stand.StepRefused.TheVariants.{ClockFull, Memory}
 use Rattle.spg_core.specs.declared.found.Found.{Found}
 use Rattle.spg_core.specs.declared.found.Found.TheVariants as finds
 use Rattle.spg_core.specs.Plans.{AsksAt, IsFound, IsPlanned, IsSpottedAt, IsBunchAt}
 use Rattle.spg_core.specs.Looking.{Asks}
-use Rattle.spg_core.proofs.Refusals.{not_err}
+use Rattle.spg_core.proofs.Refusals.{not_err, same_err}
 use Rattle.spg_core.proofs.Looks.{spotted_asks, bunch_asks}
 use Rattle.spg_core.proofs.Inserts.{is_insert, plan_seen, spotted_seen, bunch_seen, asks_seen, asks_kept, may_step}
 use Rattle.spg_core.proofs.bare.Bare.insert_look.Given.{Over}
@@ -31,8 +32,10 @@ go_on-requires-clause-planned g c =
 
 pub returns-in_err-go_on-in-Plan-clause-clock_first : goal.returns-in_err-go_on-in-Plan-clause-clock_first
 returns-in_err-go_on-in-Plan-clause-clock_first g c = λ no ticks last.
-    let told = c.in_err-go_on-in-Plan.ensures.clock_first ticks last in
-    ⊎_elim (λ a. inl (search rules)) (λ a. inr (search rules)) told
+    let r = c.from_residual-in_err-go_on-in-Plan.result in
+    let f = c.in_err-go_on-in-Plan.field-0.0 in
+    let (e, is, same) = err_from_is_err_and r c.from_residual-in_err-go_on-in-Plan.ensures.1 in
+    ⊎_elim (λ a. inl (same_err r e f ClockFull is same a)) (λ a. inr (same_err r e f Memory is same a)) (c.in_err-go_on-in-Plan.ensures.clock_first ticks last)
 
 pub returns-in_err-go_on-in-Plan-clause-full_asks : goal.returns-in_err-go_on-in-Plan-clause-full_asks
 returns-in_err-go_on-in-Plan-clause-full_asks g c = λ h asks. no_say g ((goal.at.returns-in_err-go_on-in-Plan-clause-full_asks g c).After-as_ref) asks
@@ -66,15 +69,15 @@ returns-in-Part-clause-clock_first g c = λ no ticks last.
 
 pub returns-in_ok-go_on-in-Plan-clause-ok : goal.returns-in_ok-go_on-in-Plan-clause-ok
 returns-in_ok-go_on-in-Plan-clause-ok g c = (
-      (λ asks. no_say g ((goal.at.returns-in_ok-go_on-in-Plan-clause-ok g c).After-as_ref) asks),
-      record {
-        ok = c.in_ok-go_on-in-Plan.ensures.ok;
-        told = c.in_ok-go_on-in-Plan.ensures.told;
-        latches = c.in_ok-go_on-in-Plan.ensures.latches;
-        makes = c.in_ok-go_on-in-Plan.ensures.makes;
-        ends = c.in_ok-go_on-in-Plan.ensures.ends;
-      },
-    )
+  (λ asks. no_say g ((goal.at.returns-in_ok-go_on-in-Plan-clause-ok g c).After-as_ref) asks),
+  record {
+    ok = c.in_ok-go_on-in-Plan.ensures.ok;
+    told = c.in_ok-go_on-in-Plan.ensures.told;
+    latches = c.in_ok-go_on-in-Plan.ensures.latches;
+    makes = c.in_ok-go_on-in-Plan.ensures.makes;
+    ends = c.in_ok-go_on-in-Plan.ensures.ends;
+  },
+)
 
 pub returns-in_ok-go_on-in-Plan-clause-clock_first : goal.returns-in_ok-go_on-in-Plan-clause-clock_first
 returns-in_ok-go_on-in-Plan-clause-clock_first g c = λ no ticks last.
