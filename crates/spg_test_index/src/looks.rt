@@ -93,19 +93,28 @@ fn chooses_on_copies(rt: HostRuntime) -> Result<(), Fail> {
     let alloc = rt.alloc();
     let (_class, mut bare) = filled(alloc)?.part();
     assert!(rt; open(alloc, &mut bare, Row::at(9, 2), 299)?);
-    assert_eq!(rt; look(alloc, &mut bare, 147)?.0, Seen::Stepped(InsertOut::Descended));
+    assert_eq!(rt;
+        look(alloc, &mut bare, 147)?.0,
+        Seen::Stepped(InsertOut::Descended)
+    );
     let (_seen, other) = look(alloc, &mut bare, 147)?;
     if let OpenKind::Insert = bare.open_of(SeatNo::first()) {
         bare.abandon(SeatNo::first(), Why::Given);
     }
     assert!(rt; open(alloc, &mut bare, Row::at(9, 1), 300)?);
-    assert_eq!(rt; look(alloc, &mut bare, 147)?.0, Seen::Stepped(InsertOut::Descended));
+    assert_eq!(rt;
+        look(alloc, &mut bare, 147)?.0,
+        Seen::Stepped(InsertOut::Descended)
+    );
     assert_eq!(rt; look(alloc, &mut bare, 147)?.0, Seen::Choose(true));
     let (seen, chosen) = look(alloc, &mut bare, 147)?;
     assert_eq!(rt; seen, Seen::Choose(true));
     assert_eq!(rt; choose(&mut bare, &other), Some(Err(ApplyRefused::Changed)));
     assert_eq!(rt; choose(&mut bare, &chosen), Some(Ok(InsertOut::Descended)));
-    assert_eq!(rt; choose(&mut bare, &chosen), Some(Err(ApplyRefused::Changed)));
+    assert_eq!(rt;
+        choose(&mut bare, &chosen),
+        Some(Err(ApplyRefused::Changed))
+    );
     let (seen, chosen) = look(alloc, &mut bare, 220)?;
     assert_eq!(rt; seen, Seen::Choose(true));
     assert_eq!(rt; choose(&mut bare, &chosen), Some(Ok(InsertOut::Descended)));
@@ -145,7 +154,12 @@ fn divides_on_copies(rt: HostRuntime) -> Result<(), Fail> {
     let state = filled(alloc)?;
     let mut bare: Bare<Quad> = Bare::new(alloc, 65536)?;
     for index in 0..292u16 {
-        open(alloc, &mut bare, Row::at(1, index + 1), i32::from(index) + 1)?;
+        open(
+            alloc,
+            &mut bare,
+            Row::at(1, index + 1),
+            i32::from(index) + 1,
+        )?;
         for _ in 0..8 {
             if let OpenKind::Insert = bare.open_of(SeatNo::first()) {
                 section(alloc, &mut bare)?;
