@@ -1,0 +1,7 @@
+use Rattle.std.proofs.Common.{rules, sym, subst}
+use Rattle.spg_rows.specs.Run.{Rises}
+use Rattle.spg_rows.proofs.RunRows.{rises_none}
+use Rattle.spg_rows.proofs.run.Run.new.Goals as goal
+
+pub invariant_of-result : goal.invariant_of-result
+invariant_of-result g c = rw c.new.ensures.items rises_none
