@@ -38,9 +38,9 @@ module _ {O Key Recon Cond : Type 0} (es : Table O Key Recon Cond) (rises : Rise
   searched (Err at) low parted = record {
     found = tt;
     absent = finds_none row_cmp row_total es row (λ j d in_range. elim (cases_lt j at) [
-        | inl under ↦ apart_above row_cmp row_total (get_or es j d).0 row ((parted (comparisons_rise row_cmp row_total es rises row)).0 j d (omega arith) under)
-        | inr over ↦ apart_below row_cmp row_total (get_or es j d).0 row ((parted (comparisons_rise row_cmp row_total es rises row)).1 j d over in_range)
-      ]);
+      | inl under ↦ apart_above row_cmp row_total (get_or es j d).0 row ((parted (comparisons_rise row_cmp row_total es rises row)).0 j d (omega arith) under)
+      | inr over ↦ apart_below row_cmp row_total (get_or es j d).0 row ((parted (comparisons_rise row_cmp row_total es rises row)).1 j d over in_range)
+    ]);
   }
 
   -- a row behind all others is not there

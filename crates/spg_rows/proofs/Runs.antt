@@ -16,7 +16,6 @@ equal_is Equal is = refl
 equal_is Greater is = (cc)
 
 module _ {K : Type 0} (R : K → K → Ordering) (o : IsTotalOrder R) where
-
   -- a test of equality may be turned
   both_ways : (x y : K) → is_eq (R x y) ≡ is_eq (R y x)
   both_ways x y = ap is_eq (o.antisymm x y) ∙ turned_eq (R y x)
