@@ -1,11 +1,11 @@
 -- What a search among entries in ascending order of rows finds, and what a change of one entry does.
-use Rattle.std.proofs.Common.{◌≡◌, ◌<◌, ◌≤◌, ◌-◌, ℕ, ◌+◌, Bool, true, false, cond, List, [], ◌∷◌, ◌++◌, length, get_or, set, Option, Some, None, IsSome, is_some, Result, Ok, Err, IfOk, IfErr, inl, inr, refl, sym, ap, ◌∙◌, subst, arith}
+use Rattle.std.proofs.Common.{◌≡◌, ◌<◌, ◌-◌, ℕ, Bool, true, cond, [], length, get_or, set, Option, Some, None, IsSome, is_some, Result, Ok, Err, IfOk, IfErr, inl, inr, sym, ap, ◌∙◌, subst, arith}
 use Rattle.std.specs.Cmp.{IsEquivalence, eq_by_cmp_equiv, tied_itself}
 use Rattle.std.proofs.lemmas.Map.{lookup-set_value, lookup-remove_entry, keys-set_value}
 use Rattle.std.proofs.lemmas.Map.Keys.{IsDistinct-from_sorted}
 use Rattle.std.proofs.lemmas.List.{get_or_default}
 use Rattle.std.specs.Ordering.{is_eq}
-use Rattle.std.specs.declared.cmp.Ordering.TheVariants.{Less, Equal, Greater}
+use Rattle.std.specs.declared.cmp.Ordering.TheVariants.{Less, Equal}
 use Rattle.std.specs.List.{remove}
 use Rattle.std.specs.List.Sorted.{IsSearchInRange, IsBinarySearchResult, IsStrictlySortedBy}
 use Rattle.std.specs.Map.{keys_of}
@@ -15,8 +15,8 @@ use Rattle.spg_rows.specs.declared.table.RowEntry.{RowEntry}
 use Rattle.spg_rows.specs.declared.table.Stand.{Stand}
 use Rattle.spg_rows.specs.Table.{Table, entry_in, entry_with, SetsEntry}
 use Rattle.spg_rows.specs.Run.{Rises, IsAt, IsBehind}
-use Rattle.spg_rows.proofs.RowOrder.{row_total, row-equal, same_row-refl, row_tells}
-use Rattle.spg_rows.proofs.Runs.{comparisons_rise, finds_at, finds_none, finds_push, rises_push, rises_remove, apart_above, apart_below, all_under, set_at, remove_at}
+use Rattle.spg_rows.proofs.RowOrder.{row_total, row-equal, row_tells}
+use Rattle.spg_rows.proofs.Runs.{comparisons_rise, finds_at, finds_none, rises_remove, apart_above, apart_below, all_under, set_at, remove_at}
 
 -- rows are equal by an equivalence
 row_equiv : IsEquivalence same_row

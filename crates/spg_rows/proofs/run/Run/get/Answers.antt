@@ -1,4 +1,4 @@
-use Rattle.std.proofs.Common.{◌≡◌, ◌<◌, length, sym, ap, ◌∙◌, arith}
+use Rattle.std.proofs.Common.{sym, ap, ◌∙◌}
 use Rattle.spg_rows.specs.Run.{IsAt}
 use Rattle.spg_rows.proofs.RunRows.{entry_at}
 use Rattle.spg_rows.proofs.run.Run.get.Goals as goal

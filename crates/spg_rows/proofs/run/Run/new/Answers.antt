@@ -1,5 +1,3 @@
-use Rattle.std.proofs.Common.{rules, sym, subst}
-use Rattle.spg_rows.specs.Run.{Rises}
 use Rattle.spg_rows.proofs.RunRows.{rises_none}
 use Rattle.spg_rows.proofs.run.Run.new.Goals as goal
 

@@ -1,6 +1,4 @@
-use Rattle.std.proofs.Common.{◌≡◌, sym, subst}
 use Rattle.spg_base.specs.Row.{row_cmp}
-use Rattle.spg_rows.specs.Run.{Rises, IsBehind}
 use Rattle.spg_rows.proofs.RowOrder.{row_total}
 use Rattle.spg_rows.proofs.Runs.{finds_push, rises_push}
 use Rattle.spg_rows.proofs.run.Run.push.Goals as goal

@@ -1,4 +1,4 @@
-use Rattle.std.proofs.Common.{◌≡◌, ◌<◌, length, sym, ap, ◌∙◌, arith}
+use Rattle.std.proofs.Common.{arith}
 use Rattle.spg_rows.specs.Run.{IsAt}
 use Rattle.spg_rows.proofs.RunRows.{entry_removed, rises_removed}
 use Rattle.spg_rows.proofs.run.Run.remove.Goals as goal

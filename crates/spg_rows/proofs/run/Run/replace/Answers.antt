@@ -1,4 +1,4 @@
-use Rattle.std.proofs.Common.{◌≡◌, ◌<◌, length, sym, ap, ◌∙◌, arith}
+use Rattle.std.proofs.Common.{arith}
 use Rattle.spg_rows.specs.Run.{IsAt}
 use Rattle.spg_rows.proofs.RunRows.{entry_set, rises_set}
 use Rattle.spg_rows.proofs.run.Run.replace.Goals as goal
