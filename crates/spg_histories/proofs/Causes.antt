@@ -18,7 +18,8 @@ use Rattle.spg_histories.specs.Tasks.{Task}
 use Rattle.spg_histories.specs.Run.{OfSave, Does, Did, Entry, RunOf, IsWithin, past_at, between}
 use Rattle.spg_histories.specs.Telling.{AreOfLanes}
 use Rattle.spg_histories.specs.Causes.{IsDue, IsDueIn, IsNearLimit, IsAtEnd, IsCaused, ShowsPages, ShowsClock, LaterShow, AreShown, Causes, GrewInto, PrintsPages, CausesGrow}
-use Rattle.spg_histories.proofs.Blocks.{past_at-grows, zip_append, each_append, each_weaker}
+use Rattle.spg_calls.proofs.Journals.{past_at-grows}
+use Rattle.spg_histories.proofs.Blocks.{zip_append, each_append, each_weaker}
 use Rattle.spg_histories.proofs.Telling.{no_stat}
 use Rattle.spg_histories.proofs.Due.{has_left, has_reverse, caused_each, due_in}
 

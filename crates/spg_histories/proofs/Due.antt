@@ -1,5 +1,5 @@
 -- What the commands of a legal journal found where they began, and what inserts that were given up left in it.
-use Rattle.std.proofs.Common.{◌≡◌, ◌⊎◌, ◌<◌, ◌≤◌, ◌-◌, ℕ, zero, suc, cond, true, List, [], ◌∷◌, ◌++◌, length, take, drop, reverse, Some, refl, sym, ap, ◌∙◌, subst, arith, length-append, take-append-drop, inl, inr}
+use Rattle.std.proofs.Common.{◌≡◌, ◌⊎◌, ◌<◌, ◌≤◌, ◌-◌, ℕ, zero, suc, cond, true, List, [], ◌∷◌, ◌++◌, length, take, drop, reverse, Some, refl, sym, ap, ◌∙◌, subst, arith, take-append-drop, inl, inr}
 use Rattle.std.specs.Prelude.{slice_get, IsSomeAnd, Option, Bool}
 use Rattle.std.specs.List.{AllByRecursion, AllZip}
 use Rattle.std.proofs.lemmas.Bool.{cases_lt, eq-eqb}
@@ -10,7 +10,7 @@ use Rattle.spg_base.specs.declared.recorded.Origin.{Origin}
 use Rattle.spg_opclass.specs.Meaning.{Meaning}
 use Rattle.spg_forest.specs.Sheets.{Sheets}
 use Rattle.spg_rows.specs.declared.event.Event.{Event}
-use Rattle.spg_rows.specs.declared.event.Event.TheVariants.{OpenInsert, Put, Drop, Kill, OpenScan, CloseScan, OpenVacuum, Sweep, CloseVacuum, Leave}
+use Rattle.spg_rows.specs.declared.event.Event.TheVariants.{OpenInsert, Drop, Kill, OpenVacuum}
 use Rattle.spg_rows.specs.declared.event.Why.TheVariants as cause
 use Rattle.spg_rows.specs.History.{History, seat_of, own}
 use Rattle.spg_rows.specs.Rows.{is_live}

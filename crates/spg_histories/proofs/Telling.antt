@@ -19,7 +19,7 @@ use Rattle.spg_histories.specs.Tasks.{Task}
 use Rattle.spg_histories.specs.Run.{OfStat, Does, IsWithin, past_at, between, Did, Entry, RunOf}
 use Rattle.spg_histories.specs.Pages.{HoldsAt, present_at}
 use Rattle.spg_histories.specs.Telling.{Step, steps_onto, steps_of, is_quiet_command, IsQuiet, LeafIs, is_save, Tells, AsFar, IsKept, OnSaved, WhereTrue, IsGiven, TellsAll, TellAll, SaveGave, StepDoes, StepDone, AreOfLanes, ReadsAs, RunsTell}
-use Rattle.spg_histories.proofs.Blocks.{past_at-grows}
+use Rattle.spg_calls.proofs.Journals.{past_at-grows}
 
 quiet_parts : (xs : List Step) (x : Step) → AllByRecursion IsQuiet (xs ++ x ∷ []) → AllByRecursion IsQuiet xs × IsQuiet x
 quiet_parts [] x each = (tt, each.0)
