@@ -63,7 +63,7 @@ IsOfLane (outcome.Stat counts) = ⊥
 IsOfLane (outcome.Saved pages) = ⊥
 IsOfLane o = ⊤
 
-no_save_in : (A : Type 0) (c : Command) → IsLaneCommand c → OfSave A c → ⊥
+pub no_save_in : (A : Type 0) (c : Command) → IsLaneCommand c → OfSave A c → ⊥
 no_save_in A (asked.Insert row key) lane of = of
 no_save_in A (asked.Delete row) lane of = of
 no_save_in A (asked.Find query) lane of = of

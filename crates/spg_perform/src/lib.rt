@@ -1,4 +1,5 @@
-//! The commands of a script, done on the state one after another.
+//! The commands of a script, done on the state: those of lanes beside each other, all others one after
+//! another.
 #![tactic(auto)]
 
 mod asking;
@@ -8,11 +9,14 @@ mod command;
 mod count;
 mod delete;
 mod find;
+mod gate;
 mod insert;
 mod position;
 mod save;
 mod script;
 mod stat;
+mod together;
 mod vacuum;
 
+pub use gate::Gate;
 pub use script::perform;
