@@ -16,3 +16,4 @@ pub mod Ends
 pub mod Telling
 pub mod Refusing
 pub mod Runs
+pub mod Looking

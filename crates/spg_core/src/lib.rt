@@ -2,11 +2,13 @@
 #![tactic(auto)]
 
 mod answer;
+mod bare;
 mod choose;
 mod inner;
 mod insert;
 mod latches;
 mod laws;
+mod look;
 mod operations;
 mod recorded;
 mod slot;
@@ -18,7 +20,9 @@ mod vacuums;
 mod waiting;
 
 pub use answer::{InsertOut, InsertRan, OpenKind, OpenRefused, VacuumOut, VacuumRefused};
+pub use bare::Bare;
 pub use laws::call_laws;
-pub use spg_scan::{Closed, ReadOut};
+pub use look::{ApplyRefused, Look};
+pub use spg_scan::{Closed, ReadOut, ScanCopy, SiftRefused};
 pub use spg_tree::StepRefused;
 pub use state::State;

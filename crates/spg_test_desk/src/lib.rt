@@ -1,0 +1,5 @@
+//! Tests of an index that threads share.
+#![tactic(auto)]
+
+#[cfg(test)]
+mod calls;
