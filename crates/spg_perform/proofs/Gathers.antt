@@ -1,6 +1,8 @@
 -- The passes of lanes: what each knows when it is dealt, when its lane has run, and when it is joined.
-use Rattle.std.proofs.Common.{◌≡◌, inl, inr, ◌<◌, ◌≤◌, ◌+◌, cond, get_or, ℕ, zero, suc, true, false, Bool, List, [], ◌∷◌, ◌++◌, length, drop, Option, Some, None, refl, sym, ap, ◌∙◌, subst, arith, length-append}
-use Rattle.std.proofs.lemmas.List.{append-nil, get_or_default}
+use Rattle.std.proofs.Common.{◌≡◌, inl, inr, ◌<◌, ◌≤◌, ◌+◌, cond, get_or, ℕ, zero, suc, true, false, Bool, List, [], ◌∷◌, ◌++◌, length, drop, Option, Some, None, refl, sym, ap, ◌∙◌, subst, arith, length-append, length-set, set}
+use Rattle.std.proofs.lemmas.List.{append-nil, get_or_append_left, get_or_default, get_or-set_other}
+use Rattle.std.proofs.lemmas.Grind.{get_or-set_at}
+use Rattle.std.proofs.Math.Seq.{get_or-append_seam}
 use Rattle.std.proofs.lemmas.Bool.{cases_lt, ne_eqb}
 use Rattle.std.proofs.lemmas.Bool.Decides.{eqb_tells}
 use Rattle.atomic_table.specs.Seated.{TableId}
@@ -19,23 +21,29 @@ use Rattle.spg_desk.specs.declared.pass.Pass.{Pass}
 use Rattle.spg_desk.specs.Passes.{desk_of, view_of}
 use Rattle.spg_perform.specs.declared.post.Post.{Post}
 use Rattle.spg_perform.specs.Lanes.{CommandsDone, Went, LaneDone, LanesDone}
-use Rattle.spg_perform.specs.Posts.{Holds, IsWhole, view_for, WentThrough, SeatDone, IsOver, Gathered, groups_of}
+use Rattle.spg_perform.specs.Posts.{IsVacant, Holds, IsWhole, view_for, WentThrough, SeatDone, IsOver, Gathered, groups_of}
 use Rattle.spg_perform.proofs.LaneCalls.{commands_grew}
 
 module _ {O Key Recon Cond : Type 0} where
   -- ---- what a dealt pass knows
 
+  dealt_other : (old : List (Event O Key Recon Cond)) (origin : Origin) (n i : ℕ) → view_for (first_view old origin) n (suc i) ≡ dealt (record (first_view old origin) { given = suc i })
+  dealt_other old origin n i =
+      let one : View (Event O Key Recon Cond) = record (first_view old origin) { given = n } in
+      let other : View (Event O Key Recon Cond) = dealt (record (first_view old origin) { given = suc i }) in
+      ap (λ (b : Bool). cond b one other) (ne_eqb (suc i) 0 (λ e. omega (arith, e)))
+
   dealt_number : (old : List (Event O Key Recon Cond)) (origin : Origin) (n i : ℕ) → (view_for (first_view old origin) n i).number ≡ i
   dealt_number old origin n zero = refl
-  dealt_number old origin n (suc i) = refl
+  dealt_number old origin n (suc i) = ap (λ (z : View (Event O Key Recon Cond)). z.number) (dealt_other old origin n i)
 
   dealt_base : (old : List (Event O Key Recon Cond)) (origin : Origin) (n i : ℕ) → (view_for (first_view old origin) n i).base ≡ length old
   dealt_base old origin n zero = refl
-  dealt_base old origin n (suc i) = refl
+  dealt_base old origin n (suc i) = ap (λ (z : View (Event O Key Recon Cond)). z.base) (dealt_other old origin n i)
 
   dealt_seen : (old : List (Event O Key Recon Cond)) (origin : Origin) (n i : ℕ) → (view_for (first_view old origin) n i).seen ≡ old
   dealt_seen old origin n zero = refl
-  dealt_seen old origin n (suc i) = refl
+  dealt_seen old origin n (suc i) = ap (λ (z : View (Event O Key Recon Cond)). z.seen) (dealt_other old origin n i)
 
   drop_whole : (xs : List (Event O Key Recon Cond)) → drop (length xs) xs ≡ []
   drop_whole [] = refl
@@ -46,7 +54,7 @@ module _ {O Key Recon Cond : Type 0} where
 
   dealt_whole : (old : List (Event O Key Recon Cond)) (origin : Origin) (n i : ℕ) → IsWhole (view_for (first_view old origin) n i)
   dealt_whole old origin n zero = whole_with old [] 0 (length old) refl refl
-  dealt_whole old origin n (suc i) = whole_with old [] (suc i) (length old) refl refl
+  dealt_whole old origin n (suc i) = subst (λ (w : View (Event O Key Recon Cond)). IsWhole w) (sym (dealt_other old origin n i)) (whole_with old [] (suc i) (length old) refl refl)
 
   pub holds_whole : (t : TableId) (old : List (Event O Key Recon Cond)) (origin : Origin) (n i : ℕ) (pass : Option (Pass O Key Recon Cond)) → Holds (λ w. w ≡ view_for (first_view old origin) n i) t pass → Holds IsWhole t pass
   holds_whole t old origin n i None holds = holds
@@ -132,8 +140,8 @@ module _ {O Key Recon Cond : Type 0} where
             | inr other ↦
                 let there : kept_of x.kept i ≡ kept_of v.kept i = ap (λ l. kept_of l i) kept ∙ ap (λ (b : Bool). cond b w.mine (kept_of v.kept i)) other.0 in
                 let less : i < k = elim (cases_lt i k) [
-                  | inl yes ↦ yes
-                  | inr no ↦ absurd (other.1 (omega (arith, num, no, below)))
+                  | inl under ↦ under
+                  | inr over_it ↦ absurd (other.1 (omega (arith, num, over_it, below)))
                 ] in
                 subst (λ (l : List (Event O Key Recon Cond)). SeatDone m speech i old x.seen l (get_or lanes i []) (get_or posts i d).records.items) (sym there)
                 (seat_on i old v.seen x.seen (kept_of v.kept i) (get_or lanes i []) (get_or posts i d).records.items left (g.others i d above less))
@@ -175,7 +183,7 @@ module _ {O Key Recon Cond : Type 0} where
         → ((n : ℕ) → 0 < n → own n (drop v.base journal) ≡ kept_of v.kept n) → 0 < length lanes → LanesDone m speech 0 old journal lanes (groups_of posts)
     lanes_done old origin lanes posts v journal long g is first others some =
         by_lane 0 old journal lanes posts long
-        (λ i d below. elim (cases_lt 0 i) [
+        (λ i d below. let at : i ≡ 0 + i = omega arith in subst (λ (s : ℕ). LaneDone m speech s old journal (get_or lanes i []) (get_or posts i d).records.items) at (elim (cases_lt 0 i) [
           | inl pos ↦ lane_done i old journal (kept_of v.kept i) (get_or lanes i []) (get_or posts i d).records.items
               (subst (λ (j : List (Event O Key Recon Cond)). SeatDone m speech i old j (kept_of v.kept i) (get_or lanes i []) (get_or posts i d).records.items) (sym is) (g.others i d pos (omega (arith, below, long))))
               (ap (λ (n : ℕ). own i (drop n journal)) (sym g.base) ∙ others i pos)
@@ -185,5 +193,37 @@ module _ {O Key Recon Cond : Type 0} where
               (lane_done 0 old journal v.mine (get_or lanes 0 []) (get_or posts 0 d).records.items
               (subst (λ (j : List (Event O Key Recon Cond)). SeatDone m speech 0 old j v.mine (get_or lanes 0 []) (get_or posts 0 d).records.items) (sym is) (g.first d))
               (ap (λ (n : ℕ). own 0 (drop n journal)) (sym g.base) ∙ first))
-        ])
+        ]))
         (λ other above. ap (λ (n : ℕ). own other (drop n journal)) (sym g.base) ∙ others other (omega (arith, above, some)) ∙ g.rest other (omega (arith, above, long)))
+
+    -- the journal went on
+    pub gathered_grew : (old : List (Event O Key Recon Cond)) (origin : Origin) (lanes : List (List Command)) (posts : List (Post O Key Recon Cond)) (n k : ℕ) (v : View (Event O Key Recon Cond)) (d : Post O Key Recon Cond) → Gathered m speech old origin n k lanes posts v → GrewTo old v.seen
+    gathered_grew old origin lanes posts n k v d g =
+        let s = g.first d in
+        grew_on old s.seen v.seen (commands_grew m speech 0 old s.seen (get_or lanes 0 []) (get_or posts 0 d).records.items s.done) s.grew
+
+  -- ---- posts
+
+  pub vacant_push : (lanes : List (List Command)) (posts : List (Post O Key Recon Cond)) (k : ℕ) (p : Post O Key Recon Cond) → length posts ≡ k → k < length lanes
+      → ((i : ℕ) (d : Post O Key Recon Cond) (c : List Command) → i < k → IsVacant (get_or lanes i c) (get_or posts i d)) → ((c : List Command) → IsVacant (get_or lanes k c) p)
+      → (i : ℕ) (d : Post O Key Recon Cond) (c : List Command) → i < k + 1 → IsVacant (get_or lanes i c) (get_or (posts ++ p ∷ []) i d)
+  vacant_push lanes posts k p long within before one i d c below = elim (cases_lt i k) [
+    | inl under ↦ subst (λ (x : Post O Key Recon Cond). IsVacant (get_or lanes i c) x) (sym (get_or_append_left posts (p ∷ []) d i (omega (arith, under, long)))) (before i d c under)
+    | inr last ↦
+        let same : k ≡ i = omega (arith, last, below) in
+        let at : length posts ≡ i = long ∙ same in
+        let seam : get_or (posts ++ p ∷ []) i d ≡ p = subst (λ (n : ℕ). get_or (posts ++ p ∷ []) n d ≡ p) at (get_or-append_seam posts p [] d) in
+        subst (λ (x : Post O Key Recon Cond). IsVacant (get_or lanes i c) x) (sym seam) (subst (λ (n : ℕ). IsVacant (get_or lanes n c) p) same (one c))
+  ]
+
+  -- a pass was taken from a post
+  pub same_set : (posts before : List (Post O Key Recon Cond)) (k : ℕ) (p x : Post O Key Recon Cond) → k < length posts → p.records ≡ (get_or posts k x).records
+      → ((i : ℕ) (d : Post O Key Recon Cond) → i < length posts → (get_or posts i d).records ≡ (get_or before i d).records)
+      → (i : ℕ) (d : Post O Key Recon Cond) → i < length (set posts k p) → (get_or (set posts k p) i d).records ≡ (get_or before i d).records
+  same_set posts before k p x within kept same i d below =
+      let inside : i < length posts = omega (arith, below, length-set {A = Post O Key Recon Cond}) in
+      elim (eqb_tells i k) [
+        | inl is ↦ ap (λ (q : Post O Key Recon Cond). q.records) (get_or-set_at posts k i p d is.1 within) ∙ kept ∙ ap (λ (q : Post O Key Recon Cond). q.records) (get_or_default posts k x d within)
+            ∙ ap (λ (n : ℕ). (get_or posts n d).records) (sym is.1) ∙ same i d inside
+        | inr other ↦ ap (λ (q : Post O Key Recon Cond). q.records) (get_or-set_other posts k i p d other.1) ∙ same i d inside
+      ]

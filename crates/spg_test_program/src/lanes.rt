@@ -1,11 +1,13 @@
 use crate::program::{Ended, Open, no_fails, ran_by, run_word};
 use spg_app::{Gate, Status};
 use std::alloc::{AllocError, Global};
+use std::process::Abort;
 use std::str;
 use std::sync::Wait;
 use std::sync::atomic::{AtomicU64, Ordering};
 use std::test::Fail;
 use std::thread;
+use std::thread::Threads;
 
 /// How often a lane looks whether the other has come, before it goes on without it.
 const TURNS: u32 = 2_000_000;
@@ -14,6 +16,7 @@ const TURNS: u32 = 2_000_000;
 const POINTS: u32 = 2_000;
 
 /// A gate that holds one lane before its first command until another has come to its second.
+#[derive(Drop)]
 struct Held {
     lane: u8,
     come: AtomicU64,
@@ -96,7 +99,7 @@ fn holding(text: &str, part: &str) -> u32 {
     count
 }
 
-fn text_of<'a>(rt: &HostRuntime, ended: &'a Ended) -> Result<&'a str, Fail> {
+fn text_of<'a, R: Abort>(rt: &R, ended: &'a Ended) -> Result<&'a str, Fail> {
     assert_eq!(rt; ended.status, Status::Done);
     Ok(str::from_utf8(ended.text.as_slice())?)
 }
@@ -111,7 +114,10 @@ fn two_lanes(alloc: Global) -> Result<String, AllocError> {
     Ok(script)
 }
 
-fn runs_beside(rt: &HostRuntime, lane: u8) -> Result<(), Fail> {
+fn runs_beside<R: AllocGlobal + Threads + Wait + Sync + Abort>(
+    rt: &R,
+    lane: u8,
+) -> Result<(), Fail> {
     let script = two_lanes(rt.alloc())?;
     let gate = held(lane);
     let ended = ran_by(rt, &run_word(), script.as_bytes(), no_fails(), &gate)?;

@@ -4,6 +4,7 @@ use spg_io::{FaultyImages, FaultySink, FaultySource};
 use std::alloc::{AllocError, Global};
 use std::sync::Wait;
 use std::test::Fail;
+use std::thread::Threads;
 
 /// The most bytes of a read.
 const MOST: usize = 40;
@@ -59,8 +60,8 @@ impl Gate for Open {
 }
 
 /// Runs the program on a script.
-pub(crate) fn ran(
-    rt: &HostRuntime,
+pub(crate) fn ran<R: AllocGlobal + Threads + Wait + Sync>(
+    rt: &R,
     words: &[&str],
     script: &[u8],
     fails: Fails,
@@ -69,8 +70,8 @@ pub(crate) fn ran(
 }
 
 /// Runs the program on a script whose lanes ask a gate.
-pub(crate) fn ran_by<G: Gate>(
-    rt: &HostRuntime,
+pub(crate) fn ran_by<R: AllocGlobal + Threads + Wait + Sync, G: Gate>(
+    rt: &R,
     words: &[&str],
     script: &[u8],
     fails: Fails,
@@ -100,7 +101,10 @@ pub(crate) fn joined(alloc: Global, lines: &[&str]) -> Result<String, AllocError
 }
 
 /// Runs the program on a script of these lines.
-pub(crate) fn ran_lines(rt: &HostRuntime, lines: &[&str]) -> Result<Ended, Fail> {
+pub(crate) fn ran_lines<R: AllocGlobal + Threads + Wait + Sync>(
+    rt: &R,
+    lines: &[&str],
+) -> Result<Ended, Fail> {
     let script = joined(rt.alloc(), lines)?;
     ran(rt, &run_word(), script.as_bytes(), no_fails())
 }
