@@ -22,6 +22,7 @@ pub mod Inserts
 pub mod Going
 pub mod Opens
 pub mod Scans
+pub mod Siftings
 pub mod Works
 pub mod Sweepers
 pub mod Vacuumed

@@ -17,3 +17,4 @@ pub mod Telling
 pub mod Refusing
 pub mod Runs
 pub mod Looking
+pub mod Sifting

@@ -12,6 +12,7 @@ ghost use Rattle.spg_rows.specs.History.{open_of};
 ghost use Rattle.spg_tree.specs.Table.{sheets_of};
 ghost use Rattle.spg_seats.specs.Slots.{StageFits, LatchesAre, kept_key};
 ghost use Rattle.spg_seats.specs.Descending.{ChangesHeld};
+ghost use Rattle.spg_seats.specs.Drops.{HaveCauses};
 ghost use Rattle.spg_core.specs.Stage.{free, IsInserting, IsReading, IsSweeping, IsRead, IsStageOf, MayGiveUp, held_count, kind_of};
 ghost use Rattle.spg_core.specs.Seen.{stage_at, past_of, IsPresentWith};
 ghost use Rattle.spg_core.specs.Stepping.{IsNearLimit, Grows, MakesAtMostOne};
@@ -25,6 +26,7 @@ ghost use Rattle.spg_core.specs.Sections.{IsNew, OpensInsert, IsInsertOut, Tells
 use crate::answer::{InsertOut, OpenKind, OpenRefused, VacuumOut, VacuumRefused};
 use crate::look::{ApplyRefused, Look};
 use crate::operations::{close_slot, end_insert, end_vacuum, read_slot, release_slot, step_slot};
+use crate::sifting::{copy_slot, sift_slot};
 use crate::slot::{SEATS, Slot, free_slots, give_up, kind, set_slot, slot_at};
 use crate::stat::stat_of;
 use crate::sweeping::{sweep_slot, tell_sweeps};
@@ -126,12 +128,14 @@ impl<O: OpClass> Bare<O> {
     /// The pages. They are well formed and hold just the rows that are present, each with its key. A
     /// root is an inner tuple only where the keys of its tree that were ever inserted take more than
     /// 8,160 bytes. A block is latched by a seat exactly where the seat's open insert stands on it or
-    /// has the tuple above on it.
+    /// has the tuple above on it. Where an insert was given up as the index was full, fewer than 4
+    /// blocks are left below the limit; where one was as the clock was at its end, it is there.
     pub fn pages(&self) -> &PageTable
         ensures value { result.now ≡ self.now.table }
         ensures represents { Represents O.meaning (sheets_of self.now.table) (IsPresentWith (past_of self.now)) }
         ensures heavy { RootsAreHeavy O.meaning self.now.table (past_of self.now) }
         ensures latches { LatchesAre self.now.table self.now.stages }
+        ensures drops { HaveCauses (past_of self.now) self.now.table }
     {
         &self.table
     }
@@ -418,7 +422,9 @@ impl<O: OpClass> Bare<O> {
         ensures ok { IfOk result (λ out. CopiesItem O.meaning self.old self.new seat item out) }
         ensures err { OnErr result (self.new ≡ self.old) }
     {
-        Err(Memory)
+        let out = copy_slot(&self.table, &self.rows, &mut self.slots, seat, item)?;
+        self.table.set_touched(Touched::new());
+        Ok(out)
     }
 
     /// Takes in what the class answered for the copy of an item that is being sifted: the kept places
@@ -432,9 +438,12 @@ impl<O: OpClass> Bare<O> {
     ) -> Result<(), SiftRefused>
         requires reading { IsReading (stage_at self.old seat) }
         ensures ok { OnOk result (SiftsItem O.meaning self.old self.new seat item sifted.now) }
+        ensures changed { IsErrOf result SiftRefused.Changed ↔ (KeptIn (stage_at self.old seat) item sifted.now → ⊥) }
         ensures err { OnErr result (self.new ≡ self.old) }
     {
-        Err(SiftRefused::Memory)
+        sift_slot(&mut self.slots, seat, item, sifted)?;
+        self.table.set_touched(Touched::new());
+        Ok(())
     }
 
     /// Ends a scan that holds nothing, and gives its rows, ascending.

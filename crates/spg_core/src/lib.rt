@@ -11,6 +11,7 @@ mod laws;
 mod look;
 mod operations;
 mod recorded;
+mod sifting;
 mod slot;
 mod stat;
 mod state;

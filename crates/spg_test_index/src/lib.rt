@@ -17,4 +17,6 @@ mod latches;
 #[cfg(test)]
 mod seats;
 #[cfg(test)]
+mod sifts;
+#[cfg(test)]
 mod vacuums;

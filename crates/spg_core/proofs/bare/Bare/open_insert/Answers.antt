@@ -122,8 +122,9 @@ returns-clause-ok g c =
     let table : c.set_touched.new.self ≡ untouched seen.table = c.set_touched.ensures ∙ ap (λ ts. with_touched s.table ts) c.new.ensures ∙ ap untouched (sym (table_is s seen c.self.view_is 0)) in (
       logged_is s seen c.self.view_is seat (OpenInsert seat row key) slot c.set_slot.new.slots.items c.append.new.self.events c.set_touched.new.self c.set_slot.ensures.items events
           ∙ ap (λ (t : Table). logged seen seat (OpenInsert seat row key) (stage_of slot) t) table
-          ∙ ap (λ (d : Descending _). logged seen seat (OpenInsert seat row key) (descending key d) (untouched seen.table)) ed,
-      stage_set c.set_slot.new.slots.items s.slots.items seat slot c.set_slot.ensures.items (seats m s c.self.invariant) low ∙ ap (λ (d : Descending _). descending key d) ed,
+          ∙ ap (λ (d : Descending _). logged seen seat (OpenInsert seat row key) (descending key d) (untouched seen.table)) ed
+          ∙ ap (λ (k : Option _). logged seen seat (OpenInsert seat row k) (descending k (opened_for m row k)) (untouched seen.table)) (sym ek),
+      stage_set c.set_slot.new.slots.items s.slots.items seat slot c.set_slot.ensures.items (seats m s c.self.invariant) low ∙ ap (λ (d : Descending _). descending key d) ed ∙ ap (λ (k : Option _). descending k (opened_for m row k)) (sym ek),
     )
 
 pub returns-clause-row_used : goal.returns-clause-row_used
