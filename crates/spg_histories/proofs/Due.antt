@@ -10,11 +10,12 @@ use Rattle.spg_base.specs.declared.recorded.Origin.{Origin}
 use Rattle.spg_opclass.specs.Meaning.{Meaning}
 use Rattle.spg_forest.specs.Sheets.{Sheets}
 use Rattle.spg_rows.specs.declared.event.Event.{Event}
-use Rattle.spg_rows.specs.declared.event.Event.TheVariants.{OpenInsert, Drop, Kill, OpenVacuum}
+use Rattle.spg_rows.specs.declared.event.Event.TheVariants.{OpenInsert, Put, Drop, Kill, OpenScan, CloseScan, OpenVacuum, Sweep, CloseVacuum, Leave}
 use Rattle.spg_rows.specs.declared.event.Why.TheVariants as cause
 use Rattle.spg_rows.specs.History.{History, seat_of, own}
 use Rattle.spg_rows.specs.Rows.{is_live}
 use Rattle.spg_rows.specs.Legal.{IsAllowed, IsLegal}
+use Rattle.spg_seats.specs.Drops.{was_full, was_clock}
 use Rattle.spg_script.specs.declared.any_key.AnyKey.{AnyKey}
 use Rattle.spg_script.specs.declared.command.Command.{Command}
 use Rattle.spg_script.specs.declared.command.Command.TheVariants as asked
@@ -24,7 +25,7 @@ use Rattle.spg_report.specs.declared.outcome.Outcome.TheVariants as outcome
 use Rattle.spg_report.specs.declared.record.Record.{Record}
 use Rattle.spg_histories.specs.Tasks.{Task}
 use Rattle.spg_histories.specs.Run.{OfInsert, OfDelete, OfVacuum, Does, Did, IsBySeat, IsWithin, past_at, between}
-use Rattle.spg_histories.specs.Causes.{IsFree, NoVacuum, HasOutgrown, IsDue, IsDueIn, IsOpened, IsTooFull, IsTooFullIn, IsCaused, was_full, was_clock, TellDrops}
+use Rattle.spg_histories.specs.Causes.{IsFree, NoVacuum, HasOutgrown, IsDue, IsDueIn, IsOpened, IsTooFull, IsTooFullIn, IsCaused, TellDrops}
 use Rattle.spg_histories.proofs.Lists.{get-some}
 
 -- ---- commands of a kind
@@ -189,12 +190,32 @@ module _ {O Key Recon Cond : Type 0} where
   has_reverse e (x ∷ xs) (inr later) = subst (Has e) (sym (reverse-append (x ∷ []) xs)) (has_left e (reverse xs) (x ∷ []) (has_reverse e xs later))
 
   rest_full : (e : Event O Key Recon Cond) (past : History O Key Recon Cond) → was_full past ≡ true → was_full (e ∷ past) ≡ true
+  rest_full (OpenInsert seat row key) past is = is
+  rest_full (Put seat row) past is = is
+  rest_full (Kill seat row) past is = is
+  rest_full (OpenScan seat query) past is = is
+  rest_full (CloseScan seat rows) past is = is
+  rest_full (OpenVacuum seat) past is = is
+  rest_full (Sweep seat row) past is = is
+  rest_full (CloseVacuum seat swept) past is = is
+  rest_full (Leave seat) past is = is
+  rest_full (Drop seat row cause.Given) past is = is
   rest_full (Drop seat row cause.Full) past is = refl
-  rest_full e past is = is
+  rest_full (Drop seat row cause.Clock) past is = is
 
   rest_clock : (e : Event O Key Recon Cond) (past : History O Key Recon Cond) → was_clock past ≡ true → was_clock (e ∷ past) ≡ true
+  rest_clock (OpenInsert seat row key) past is = is
+  rest_clock (Put seat row) past is = is
+  rest_clock (Kill seat row) past is = is
+  rest_clock (OpenScan seat query) past is = is
+  rest_clock (CloseScan seat rows) past is = is
+  rest_clock (OpenVacuum seat) past is = is
+  rest_clock (Sweep seat row) past is = is
+  rest_clock (CloseVacuum seat swept) past is = is
+  rest_clock (Leave seat) past is = is
+  rest_clock (Drop seat row cause.Given) past is = is
+  rest_clock (Drop seat row cause.Full) past is = is
   rest_clock (Drop seat row cause.Clock) past is = refl
-  rest_clock e past is = is
 
   full_has : (seat : ℕ) (row : RowAt) (past : History O Key Recon Cond) → Has (Drop seat row cause.Full) past → was_full past ≡ true
   full_has seat row [] has = absurd has

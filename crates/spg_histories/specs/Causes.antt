@@ -1,5 +1,5 @@
 -- Why the commands of a run had their outcomes, beyond their own events.
-use Rattle.std.specs.Prelude.{◌≡◌, ◌≢◌, ◌<◌, ◌≤◌, ◌+◌, ◌^◌, ◌++◌, ℕ, Bool, true, false, List, [], ◌∷◌, length, reverse, Option, is_none, ⊤}
+use Rattle.std.specs.Prelude.{◌≡◌, ◌≢◌, ◌<◌, ◌≤◌, ◌+◌, ◌^◌, ◌++◌, ℕ, true, false, List, [], ◌∷◌, length, reverse, Option, is_none, ⊤}
 use Rattle.std.specs.List.{AllZip, AllByRecursion}
 use Rattle.spg_base.specs.Row.{RowAt}
 use Rattle.spg_base.specs.declared.recorded.Origin.{Origin}
@@ -7,11 +7,10 @@ use Rattle.spg_opclass.specs.Meaning.{Meaning}
 use Rattle.spg_forest.specs.Sheets.{Sheets}
 use Rattle.spg_forest.specs.Walk.{weight_of}
 use Rattle.spg_rows.specs.declared.event.Event.{Event}
-use Rattle.spg_rows.specs.declared.event.Event.TheVariants.{Drop}
-use Rattle.spg_rows.specs.declared.event.Why.TheVariants as cause
 use Rattle.spg_rows.specs.History.{History, vacuuming, open_of}
 use Rattle.spg_rows.specs.Legal.{IsLegal}
 use Rattle.spg_rows.specs.Rows.{is_claimed, is_live}
+use Rattle.spg_seats.specs.Drops.{was_full, was_clock}
 use Rattle.spg_core.specs.Weight.{opened_keys}
 use Rattle.spg_script.specs.declared.any_key.AnyKey.{AnyKey}
 use Rattle.spg_script.specs.declared.command.Command.{Command}
@@ -111,19 +110,7 @@ pub record Causes {O Key Recon Cond : Type 0} (m : Meaning Key Recon Cond) (orig
 abbrev pub GrewInto : Sheets → Sheets → Type 0
 GrewInto S S2 = (length S.sheets ≤ length S2.sheets) × (S.clock ≤ S2.clock)
 
--- an insert was given up since the index was full
-abbrev pub was_full : {O Key Recon Cond : Type 0} → History O Key Recon Cond → Bool
-was_full [] = false
-was_full (Drop seat row cause.Full ∷ past) = true
-was_full (e ∷ past) = was_full past
-
--- an insert was given up since the clock was at its end
-abbrev pub was_clock : {O Key Recon Cond : Type 0} → History O Key Recon Cond → Bool
-was_clock [] = false
-was_clock (Drop seat row cause.Clock ∷ past) = true
-was_clock (e ∷ past) = was_clock past
-
--- the pages show it still
+-- where an insert was given up since the index was full, or since the clock was at its end, the pages show it still
 abbrev pub TellDrops : {O Key Recon Cond : Type 0} → ℕ → Sheets → History O Key Recon Cond → Type 0
 TellDrops limit S past = (was_full past ≡ true → IsNearLimit limit (length S.sheets)) × (was_clock past ≡ true → IsAtEnd S.clock)
 

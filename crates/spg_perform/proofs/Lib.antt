@@ -28,4 +28,5 @@ pub mod LaneCalls
 pub mod LaneTold
 pub mod LaneRuns
 pub mod Gathers
+pub mod Refusing
 pub mod TogetherLeads
