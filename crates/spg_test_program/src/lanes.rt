@@ -214,3 +214,20 @@ fn one_block_after_another(rt: HostRuntime) -> Result<(), Fail> {
     assert_eq!(rt; ending(text, "journal 804"), 1);
     Ok(())
 }
+
+/// A market day: three helpers at once, then two.
+const MARKET: &str = "class quad\ninsert 1.1 10,10\ninsert 1.2 20,10\ninsert 1.3 30,10\ntogether\nlane\ninsert 2.1 10,20\ninsert 2.2 20,20\ninsert 2.3 30,20\ninsert 2.4 40,20\nlane\ndelete 1.2\nvacuum\ninsert 1.2 25,15\nlane\nfind where in 0,0,50,50\nfind where below 15\nfind all\nend\ntogether\nlane\ndelete 2.4\nfind where above 15\nlane\nvacuum\nfind all\nend\nfind all\nstat\n";
+
+#[test]
+fn a_market_day(rt: HostRuntime) -> Result<(), Fail> {
+    let ended = ran_by(&rt, &run_word(), MARKET.as_bytes(), no_fails(), &Open)?;
+    let text = text_of(&rt, &ended)?;
+    // The row that was taken down may still be held by the helper who looks.
+    let held = ending(text, " row held by 2");
+    assert_eq!(rt; ending(text, " added") + held, 8);
+    assert_eq!(rt; ending(text, " killed"), 2);
+    assert_eq!(rt; holding(text, " vacuumed "), 2);
+    assert_eq!(rt; holding(text, " found 3 2.1 2.2 2.3"), 1);
+    assert_eq!(rt; holding(text, " close scan "), 6);
+    Ok(())
+}
