@@ -197,10 +197,11 @@ module _ {O Key Recon Cond : Type 0} where
         (λ other above. ap (λ (n : ℕ). own other (drop n journal)) (sym g.base) ∙ others other (omega (arith, above, some)) ∙ g.rest other (omega (arith, above, long)))
 
     -- the journal went on
-    pub gathered_grew : (old : List (Event O Key Recon Cond)) (origin : Origin) (lanes : List (List Command)) (posts : List (Post O Key Recon Cond)) (n k : ℕ) (v : View (Event O Key Recon Cond)) (d : Post O Key Recon Cond) → Gathered m speech old origin n k lanes posts v → GrewTo old v.seen
-    gathered_grew old origin lanes posts n k v d g =
-        let s = g.first d in
-        grew_on old s.seen v.seen (commands_grew m speech 0 old s.seen (get_or lanes 0 []) (get_or posts 0 d).records.items s.done) s.grew
+    pub gathered_grew : (old : List (Event O Key Recon Cond)) (origin : Origin) (lanes : List (List Command)) (posts : List (Post O Key Recon Cond)) (n k : ℕ) (v : View (Event O Key Recon Cond)) → 0 < length posts → Gathered m speech old origin n k lanes posts v → GrewTo old v.seen
+    gathered_grew old origin lanes [] n k v some g = absurd (omega (arith, some))
+    gathered_grew old origin lanes (p ∷ posts) n k v some g =
+        let s = g.first p in
+        grew_on old s.seen v.seen (commands_grew m speech 0 old s.seen (get_or lanes 0 []) p.records.items s.done) s.grew
 
   -- ---- posts
 

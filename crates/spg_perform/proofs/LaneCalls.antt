@@ -1,5 +1,5 @@
 -- The commands of lanes, one after another, and what they are in a run.
-use Rattle.std.proofs.Common.{◌≡◌, ◌≤◌, ◌+◌, ℕ, false, List, [], ◌∷◌, ◌++◌, length, drop, refl, sym, ap, ◌∙◌, subst, arith, take}
+use Rattle.std.proofs.Common.{◌≡◌, ◌≤◌, ◌+◌, ℕ, Bool, false, List, [], ◌∷◌, ◌++◌, length, drop, refl, sym, ap, ◌∙◌, subst, arith, length-append}
 use Rattle.std.specs.List.{AllZip, AllByRecursion}
 use Rattle.std.proofs.lemmas.List.{append-nil}
 use Rattle.spg_base.specs.declared.recorded.Origin.{Origin}
@@ -18,6 +18,7 @@ use Rattle.spg_histories.specs.Calls.{CallsTo}
 use Rattle.spg_histories.specs.Causes.{IsTooFull, IsTooFullIn}
 use Rattle.spg_histories.proofs.Blocks.{zip_append}
 use Rattle.spg_histories.proofs.Calls.{calls_compose}
+use Rattle.spg_perform.proofs.Tasks.{lane_length}
 use Rattle.spg_perform.specs.Lanes.{CommandDone, CommandsDone, LaneDone, LanesDone}
 
 module _ {O Key Recon Cond : Type 0} (m : Meaning Key Recon Cond) (speech : Speech Key Cond) where
@@ -81,3 +82,18 @@ module _ {O Key Recon Cond : Type 0} (m : Meaning Key Recon Cond) (speech : Spee
   lanes_full origin block seat old journal (lane ∷ lanes) (rs ∷ groups) all =
       zip_append (IsTooFullIn m origin journal) (lane_tasks block seat false lane) (lanes_tasks block (seat + 1) false lanes) rs (joined groups)
       (full_in origin block seat old all.0.seen journal lane rs all.0.done all.0.watched.grew) (lanes_full origin block (seat + 1) old journal lanes groups all.1)
+
+  -- a record of each command
+  pub records_long : (block : ℕ) (alone : Bool) (seat : ℕ) (old journal : List (Event O Key Recon Cond)) (lanes : List (List Command)) (groups : List (List Record)) → LanesDone m speech seat old journal lanes groups
+      → length (joined groups) ≡ length (lanes_tasks block seat alone lanes)
+  records_long block alone seat old journal [] [] all = refl
+  records_long block alone seat old journal [] (rs ∷ groups) all = absurd all
+  records_long block alone seat old journal (lane ∷ lanes) [] all = absurd all
+  records_long block alone seat old journal (lane ∷ lanes) (rs ∷ groups) all = omega (
+    arith,
+    length-append rs (joined groups),
+    length-append (lane_tasks block seat alone lane) (lanes_tasks block (seat + 1) alone lanes),
+    lane_length block seat alone lane,
+    commands_long seat old all.0.seen lane rs all.0.done,
+    records_long block alone (seat + 1) old journal lanes groups all.1,
+  )

@@ -1,7 +1,8 @@
 -- A block of lanes: from what it did to what all commands so far did.
-use Rattle.std.proofs.Common.{◌≡◌, ◌≢◌, ◌+◌, ℕ, zero, suc, true, false, List, [], ◌∷◌, ◌++◌, length, reverse, Option, refl, sym, ap, ◌∙◌, subst, arith}
+use Rattle.std.proofs.Common.{◌≡◌, ◌≢◌, ◌<◌, ◌+◌, ◌==◌, ℕ, zero, suc, Bool, true, false, List, [], ◌∷◌, ◌++◌, length, reverse, Option, refl, sym, ap, ◌∙◌, subst, arith}
 use Rattle.std.specs.Prelude.{All}
 use Rattle.std.specs.List.{AllZip, AllByRecursion}
+use Rattle.std.proofs.lemmas.Bool.{eq-eqb}
 use Rattle.std.proofs.lemmas.List.{append-nil}
 use Rattle.std.proofs.lemmas.List.Elements.{recursion_from_All}
 use Rattle.spg_base.specs.declared.recorded.Origin.{Origin}
@@ -11,7 +12,8 @@ use Rattle.spg_io.specs.Held.{Holding}
 use Rattle.spg_rows.specs.declared.event.Event.{Event}
 use Rattle.spg_rows.specs.History.{History, own}
 use Rattle.spg_rows.specs.Right.{Right}
-use Rattle.spg_tree.specs.Table.{sheets_of}
+use Rattle.spg_tree.specs.Table.{Table, sheets_of}
+use Rattle.spg_seats.specs.Drops.{HaveCauses}
 use Rattle.spg_core.specs.Seen.{Seen, past_of}
 use Rattle.spg_script.specs.declared.command.Command.{Command}
 use Rattle.spg_script.specs.Script.{IsLaneCommand}
@@ -57,10 +59,10 @@ module _ {Key Cond : Type 0} (speech : Speech Key Cond) where
 
   lanes_commands : (lanes : List (List Command)) → AllByRecursion (λ (lane : List Command). All (CanBeDone speech false) lane) lanes → AllByRecursion (AllByRecursion IsLaneCommand) lanes
   lanes_commands [] can = tt
-  lanes_commands (lane ∷ lanes) can = (lane_commands lane (recursion_from_All lane can.0), lanes_commands lanes can.1)
+  lanes_commands (lane ∷ lanes) can = (lane_commands lane (recursion_from_All (CanBeDone speech false) lane can.0), lanes_commands lanes can.1)
 
   pub are_of_lanes : (number : ℕ) (lanes : List (List Command)) → All (λ (lane : List Command). All (CanBeDone speech false) lane) lanes → AreOfLanes (lanes_tasks number 0 false lanes)
-  are_of_lanes number lanes can = of_lanes number 0 lanes (lanes_commands lanes (recursion_from_All lanes can))
+  are_of_lanes number lanes can = of_lanes number 0 lanes (lanes_commands lanes (recursion_from_All (λ (lane : List Command). All (CanBeDone speech false) lane) lanes can))
 
 -- ---- commands that were not begun
 
@@ -150,3 +152,10 @@ module _ {O Key Recon Cond : Type 0} (m : Meaning Key Recon Cond) (speech : Spee
       nil_of : (ts : List Task) → length ts ≡ 0 → ts ≡ []
       nil_of [] is = refl
       nil_of (t ∷ ts) is = absurd (omega (arith, is))
+
+-- what the pages of a state show
+pub tell_drops : {O Key Recon Cond : Type 0} (past : History O Key Recon Cond) (t : Table) (limit : ℕ) → HaveCauses past t → t.limit ≡ limit → TellDrops limit (sheets_of t) past
+tell_drops past t limit has same = (λ is. subst (λ (n : ℕ). n < length t.pages + 4) same (has.full is), has.clock)
+
+pub not_idle : (n : ℕ) (test : Bool) → test ≡ (n == 0) → test ≡ false → n ≢ 0
+not_idle n test is no none = let clash : test ≡ true = is ∙ eq-eqb n 0 none in (cc)

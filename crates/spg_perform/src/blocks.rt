@@ -50,7 +50,7 @@ fn in_turn<O: Spoken, M: Images>(
     images: &mut M,
     book: &mut Book,
     alone: bool,
-    lanes: &[List<Command>],
+    lanes: &List<List<Command>>,
 )
     requires closed { AllClosed (past_of state.old) }
     requires few { length lanes.now ≤ 32 }
@@ -63,7 +63,7 @@ fn in_turn<O: Spoken, M: Images>(
     ensures closed { AllClosed (past_of state.new) }
     ensures room { book.new.spare + length (lanes_tasks 0 0 true lanes.now) ≡ book.old.spare }
 {
-    for (number, commands) in lanes.iter().enumerate() {
+    for (number, commands) in lanes.as_slice().iter().enumerate() {
         let Some(seat) = SeatNo::new(number as u8) else {
             unreachable!()
         };
@@ -90,12 +90,11 @@ fn part<R: AllocGlobal + Threads + Wait + Sync, O: Spoken + SharedClass, M: Imag
     ensures closed { AllClosed (past_of result) }
     ensures room { book.new.spare + length (lanes_tasks 0 0 true block.now.lanes) ≡ book.old.spare }
 {
-    let lanes = block.lanes.as_slice();
     if block.together {
-        return together(rt, state, book, lanes, gate);
+        return together(rt, state, book, block.lanes.as_slice(), gate);
     }
     let mut state = state;
-    in_turn(rt.alloc(), &mut state, images, book, true, lanes);
+    in_turn(rt.alloc(), &mut state, images, book, true, &block.lanes);
     state
 }
 

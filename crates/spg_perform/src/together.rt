@@ -1,6 +1,9 @@
 // The lanes of a block beside each other.
-ghost use Rattle.std.specs.Prelude.{◌≡◌, ◌<◌, ◌≤◌, ◌+◌, ◌++◌, ◌==◌, ℕ, true, false, Option, List as Items, length, vec_len, All, IfOk, IfErr};
+ghost use Rattle.std.specs.Prelude.{◌≡◌, ◌<◌, ◌≤◌, ◌+◌, ◌++◌, ◌==◌, ℕ, true, false, Option, List as Items, length, vec_len, slice_index_or, All, IfOk, IfErr};
+ghost use Rattle.spg_rows.specs.Right.{Right};
+ghost use Rattle.spg_tree.specs.Table.{sheets_of};
 ghost use Rattle.spg_core.specs.Seen.{past_of};
+ghost use Rattle.spg_histories.specs.Causes.{TellDrops};
 ghost use Rattle.spg_script.specs.declared.command.Command.{Command as Asked};
 ghost use Rattle.spg_histories.specs.Blocks.{joined};
 ghost use Rattle.spg_histories.specs.Tasks.{lanes_tasks};
@@ -8,7 +11,7 @@ ghost use Rattle.spg_io.specs.Held.{Holding};
 ghost use Rattle.spg_perform.specs.Session.{AllClosed, LeadsOn, standing};
 ghost use Rattle.spg_perform.specs.Acted.{CanBeDone};
 ghost use Rattle.spg_perform.specs.Lanes.{refusals};
-ghost use Rattle.spg_perform.specs.Posts.{groups_of, RanBeside};
+ghost use Rattle.spg_perform.specs.Posts.{IsVacant, groups_of, RanBeside};
 
 use crate::book::Book;
 use crate::dealing::{deal, run_all};
@@ -38,8 +41,38 @@ fn are_idle(lanes: &[List<Command>]) -> bool
     true
 }
 
-/// Runs the lanes of a block beside each other, each with a pass of its own. The state is handed back as
-/// it was, and no command was begun, where there is no memory for the desk or the posts.
+/// Runs the lanes of a block beside each other at their posts, each with a pass of its own. The state is
+/// handed back as it was, and no command was begun, where there is no memory for the desk.
+fn run_lanes<R: AllocGlobal + Threads + Wait + Sync, O: Spoken + SharedClass, G: Gate>(
+    rt: &R,
+    state: State<O>,
+    lanes: &[List<Command>],
+    posts: &mut [Post<O>],
+    gate: &G,
+) -> Result<State<O>, State<O>>
+    requires closed { AllClosed (past_of state) }
+    requires some { (0 < length lanes.now) × (length lanes.now ≤ 32) }
+    requires can { All (λ (lane : Items Asked). All (CanBeDone O.speech false) lane) lanes.now }
+    requires count { length posts.old ≡ length lanes.now }
+    requires vacant { (i : ℕ) (d : _) (c : Items Asked) → i < length lanes.now → IsVacant (slice_index_or lanes.now i c) (slice_index_or posts.old i d) }
+    ensures ok { IfOk result (λ after. RanBeside O.meaning O.speech state after lanes.now (groups_of posts.new)) }
+    ensures err { IfErr result (λ back. back ≡ state) }
+    ensures count { length posts.new ≡ length posts.old }
+{
+    let before = Snapshot::of(&state);
+    match Desk::new(rt.alloc(), state, lanes.len() as u8) {
+        Ok((desk, first)) => {
+            deal(&desk, first, posts);
+            run_all(rt, &desk, gate, lanes, posts);
+            let first = gather(&desk, &before, lanes, posts);
+            Ok(desk.close(first))
+        }
+        Err((state, _)) => Err(state),
+    }
+}
+
+/// Runs the lanes of a block beside each other. Where there is no memory for the posts or the desk, the
+/// state is handed back as it was, and no command was begun.
 fn beside<R: AllocGlobal + Threads + Wait + Sync, O: Spoken + SharedClass, G: Gate>(
     rt: &R,
     state: State<O>,
@@ -47,24 +80,17 @@ fn beside<R: AllocGlobal + Threads + Wait + Sync, O: Spoken + SharedClass, G: Ga
     gate: &G,
 ) -> Result<(State<O>, Vec<Post<O>>), State<O>>
     requires closed { AllClosed (past_of state) }
-    requires count { (0 < length lanes.now) × (length lanes.now ≤ 32) }
+    requires some { (0 < length lanes.now) × (length lanes.now ≤ 32) }
     requires can { All (λ (lane : Items Asked). All (CanBeDone O.speech false) lane) lanes.now }
     ensures ok { IfOk result (λ done. RanBeside O.meaning O.speech state done.0 lanes.now (groups_of done.1.items)) }
     ensures err { IfErr result (λ back. back ≡ state) }
 {
-    let alloc = rt.alloc();
-    let Ok(mut posts) = posts_for(alloc, lanes) else {
+    let Ok(mut posts) = posts_for(rt.alloc(), lanes) else {
         return Err(state);
     };
-    let before = Snapshot::of(&state);
-    match Desk::new(alloc, state, lanes.len() as u8) {
-        Ok((desk, first)) => {
-            deal(&desk, first, &mut posts);
-            run_all(rt, &desk, gate, lanes, &mut posts);
-            let first = gather(&desk, &before, lanes, &mut posts);
-            Ok((desk.close(first), posts))
-        }
-        Err((state, _)) => Err(state),
+    match run_lanes(rt, state, lanes, &mut posts, gate) {
+        Ok(after) => Ok((after, posts)),
+        Err(before) => Err(before),
     }
 }
 
@@ -115,6 +141,17 @@ fn refuse_all(book: &mut Book, at: u64, lanes: &[List<Command>])
     }
 }
 
+/// Between calls the journal of a state is right, and the pages show why inserts were given up. Nothing is
+/// done here.
+fn shows<O: OpClass>(state: &State<O>)
+    ensures right { Right O.meaning state.now.journal }
+    ensures drops { TellDrops state.now.origin.limit (sheets_of state.now.table) (past_of state.now) }
+{
+    let _ = state.journal();
+    let _ = state.pages();
+    let _ = state.origin();
+}
+
 /// Does the lanes of a block beside each other, lane i with seat i. Where there is no memory for that,
 /// each of their commands had none.
 pub(crate) fn together<R: AllocGlobal + Threads + Wait + Sync, O: Spoken + SharedClass, G: Gate>(
@@ -133,23 +170,19 @@ pub(crate) fn together<R: AllocGlobal + Threads + Wait + Sync, O: Spoken + Share
     ensures closed { AllClosed (past_of result) }
     ensures room { book.new.spare + length (lanes_tasks 0 0 true lanes.now) ≡ book.old.spare }
 {
-    // The journal is right, and the pages show why inserts were given up.
-    let _ = state.journal();
-    let _ = state.pages();
     if are_idle(lanes) {
         return state;
     }
     match beside(rt, state, lanes, gate) {
-        Ok((state, posts)) => {
+        Ok((after, posts)) => {
+            shows(&after);
             note_all(book, posts);
-            let _ = state.journal();
-            let _ = state.pages();
-            state
+            after
         }
-        Err(state) => {
-            let at = position(&state);
-            refuse_all(book, at, lanes);
-            state
+        Err(before) => {
+            shows(&before);
+            refuse_all(book, position(&before), lanes);
+            before
         }
     }
 }

@@ -44,7 +44,7 @@ impl Gate for Held {
     }
 }
 
-fn held(lane: u8) -> Held {
+fn gate_holding(lane: u8) -> Held {
     Held {
         lane,
         come: AtomicU64::new(0),
@@ -119,7 +119,7 @@ fn runs_beside<R: AllocGlobal + Threads + Wait + Sync + Abort>(
     lane: u8,
 ) -> Result<(), Fail> {
     let script = two_lanes(rt.alloc())?;
-    let gate = held(lane);
+    let gate = gate_holding(lane);
     let ended = ran_by(rt, &run_word(), script.as_bytes(), no_fails(), &gate)?;
     let text = text_of(rt, &ended)?;
     assert_eq!(rt; is_freed(&gate), true);

@@ -1,19 +1,19 @@
 use Rattle.std.proofs.Common.{length, ap, arith}
 use Rattle.spg_perform.specs.Session.{standing}
-use Rattle.spg_perform.proofs.BlocksTasks.{IsNext, lanes_left}
+use Rattle.spg_perform.proofs.BlocksTasks.{IsNext, next_in, lanes_left}
 use Rattle.spg_perform.proofs.BlocksLeading.{lanes_lead, lanes_led}
 use Rattle.spg_perform.proofs.blocks.in_turn.Goals as goal
 
 pub lane-requires-clause-room : goal.lane-requires-clause-room
 lane-requires-clause-room g c =
     let lanes = c.args.lanes.now in
-    let next : IsNext lanes c.loop-number.number c.commands-item.result = record { within = c.loop-number-test.true; here = c.commands-item.is } in
+    let next : IsNext lanes c.loop-number.number c.commands-item.result = next_in c.as_slice-commands-items.result.now lanes c.loop-number.number c.commands-item.result c.as_slice-commands-items.ensures c.loop-number-test.true c.commands-item.is in
     omega (arith, lanes_left lanes c.loop-number.number c.commands-item.result next, ap length c.as_slice.ensures, c.loop-number.invariant.room, c.requires.room)
 
 pub loop-number-preserved : goal.loop-number-preserved
 loop-number-preserved g c =
     let lanes = c.args.lanes.now in
-    let next : IsNext lanes c.loop-number.number c.commands-item.result = record { within = c.loop-number-test.true; here = c.commands-item.is } in
+    let next : IsNext lanes c.loop-number.number c.commands-item.result = next_in c.as_slice-commands-items.result.now lanes c.loop-number.number c.commands-item.result c.as_slice-commands-items.ensures c.loop-number-test.true c.commands-item.is in
     record {
       leads = lanes_lead g.O.OpClass.meaning g.O.Spoken.speech g.O.OpClass.code_number
           (standing c.args.state.now (g.M.Images.held c.args.images.now) (g.M.Images.faults c.args.images.now) c.args.book.now.records)
@@ -29,4 +29,4 @@ returns-clause-leads g c =
     lanes_led g.O.OpClass.meaning g.O.Spoken.speech g.O.OpClass.code_number
     (standing c.args.state.now (g.M.Images.held c.args.images.now) (g.M.Images.faults c.args.images.now) c.args.book.now.records)
     (standing c.loop-number.state (g.M.Images.held c.loop-number.images) (g.M.Images.faults c.loop-number.images) c.loop-number.book.records)
-    c.loop-number.number c.args.alone c.args.lanes.now (omega (arith, c.loop-number-test.false)) c.loop-number.invariant.leads
+    c.loop-number.number c.args.alone c.args.lanes.now (omega (arith, ap length c.as_slice-commands-items.ensures, c.loop-number-test.false)) c.loop-number.invariant.leads
