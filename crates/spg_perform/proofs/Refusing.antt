@@ -1,5 +1,5 @@
 -- Records of commands that were not begun, and of lanes, as they are noted.
-use Rattle.std.proofs.Common.{◌≡◌, ◌<◌, ◌≤◌, ◌+◌, ◌==◌, ℕ, zero, suc, Bool, true, false, not, List, [], ◌∷◌, ◌++◌, length, take, refl, sym, ap, ◌∙◌, arith, length-append}
+use Rattle.std.proofs.Common.{◌≡◌, ◌<◌, ◌≤◌, ◌+◌, ◌==◌, ℕ, zero, suc, Bool, true, false, List, [], ◌∷◌, ◌++◌, length, take, refl, sym, ap, ◌∙◌, arith, length-append}
 use Rattle.std.proofs.lemmas.Bool.{eqb-true}
 use Rattle.std.proofs.lemmas.List.{append_assoc}
 use Rattle.spg_script.specs.declared.command.Command.{Command}
@@ -34,11 +34,9 @@ taken_count (lane ∷ lanes) (suc k) = omega (
 )
 
 -- a test of a lane's commands
-pub filled : (commands : List Command) (test : Bool) → test ≡ (length commands == 0) → not test ≡ true → 0 < length commands
-filled [] test is no = let clash : test ≡ true = is in (cc)
-filled (c ∷ commands) test is no = omega arith
+pub filled : (commands : List Command) (test : Bool) → test ≡ (length commands == 0) → test ≡ false → 0 < length commands
+filled [] test is told = let clash : true ≡ false = sym is ∙ told in (cc)
+filled (c ∷ commands) test is told = omega arith
 
-pub emptied : (commands : List Command) (test : Bool) → test ≡ (length commands == 0) → not test ≡ false → length commands ≡ 0
-emptied [] test is yes = refl
-emptied (c ∷ commands) true is yes = absurd (omega (arith, eqb-true (length (c ∷ commands)) 0 (sym is)))
-emptied (c ∷ commands) false is yes = let clash : true ≡ false = yes in (cc)
+pub emptied : (commands : List Command) (test : Bool) → test ≡ (length commands == 0) → test ≡ true → length commands ≡ 0
+emptied commands test is told = eqb-true (length commands) 0 (sym is ∙ told)

@@ -8,7 +8,7 @@ use Rattle.spg_perform.proofs.together.run_lanes.Goals as goal
 
 pub run_all-requires-clause-ready : goal.run_all-requires-clause-ready
 run_all-requires-clause-ready g c =
-    λ lives.
+    λ lives outlives.
     let fresh : view_of c.in-Ok.first ≡ first_view c.args.state.journal c.args.state.origin = (search rules) in
     let long : length c.deal.new.posts ≡ length c.args.posts.now = omega (arith, c.deal.auto.posts) in
     dealt_ready (desk_id c.in-Ok.desk) c.args.state.journal c.args.state.origin (length c.args.posts.now) c.args.lanes.now c.args.posts.now c.deal.new.posts (view_of c.in-Ok.first) fresh c.deal.ensures long c.requires.count c.requires.vacant
