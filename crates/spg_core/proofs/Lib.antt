@@ -1,5 +1,6 @@
 pub mod Stands
 pub mod Chooses
+pub mod Looks
 pub mod Moves
 pub mod Weights
 pub mod Trees

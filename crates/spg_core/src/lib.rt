@@ -4,12 +4,14 @@
 mod answer;
 mod bare;
 mod choose;
+mod found;
 mod inner;
 mod insert;
 mod latches;
 mod laws;
 mod look;
 mod operations;
+mod plan;
 mod recorded;
 mod sifting;
 mod slot;
