@@ -158,4 +158,4 @@ pub tell_drops : {O Key Recon Cond : Type 0} (past : History O Key Recon Cond) (
 tell_drops past t limit has same = (λ is. subst (λ (n : ℕ). n < length t.pages + 4) same (has.full is), has.clock)
 
 pub not_idle : (n : ℕ) (test : Bool) → test ≡ (n == 0) → test ≡ false → n ≢ 0
-not_idle n test is no none = let clash : test ≡ true = is ∙ eq-eqb n 0 none in (cc)
+not_idle n test is told none = let clash : true ≡ false = sym (is ∙ eq-eqb n 0 none) ∙ told in (cc)
