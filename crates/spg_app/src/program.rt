@@ -67,13 +67,7 @@ fn read_script<S: Source>(alloc: Global, source: &mut S) -> Result<Script, Statu
 }
 
 /// Reads a script, does its commands and writes the text of the run.
-fn run_script<
-    R: AllocGlobal + Threads + Wait + Sync,
-    S: Source,
-    K: Sink,
-    M: Images,
-    G: Gate,
->(
+fn run_script<R: AllocGlobal + Threads + Wait + Sync, S: Source, K: Sink, M: Images, G: Gate>(
     rt: &R,
     limit: u32,
     source: &mut S,

@@ -160,7 +160,7 @@ module _ {O Key Recon Cond : Type 0} where
         let le : length old ≤ length s.seen = long_grew old s.seen (commands_grew m speech seat old s.seen cs rs s.done) in
         let le2 : length s.seen ≤ length later = long_grew s.seen later s.grew in
         let parts : mine ≡ mine ++ own seat (drop (length s.seen) later) = sym all ∙ own_drop seat (length old) (length s.seen) later le
-            ∙ ap (λ l. own seat l ++ own seat (drop (length s.seen) later)) (up_to_grew (length old) s.seen later s.grew le) ∙ ap (λ l. l ++ own seat (drop (length s.seen) later)) s.whole in
+        ∙ ap (λ l. own seat l ++ own seat (drop (length s.seen) later)) (up_to_grew (length old) s.seen later s.grew le) ∙ ap (λ l. l ++ own seat (drop (length s.seen) later)) s.whole in
         record { seen = s.seen; done = s.done; watched = record { grew = s.grew; none = none_behind mine (own seat (drop (length s.seen) later)) parts } }
 
     by_lane : (seat : ℕ) (old journal : List (Event O Key Recon Cond)) (lanes : List (List Command)) (posts : List (Post O Key Recon Cond)) → length posts ≡ length lanes

@@ -127,7 +127,7 @@ module _ {O Key Recon Cond : Type 0} (m : Meaning Key Recon Cond) (speech : Spee
         let block : BlockOf speech s0.journal s1.journal tasks (joined groups) = (runs_grow O Key Recon Cond).lanes speech s0.journal s1.journal ran.grew.0 ran.grew.1 number false lanes groups (lanes_ran m speech number 0 s0.journal s1.journal lanes groups ran.done) in
         subst (λ (rs : List Record). LeadsOn m speech code (standing s0 held faults records) (standing s1 held faults rs) tasks) (sym are)
         (leads_by (joined groups) tasks block (lanes_full m speech s0.origin number 0 s0.journal s1.journal lanes groups ran.done) (are_of_lanes speech number lanes can)
-            (λ none. absurd (some (lanes_length 0 0 true number 0 false lanes ∙ ap length none))) right drops ran.closed ran.made)
+        (λ none. absurd (some (lanes_length 0 0 true number 0 false lanes ∙ ap length none))) right drops ran.closed ran.made)
 
   -- none could be begun
   pub leads_refused : (code : ℕ) (s0 : Seen O Key Recon Cond) (held : Option Holding) (faults : ℕ) (records : List Record) (number : ℕ) (lanes : List (List Command)) (noted : List Record) → All (λ (lane : List Command). All (CanBeDone speech false) lane) lanes
@@ -139,7 +139,7 @@ module _ {O Key Recon Cond : Type 0} (m : Meaning Key Recon Cond) (speech : Spee
       let added : List Record = refusals (length s0.journal) (length (lanes_tasks 0 0 true lanes)) in
       subst (λ (rs : List Record). LeadsOn m speech code (standing s0 held faults records) (standing s0 held faults rs) tasks) (sym are)
       (leads_by code s0 s0 held faults records added tasks ((runs_grow O Key Recon Cond).refused speech s0.journal tasks added (are_refused (length s0.journal) tasks (length (lanes_tasks 0 0 true lanes)) count))
-          (refused_full s0.origin s0.journal (length s0.journal) tasks (length (lanes_tasks 0 0 true lanes)) count) (are_of_lanes speech number lanes can) (λ none. refl) right drops closed refl)
+      (refused_full s0.origin s0.journal (length s0.journal) tasks (length (lanes_tasks 0 0 true lanes)) count) (are_of_lanes speech number lanes can) (λ none. refl) right drops closed refl)
 
   -- there was none
   pub leads_none : (code : ℕ) (s0 : Seen O Key Recon Cond) (held : Option Holding) (faults : ℕ) (records : List Record) (number : ℕ) (lanes : List (List Command)) → length (lanes_tasks 0 0 true lanes) ≡ 0

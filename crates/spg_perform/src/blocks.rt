@@ -104,14 +104,7 @@ pub(crate) fn parts<
     O: Spoken + SharedClass,
     M: Images,
     G: Gate,
->(
-    rt: &R,
-    state: State<O>,
-    images: &mut M,
-    book: &mut Book,
-    blocks: &[Part],
-    gate: &G,
-) -> State<O>
+>(rt: &R, state: State<O>, images: &mut M, book: &mut Book, blocks: &[Part], gate: &G) -> State<O>
     requires closed { AllClosed (past_of state) }
     requires can { All (CanBlock O.speech) blocks.now }
     requires room { length (parts_tasks 0 blocks.now) ≤ book.old.spare }

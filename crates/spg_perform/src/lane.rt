@@ -101,12 +101,7 @@ fn insert<R: Wait, O: Spoken>(
 }
 
 #[tactic(auto, using(crate::proofs::LaneTold::went_delete))]
-fn delete<R: Wait, O: Spoken>(
-    rt: &R,
-    desk: &Desk<O>,
-    pass: Pass<O>,
-    row: Row,
-) -> (Pass<O>, Record)
+fn delete<R: Wait, O: Spoken>(rt: &R, desk: &Desk<O>, pass: Pass<O>, row: Row) -> (Pass<O>, Record)
     requires own { desk_of pass ≡ desk_id desk.now }
     ensures own { desk_of result.0 ≡ desk_of pass }
     ensures went { WentOne O.meaning O.speech (view_of pass) (view_of result.0) (asked.Delete row) result.1 }

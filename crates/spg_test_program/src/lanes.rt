@@ -2,12 +2,11 @@ use crate::program::{Ended, Open, no_fails, ran_by, run_word};
 use spg_app::{Gate, Status};
 use std::alloc::{AllocError, Global};
 use std::process::Abort;
-use std::str;
 use std::sync::Wait;
 use std::sync::atomic::{AtomicU64, Ordering};
 use std::test::Fail;
-use std::thread;
 use std::thread::Threads;
+use std::{str, thread};
 
 /// How often a lane looks whether the other has come, before it goes on without it.
 const TURNS: u32 = 2_000_000;
@@ -192,10 +191,14 @@ fn lanes_that_put_nothing(rt: HostRuntime) -> Result<(), Fail> {
 
 #[test]
 fn lanes_without_a_command(rt: HostRuntime) -> Result<(), Fail> {
-    let script = "class radix\ninsert 1.1 \"a\"\ntogether\nlane\nlane\nend\ntogether\nlane\nlane\ndelete 1.1\nlane\nend\nstat\n";
+    let script =
+        "class radix\ninsert 1.1 \"a\"\ntogether\nlane\nlane\nend\ntogether\nlane\nlane\ndelete 1.1\nlane\nend\nstat\n";
     let ended = ran_by(&rt, &run_word(), script.as_bytes(), no_fails(), &Open)?;
     let text = text_of(&rt, &ended)?;
-    assert_eq!(rt; text, "1 0 2 added\n2 2 3 killed\n3 3 3 stat pages 3 inner 0 leaf 1 redirect 0 dead 0 placeholder 0 clock 0\njournal 3\n0 0 open insert 1.1 \"a\"\n1 0 put 1.1\n2 1 kill 1.1\n");
+    assert_eq!(rt;
+        text,
+        "1 0 2 added\n2 2 3 killed\n3 3 3 stat pages 3 inner 0 leaf 1 redirect 0 dead 0 placeholder 0 clock 0\njournal 3\n0 0 open insert 1.1 \"a\"\n1 0 put 1.1\n2 1 kill 1.1\n"
+    );
     Ok(())
 }
 
@@ -216,7 +219,8 @@ fn one_block_after_another(rt: HostRuntime) -> Result<(), Fail> {
 }
 
 /// A market day: three helpers at once, then two.
-const MARKET: &str = "class quad\ninsert 1.1 10,10\ninsert 1.2 20,10\ninsert 1.3 30,10\ntogether\nlane\ninsert 2.1 10,20\ninsert 2.2 20,20\ninsert 2.3 30,20\ninsert 2.4 40,20\nlane\ndelete 1.2\nvacuum\ninsert 1.2 25,15\nlane\nfind where in 0,0,50,50\nfind where below 15\nfind all\nend\ntogether\nlane\ndelete 2.4\nfind where above 15\nlane\nvacuum\nfind all\nend\nfind all\nstat\n";
+const MARKET: &str =
+    "class quad\ninsert 1.1 10,10\ninsert 1.2 20,10\ninsert 1.3 30,10\ntogether\nlane\ninsert 2.1 10,20\ninsert 2.2 20,20\ninsert 2.3 30,20\ninsert 2.4 40,20\nlane\ndelete 1.2\nvacuum\ninsert 1.2 25,15\nlane\nfind where in 0,0,50,50\nfind where below 15\nfind all\nend\ntogether\nlane\ndelete 2.4\nfind where above 15\nlane\nvacuum\nfind all\nend\nfind all\nstat\n";
 
 #[test]
 fn a_market_day(rt: HostRuntime) -> Result<(), Fail> {

@@ -23,5 +23,5 @@ in_turn-requires-clause-can g c =
 pub returns-clause-leads : goal.returns-clause-leads
 returns-clause-leads g c = λ number.
     subst (λ (t : Bool). LeadsOn g.O.OpClass.meaning g.O.Spoken.speech g.O.OpClass.code_number
-      (standing c.args.state (g.M.Images.held c.args.images.now) (g.M.Images.faults c.args.images.now) c.args.book.now.records)
-      (standing c.in_turn.new.state (g.M.Images.held c.in_turn.new.images) (g.M.Images.faults c.in_turn.new.images) c.in_turn.new.book.records) (lanes_tasks number 0 (not t) c.args.block.now.lanes)) (sym c.if-block.false) (c.in_turn.ensures.leads number)
+    (standing c.args.state (g.M.Images.held c.args.images.now) (g.M.Images.faults c.args.images.now) c.args.book.now.records)
+    (standing c.in_turn.new.state (g.M.Images.held c.in_turn.new.images) (g.M.Images.faults c.in_turn.new.images) c.in_turn.new.book.records) (lanes_tasks number 0 (not t) c.args.block.now.lanes)) (sym c.if-block.false) (c.in_turn.ensures.leads number)

@@ -37,5 +37,5 @@ returns-in-Ok-clause-ok g c =
     let is : c.of-before.result.value ≡ c.args.state = (search rules) in
     subst (λ (s : Seen g.row.O.Denot g.row.O-Key.Denot g.row.O-Recon.Denot g.row.O-Cond.Denot). RanBeside g.O.OpClass.meaning g.O.Spoken.speech s c.close.result c.args.lanes.now (groups_of c.gather-first.new.posts)) is
     (ran_beside g.O.OpClass.meaning g.O.Spoken.speech c.of-before.result.value c.close.result c.args.lanes.now c.run_all.new.posts c.gather-first.new.posts (view_of c.gather-first.result)
-        (omega (arith, count, c.requires.count)) after c.requires.some.0 c.gather-first.ensures.all c.gather-first.ensures.same
-        c.close.ensures.origin c.close.ensures.list c.close.ensures.first c.close.ensures.others c.close.ensures.idle)
+    (omega (arith, count, c.requires.count)) after c.requires.some.0 c.gather-first.ensures.all c.gather-first.ensures.same
+    c.close.ensures.origin c.close.ensures.list c.close.ensures.first c.close.ensures.others c.close.ensures.idle)
