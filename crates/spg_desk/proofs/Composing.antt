@@ -1,5 +1,6 @@
 -- Sections one after another.
-use Rattle.std.proofs.Common.{◌≡◌, ◌<◌, ◌≤◌, ◌+◌, ◌⊎◌, inl, inr, ℕ, List, [], ◌∷◌, ◌++◌, length, map, refl, sym, ap, ◌∙◌, subst, arith}
+use Rattle.std.proofs.Common.{◌≡◌, ◌<◌, ◌≤◌, ◌+◌, ◌⊎◌, inl, inr, ℕ, suc, cond, List, [], ◌∷◌, ◌++◌, length, map, drop, refl, sym, ap, ◌∙◌, subst, arith}
+use Rattle.std.proofs.lemmas.Bool.{eq-eqb}
 use Rattle.std.proofs.lemmas.List.{append_assoc, append-nil}
 use Rattle.spg_base.specs.Row.{RowAt}
 use Rattle.spg_base.specs.declared.names.Span.{Span}
@@ -54,16 +55,24 @@ module _ {O Key Recon Cond : Type 0} where
 
   -- ---- vacuums
 
-  pub own_sweeps : (n was : ℕ) (mine : List (Event O Key Recon Cond)) (rows : List RowAt) → swept_after n was (mine ++ OpenVacuum n ∷ map (λ (r : RowAt). Sweep n r) rows) ≡ length rows
-  own_sweeps n was mine rows = swept_parts n was mine (OpenVacuum n ∷ map (λ (r : RowAt). Sweep n r) rows) ∙ (opened (swept_after n was mine) ∙ (from 0 rows))
-    where
-      opened : (k : ℕ) → swept_after n k (OpenVacuum n ∷ map (λ (r : RowAt). Sweep n r) rows) ≡ swept_after n 0 (map (λ (r : RowAt). Sweep n r) rows)
-      opened k = rw (eq-eqb n n refl) refl
+  -- the sweeps of these rows
+  abbrev pub swept_rows : ℕ → List RowAt → List (Event O Key Recon Cond)
+  swept_rows n rows = map (λ (r : RowAt). Sweep n r) rows
 
-      from : (k : ℕ) (rs : List RowAt) → swept_after n k (map (λ (r : RowAt). Sweep n r) rs) ≡ k + length rs
-      from k [] = omega arith
-      from k (r ∷ rs) = let same : (k + 1) + length rs ≡ k + suc (length rs) = omega arith in ap (λ b. swept_after n (cond b (k + 1) k) (map (λ (x : RowAt). Sweep n x) rs)) (eq-eqb n n refl) ∙ (from (k + 1) rs ∙ same)
+  from_none : (n k : ℕ) (rs : List RowAt) (es : List (Event O Key Recon Cond)) → es ≡ swept_rows n rs → swept_after n k es ≡ k + length rs
+  from_none n k [] es is = let zeroth : k ≡ k + 0 = omega arith in ap (swept_after n k) is ∙ zeroth
+  from_none n k (r ∷ rs) es is =
+      let same : (k + 1) + length rs ≡ k + suc (length rs) = omega arith in
+      ap (swept_after n k) is ∙ (ap (λ b. swept_after n (cond b (k + 1) k) (swept_rows n rs)) (eq-eqb n n refl) ∙ (from_none n (k + 1) rs (swept_rows n rs) refl ∙ same))
 
-  pub sweeps_on : (n : ℕ) (rows more : List RowAt) → map (λ (r : RowAt). Sweep {O = O} {Key = Key} {Recon = Recon} {Cond = Cond} n r) (rows ++ more) ≡ map (λ (r : RowAt). Sweep n r) rows ++ map (λ (r : RowAt). Sweep n r) more
+  from_open : (n k : ℕ) (es : List (Event O Key Recon Cond)) → swept_after n k (OpenVacuum n ∷ es) ≡ swept_after n 0 es
+  from_open n k es = ap (λ b. swept_after n (cond b 0 k) es) (eq-eqb n n refl)
+
+  pub own_sweeps : (n was : ℕ) (mine : List (Event O Key Recon Cond)) (rows : List RowAt) → swept_after n was (mine ++ OpenVacuum n ∷ swept_rows n rows) ≡ length rows
+  own_sweeps n was mine rows =
+      let zeroth : 0 + length rows ≡ length rows = omega arith in
+      swept_parts n was mine (OpenVacuum n ∷ swept_rows n rows) ∙ (from_open n (swept_after n was mine) (swept_rows n rows) ∙ (from_none n 0 rows (swept_rows n rows) refl ∙ zeroth))
+
+  pub sweeps_on : (n : ℕ) (rows more : List RowAt) → swept_rows n (rows ++ more) ≡ swept_rows n rows ++ swept_rows n more
   sweeps_on n [] more = refl
   sweeps_on n (r ∷ rows) more = ap (λ l. Sweep n r ∷ l) (sweeps_on n rows more)

@@ -3,12 +3,12 @@ use Rattle.std.proofs.Common.{◌≡◌, ◌≢◌, ◌<◌, ◌≤◌, ◌+◌,
 use Rattle.std.specs.List.{AllByRecursion}
 use Rattle.std.proofs.lemmas.Bool.{eq-eqb}
 use Rattle.std.proofs.lemmas.Bool.Decides.{eqb_tells}
-use Rattle.std.proofs.lemmas.List.{append_assoc, append-nil, drop-append-le, take-append-le, drop_at, take_all, nil_from_length}
+use Rattle.std.proofs.lemmas.List.{append_assoc, append-nil, drop-append-le, take-append-le, drop_at, take_at, take_all, nil_from_length}
 use Rattle.spg_base.specs.declared.names.Span.{Span}
 use Rattle.spg_base.specs.declared.recorded.Origin.{Origin}
 use Rattle.spg_opclass.specs.Meaning.{Meaning}
 use Rattle.spg_rows.specs.declared.event.Event.{Event}
-use Rattle.spg_rows.specs.History.{History, nothing, open_of, seat_of, own}
+use Rattle.spg_rows.specs.History.{History, Opened, nothing, inserting, scanning, vacuuming, open_of, seat_of, own}
 use Rattle.spg_rows.specs.Right.{Right}
 use Rattle.spg_turn.specs.declared.rule.View.{View}
 use Rattle.spg_turn.specs.Views.{StartsWith, by_seat, kept_of, longer, first_view, after_split, dealt, after_join, grown}
@@ -48,15 +48,20 @@ module _ {O Key Recon Cond : Type 0} where
   long_on : (seen list : List (Event O Key Recon Cond)) → GrewTo seen list → length seen ≤ length list
   long_on seen list grew = omega (arith, ap length grew.1, length-append seen grew.0)
 
+  -- what the pass added, and what of it was seen besides
+  known_more : (v : View (Event O Key Recon Cond)) → IsPassed v → own_since v ≡ v.mine ++ drop (length v.mine) (own_since v)
+  known_more v p = sym (take-append-drop (length v.mine) (own_since v)) ∙ ap (λ l. l ++ drop (length v.mine) (own_since v)) p.known
+
   -- no event of the seat came since
   pub turn_watched : (v : View (Event O Key Recon Cond)) (lent : List (Event O Key Recon Cond)) → IsPassed v → GrewTo v.seen lent → own v.number (drop v.base lent) ≡ v.mine → Watched v.number v.seen lent
   turn_watched v lent passed grew mine =
       let more = grew.0 in
-      let all : (v.mine ++ passed.known.0) ++ own v.number more ≡ v.mine =
-          ap (λ l. l ++ own v.number more) (sym passed.known.1) ∙ (sym (own_on v.number v.base v.seen more passed.based) ∙ (ap (λ l. own v.number (drop v.base l)) (sym grew.1) ∙ mine)) in
+      let rest = drop (length v.mine) (own_since v) in
+      let all : (v.mine ++ rest) ++ own v.number more ≡ v.mine =
+          ap (λ l. l ++ own v.number more) (sym (known_more v passed)) ∙ (sym (own_on v.number v.base v.seen more passed.based) ∙ (ap (λ l. own v.number (drop v.base l)) (sym grew.1) ∙ mine)) in
       record {
         grew = grew;
-        none = ap (λ l. own v.number (drop (length v.seen) l)) grew.1 ∙ (ap (own v.number) (drop_at v.seen more (length v.seen) refl) ∙ cancel v.mine passed.known.0 (own v.number more) all);
+        none = ap (λ l. own v.number (drop (length v.seen) l)) grew.1 ∙ (ap (own v.number) (drop_at v.seen more (length v.seen) refl) ∙ cancel v.mine rest (own v.number more) all);
       }
 
   pub turn_lent : (v : View (Event O Key Recon Cond)) (lent : List (Event O Key Recon Cond)) → IsPassed v → GrewTo v.seen lent → own v.number (drop v.base lent) ≡ v.mine → IsLent (record v { seen = lent })
@@ -100,6 +105,13 @@ module _ {O Key Recon Cond : Type 0} where
       take_nothing [] = refl
       take_nothing (x ∷ xs) = take_nothing xs
 
+  pub turn_left : (m : Meaning Key Recon Cond) (h w : View (Event O Key Recon Cond)) (journal : List (Event O Key Recon Cond)) (from to : ℕ) → IsLent h → (more : List (Event O Key Recon Cond)) × (journal ≡ h.seen ++ more) × AllByRecursion (λ e. seat_of e ≡ h.number) more → Right m journal
+      → w ≡ grown h journal → from ≡ length h.seen → to ≡ length journal → Told m h w (span_at from to) (drop (length h.seen) journal)
+  turn_left m h w journal from to lent (more, is, each) right view begins ends =
+      let told : Told m h w (span_at (length h.seen) (length journal)) more = turn_told m h w journal more lent is each right view in
+      let added : more ≡ drop (length h.seen) journal = sym (ap (drop (length h.seen)) is ∙ drop_at h.seen more (length h.seen) refl) in
+      subst (λ (z : ℕ × ℕ). Told m h w (span_at z.0 z.1) (drop (length h.seen) journal)) (λ i. (sym begins i, sym ends i)) (subst (Told m h w (span_at (length h.seen) (length journal))) added told)
+
   -- the pass knows then what it must
   pub told_passed : (m : Meaning Key Recon Cond) (v w : View (Event O Key Recon Cond)) (span : Span) (events : List (Event O Key Recon Cond)) → v.base ≤ length v.seen → ((n : ℕ) → open_of n (past_at v.base v.seen) ≡ nothing) → ((n : ℕ) → doing_after n idle (kept_of v.kept n) ≡ idle)
       → Told m v w span events → IsPassed w
@@ -108,7 +120,7 @@ module _ {O Key Recon Cond : Type 0} where
       let long = long_on v.seen w.seen told.called.grew in
       record {
         based = omega arith;
-        known = ([], told.whole ∙ sym (append-nil w.mine));
+        known = ap (take (length w.mine)) told.whole ∙ take_all (length w.mine) w.mine (omega arith);
         before = λ n. ap (λ b. open_of n (past_at b w.seen)) base ∙ (ap (open_of n) (past_on v.base v.seen w.seen fits told.called.grew) ∙ before n);
         kept = λ n. ap (λ (z : View (Event O Key Recon Cond)). doing_after n idle (kept_of z.kept n)) told.same ∙ kept n;
       }
@@ -145,7 +157,7 @@ module _ {O Key Recon Cond : Type 0} where
   pub first_passed : (journal : List (Event O Key Recon Cond)) (origin : Origin) → ((n : ℕ) → open_of n (reverse journal) ≡ nothing) → IsPassed (first_view journal origin)
   first_passed journal origin none = record {
     based = omega arith;
-    known = (own 0 (drop (length journal) journal), refl);
+    known = refl;
     before = λ n. ap (λ l. open_of n (reverse l)) (take_all (length journal) journal (omega arith)) ∙ none n;
     kept = λ n. refl;
   }
@@ -154,15 +166,18 @@ module _ {O Key Recon Cond : Type 0} where
   split_passed v p = record { based = p.based; known = p.known; before = p.before; kept = p.kept }
 
   pub dealt_passed : (v : View (Event O Key Recon Cond)) → IsPassed v → IsPassed (dealt v)
-  dealt_passed v p = record { based = p.based; known = (own v.given (drop v.base v.seen), refl); before = p.before; kept = λ n. refl }
+  dealt_passed v p = record { based = p.based; known = refl; before = p.before; kept = λ n. refl }
 
   pub join_passed : (v w : View (Event O Key Recon Cond)) → IsPassed v → doing_at w ≡ idle → StartsWith (longer v.seen w.seen) v.seen → IsPassed (after_join v w)
   join_passed v w p done begins =
       let long = long_on v.seen (longer v.seen w.seen) begins in
       let fits = p.based in
+      let rest = drop (length v.mine) (own_since v) in
       record {
         based = omega arith;
-        known = (p.known.0 ++ own v.number begins.0, ap (λ l. own v.number (drop v.base l)) begins.1 ∙ (own_on v.number v.base v.seen begins.0 fits ∙ (ap (λ l. l ++ own v.number begins.0) p.known.1 ∙ append_assoc v.mine p.known.0 (own v.number begins.0))));
+        known =
+            ap (λ l. take (length v.mine) (own v.number (drop v.base l))) begins.1 ∙ (ap (take (length v.mine)) (own_on v.number v.base v.seen begins.0 fits ∙ (ap (λ l. l ++ own v.number begins.0) (known_more v p) ∙ append_assoc v.mine rest (own v.number begins.0)))
+            ∙ take_at v.mine (rest ++ own v.number begins.0) (length v.mine) refl);
         before = λ n. ap (open_of n) (past_on v.base v.seen (longer v.seen w.seen) fits begins) ∙ p.before n;
         kept = λ n. elim (eqb_tells w.number n) [
           | inl same ↦ ap (λ b. doing_after n idle (cond b w.mine (kept_of v.kept n))) same.0 ∙ (ap (λ k. doing_after k idle w.mine) (sym same.1) ∙ done)
@@ -170,10 +185,16 @@ module _ {O Key Recon Cond : Type 0} where
         ];
       }
 
+  idle_nothing : (has : Opened O Key Recon Cond) → doing_of has ≡ idle → has ≡ nothing
+  idle_nothing nothing does = refl
+  idle_nothing (inserting row key) does = absurd (cc)
+  idle_nothing (scanning before query) does = absurd (cc)
+  idle_nothing (vacuuming before) does = absurd (cc)
+
   -- nothing is open in the journal that a first pass has seen, once each other pass was joined
   pub closed_idle : (v : View (Event O Key Recon Cond)) (journal : List (Event O Key Recon Cond)) → journal ≡ v.seen → v.number ≡ 0 → IsPassed v → doing_at v ≡ idle
-      → by_seat (λ e. seat_of e) 0 (drop v.base journal) ≡ v.mine → ((n : ℕ) → 0 < n → by_seat (λ e. seat_of e) n (drop v.base journal) ≡ kept_of v.kept n) → (n : ℕ) → doing_of (open_of n (reverse journal)) ≡ idle
-  closed_idle v journal is zeroth p done mine others n = go n (of_own n)
+      → by_seat (λ e. seat_of e) 0 (drop v.base journal) ≡ v.mine → ((n : ℕ) → 0 < n → by_seat (λ e. seat_of e) n (drop v.base journal) ≡ kept_of v.kept n) → (n : ℕ) → open_of n (reverse journal) ≡ nothing
+  closed_idle v journal is zeroth p done mine others n = idle_nothing (open_of n (reverse journal)) (go n (of_own n))
     where
       of_own : (k : ℕ) → doing_of (open_of k (reverse journal)) ≡ doing_after k idle (own k (drop v.base journal))
       of_own k =

@@ -1,5 +1,5 @@
 -- What the sections of a call do to the index, and what its seat is doing between them.
-use Rattle.std.specs.Prelude.{◌≡◌, ◌<◌, ◌++◌, ℕ, List, [], ◌∷◌, length, map, is_none, Option, Some, None, Result, Ok, Err, ⊤}
+use Rattle.std.specs.Prelude.{◌≡◌, ◌<◌, ◌++◌, ℕ, Bool, true, false, List, [], ◌∷◌, length, map, is_none, Option, Some, None, Result, Ok, Err, ⊤}
 use Rattle.spg_base.specs.Row.{RowAt}
 use Rattle.spg_base.specs.declared.names.Span.{Span}
 use Rattle.spg_base.specs.declared.memory.Memory.{Memory}
@@ -7,7 +7,7 @@ use Rattle.spg_opclass.specs.Meaning.{Meaning}
 use Rattle.spg_opclass.specs.declared.query.Query.{Query}
 use Rattle.spg_forest.specs.Walk.{weight_of}
 use Rattle.spg_rows.specs.declared.event.Event.{Event}
-use Rattle.spg_rows.specs.declared.event.Event.TheVariants.{OpenInsert, Put, Drop, CloseScan, OpenVacuum, Sweep, CloseVacuum, Leave}
+use Rattle.spg_rows.specs.declared.event.Event.TheVariants.{OpenInsert, Put, Drop, Kill, OpenScan, CloseScan, OpenVacuum, Sweep, CloseVacuum, Leave}
 use Rattle.spg_rows.specs.declared.event.Why.TheVariants as cause
 use Rattle.spg_rows.specs.History.{History, open_of, vacuuming}
 use Rattle.spg_rows.specs.Rows.{held_by}
@@ -36,6 +36,22 @@ use Rattle.spg_desk.specs.declared.ended.Swept.TheVariants as swept
 use Rattle.spg_desk.specs.Knowing.{doing_at}
 use Rattle.spg_desk.specs.Told.{Told}
 use Rattle.spg_desk.specs.Answers.{swept_then}
+
+-- how a section with this outcome ended the insert, if it did
+abbrev pub ended_of : InsertOut → Option Ended
+ended_of outs.Descended = None
+ended_of outs.Restructured = None
+ended_of (outs.Restarted block by) = None
+ended_of outs.Put = Some ended.Put
+
+abbrev no_memory : Memory
+no_memory = record {}
+
+-- how a section of a vacuum ended it, if it did
+abbrev pub sweep_end : Swept → Option (Result ℕ Memory)
+sweep_end swept.On = None
+sweep_end (swept.Closed count) = Some (Ok count)
+sweep_end swept.Refused = Some (Err no_memory)
 
 module _ {O Key Recon Cond : Type 0} where
   -- these events were added, and nothing else of the journal changed
@@ -70,6 +86,29 @@ module _ {O Key Recon Cond : Type 0} where
   left_by n (scans query) = Leave n
   left_by n sweeps = Leave n
 
+  -- the events of a delete
+  abbrev pub kill_events : ℕ → RowAt → Result Bool Memory → List (Event O Key Recon Cond)
+  kill_events n row (Ok true) = Kill n row ∷ []
+  kill_events n row (Ok false) = []
+  kill_events n row (Err e) = []
+
+  -- the events of an open
+  abbrev pub open_events : ℕ → RowAt → Option Key → Result (Unit {0}) OpenRefused → List (Event O Key Recon Cond)
+  open_events n row key (Ok x) = OpenInsert n row key ∷ []
+  open_events n row key (Err e) = []
+
+  abbrev pub scan_events : ℕ → Query O Key Recon Cond → Result (Unit {0}) Memory → List (Event O Key Recon Cond)
+  scan_events n query (Ok x) = OpenScan n query ∷ []
+  scan_events n query (Err e) = []
+
+  abbrev pub vacuum_events : ℕ → Result (Unit {0}) VacuumRefused → List (Event O Key Recon Cond)
+  vacuum_events n (Ok x) = OpenVacuum n ∷ []
+  vacuum_events n (Err e) = []
+
+  -- a seat has a vacuum open
+  abbrev pub HasVacuum : History O Key Recon Cond → ℕ → Type 0
+  HasVacuum past seat = (before : History O Key Recon Cond) × (open_of seat past ≡ vacuuming before)
+
   -- ---- inserts
 
   -- the event that ends the insert of a row
@@ -78,13 +117,6 @@ module _ {O Key Recon Cond : Type 0} where
   ending n row ended.Full = Drop n row cause.Full
   ending n row ended.Clock = Drop n row cause.Clock
   ending n row ended.Refused = Drop n row cause.Given
-
-  -- how a section with this outcome ended the insert, if it did
-  abbrev pub ended_of : InsertOut → Option Ended
-  ended_of outs.Descended = None
-  ended_of outs.Restructured = None
-  ended_of (outs.Restarted block by) = None
-  ended_of outs.Put = Some ended.Put
 
   abbrev pub endings : ℕ → RowAt → Option Ended → List (Event O Key Recon Cond)
   endings n row None = []
@@ -114,6 +146,13 @@ module _ {O Key Recon Cond : Type 0} where
   readings n (read.Sift item copied) = []
   readings n (read.Closed rows) = CloseScan n rows ∷ []
   readings n read.Refused = Leave n ∷ []
+
+  -- how a section of a scan closed it, if it did
+  abbrev pub closed_by : Read O Key Recon Cond → Option (Result (List RowAt) Memory)
+  closed_by read.On = None
+  closed_by (read.Sift item copied) = None
+  closed_by (read.Closed rows) = Some (Ok rows)
+  closed_by read.Refused = Some (Err no_memory)
 
   abbrev pub closings : ℕ → Result (List RowAt) Memory → List (Event O Key Recon Cond)
   closings n (Ok rows) = CloseScan n rows ∷ []

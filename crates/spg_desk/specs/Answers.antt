@@ -1,6 +1,14 @@
 -- What a call of the desk answers, and what it has done then.
-use Rattle.std.specs.Prelude.{◌≡◌, ◌<◌, ◌⊎◌, ◌++◌, ℕ, false, List, [], ◌∷◌, length, map, is_none, Option, Some}
+use Rattle.std.specs.Prelude.{◌≡◌, ◌<◌, ◌⊎◌, ◌++◌, ℕ, Bool, true, false, List, [], ◌∷◌, length, map, is_none, Option, Some, Result, Ok, Err}
 use Rattle.spg_base.specs.Row.{RowAt}
+use Rattle.spg_base.specs.declared.names.Span.{Span}
+use Rattle.spg_base.specs.declared.memory.Memory.{Memory}
+use Rattle.spg_core.specs.declared.answer.OpenRefused.{OpenRefused}
+use Rattle.spg_core.specs.declared.answer.OpenRefused.TheVariants as open_refused
+use Rattle.spg_core.specs.declared.answer.VacuumRefused.{VacuumRefused}
+use Rattle.spg_core.specs.declared.answer.VacuumRefused.TheVariants as vacuum_refused
+use Rattle.spg_desk.specs.declared.ended.Ended.{Ended}
+use Rattle.spg_desk.specs.declared.ended.Ended.TheVariants as ended
 use Rattle.spg_opclass.specs.Meaning.{Meaning}
 use Rattle.spg_opclass.specs.declared.query.Query.{Query}
 use Rattle.spg_forest.specs.Walk.{weight_of}
@@ -22,6 +30,35 @@ use Rattle.spg_desk.specs.declared.answer.FindAnswer.TheVariants as finds
 use Rattle.spg_desk.specs.declared.answer.VacuumAnswer.{VacuumAnswer}
 use Rattle.spg_desk.specs.declared.answer.VacuumAnswer.TheVariants as vacuums
 use Rattle.spg_desk.specs.Told.{Told}
+
+-- what a call answers, by how it went
+abbrev pub kill_answer : Result Bool Memory → Span → KillAnswer
+kill_answer (Ok true) span = kills.Killed span
+kill_answer (Ok false) span = kills.NotLive span
+kill_answer (Err e) span = kills.Memory span
+
+abbrev pub refused_insert : OpenRefused → Span → InsertAnswer
+refused_insert open_refused.RowUsed span = inserts.RowUsed span
+refused_insert (open_refused.RowHeld by) span = inserts.RowHeld by span
+refused_insert open_refused.Memory span = inserts.Memory span
+
+abbrev pub ended_insert : Ended → Span → InsertAnswer
+ended_insert ended.Put span = inserts.Added span
+ended_insert ended.Full span = inserts.IndexFull span
+ended_insert ended.Clock span = inserts.ClockFull span
+ended_insert ended.Refused span = inserts.Memory span
+
+abbrev pub ended_find : Result (List RowAt) Memory → Span → FindAnswer
+ended_find (Ok rows) span = finds.Found rows span
+ended_find (Err e) span = finds.Memory span
+
+abbrev pub refused_vacuum : VacuumRefused → Span → VacuumAnswer
+refused_vacuum (vacuum_refused.Open by) span = vacuums.Open by span
+refused_vacuum vacuum_refused.Memory span = vacuums.Memory span
+
+abbrev pub ended_vacuum : Result ℕ Memory → Span → VacuumAnswer
+ended_vacuum (Ok swept) span = vacuums.Vacuumed swept span
+ended_vacuum (Err e) span = vacuums.Memory span
 
 module _ {O Key Recon Cond : Type 0} (m : Meaning Key Recon Cond) (v w : View (Event O Key Recon Cond)) where
   -- the keys of the tree of the insert that were ever inserted take more than 8,160 bytes

@@ -1,10 +1,10 @@
 -- What a pass knows of its seat and of the others, between calls and between the sections of a call.
-use Rattle.std.specs.Prelude.{◌≡◌, ◌≤◌, ℕ, List, length, drop}
+use Rattle.std.specs.Prelude.{◌≡◌, ◌≤◌, ℕ, List, length, take, drop}
 use Rattle.spg_rows.specs.declared.event.Event.{Event}
 use Rattle.spg_rows.specs.History.{nothing, open_of, own}
 use Rattle.spg_turn.specs.declared.rule.View.{View}
 use Rattle.spg_turn.specs.Views.{kept_of}
-use Rattle.spg_calls.specs.Calls.{past_at, GrewTo}
+use Rattle.spg_calls.specs.Calls.{past_at}
 use Rattle.spg_calls.specs.Doing.{Doing, idle, doing_after}
 
 module _ {O Key Recon Cond : Type 0} where
@@ -19,7 +19,7 @@ module _ {O Key Recon Cond : Type 0} where
 -- nothing was open when the lock was made, no seat that was joined has anything open, and what the pass added stands in what it has seen
 pub record IsPassed {O Key Recon Cond : Type 0} (v : View (Event O Key Recon Cond)) : Type 0 where
   pub based : v.base ≤ length v.seen
-  pub known : GrewTo v.mine (own_since v)
+  pub known : take (length v.mine) (own_since v) ≡ v.mine
   pub before : (n : ℕ) → open_of n (past_at v.base v.seen) ≡ nothing
   pub kept : (n : ℕ) → doing_after n idle (kept_of v.kept n) ≡ idle
 

@@ -114,6 +114,7 @@ impl<O: OpClass> Desk<O> {
             class,
             turn,
         } = self;
-        State::whole(class, turn.close(pass))
+        let bare = turn.close(pass);
+        State::whole(class, bare)
     }
 }

@@ -1,12 +1,11 @@
-ghost use Rattle.std.specs.Prelude.{◌≡◌, ◌∷◌, [], MatchResult};
-ghost use Rattle.spg_rows.specs.declared.event.Event.TheVariants.{OpenScan as Opens};
+ghost use Rattle.std.specs.Prelude.{◌≡◌};
 ghost use Rattle.spg_turn.specs.Passes.{pass_turn, pass_view};
 ghost use Rattle.spg_calls.specs.Doing.{idle};
 ghost use Rattle.spg_desk.specs.Knowing.{doing_at};
 ghost use Rattle.spg_desk.specs.Told.{Told};
-ghost use Rattle.spg_desk.specs.Acting.{IsScan, readings, closings};
+ghost use Rattle.spg_desk.specs.Acting.{IsScan, scan_events, readings, closings, closed_by};
 ghost use Rattle.spg_desk.specs.Passes.{desk_id, desk_of, view_of};
-ghost use Rattle.spg_desk.specs.Answers.{DidFind};
+ghost use Rattle.spg_desk.specs.Answers.{DidFind, ended_find};
 
 use crate::answer::FindAnswer;
 use crate::desk::Desk;
@@ -17,6 +16,27 @@ use crate::span::joined;
 use spg_base::{Memory, Rows, Span};
 use spg_opclass::{Copied, OpClass, Query, sift};
 use std::sync::Wait;
+
+/// How the section ended the scan, if it did.
+fn closed_by<O: OpClass>(read: Read<O>) -> Option<Result<Rows, Memory>>
+    ensures { result ≡ closed_by read }
+{
+    match read {
+        Read::On | Read::Sift { .. } => None,
+        Read::Closed(rows) => Some(Ok(rows)),
+        Read::Refused => Some(Err(Memory)),
+    }
+}
+
+/// What a search answers that has ended.
+fn ended_find(closed: Result<Rows, Memory>, span: Span) -> FindAnswer
+    ensures { result ≡ ended_find closed span }
+{
+    match closed {
+        Ok(rows) => FindAnswer::Found { rows, span },
+        Err(Memory) => FindAnswer::Memory(span),
+    }
+}
 
 impl<O: OpClass> Desk<O> {
     /// The turn in which a scan opens.
@@ -31,7 +51,7 @@ impl<O: OpClass> Desk<O> {
         requires idle { doing_at (pass_view going.pass) ≡ idle }
         requires start { start ≡ O.meaning.start }
         ensures own { pass_turn result.0.pass ≡ desk_id self.now }
-        ensures told { MatchResult result.2 (λ _. Told O.meaning (pass_view going.pass) (pass_view result.0.pass) result.1 (Opens (pass_view going.pass).number query ∷ [])) (λ _. Told O.meaning (pass_view going.pass) (pass_view result.0.pass) result.1 []) }
+        ensures told { Told O.meaning (pass_view going.pass) (pass_view result.0.pass) result.1 (scan_events (pass_view going.pass).number query result.2) }
     {
         let mut held = self.enter(rt, going);
         let seat = held.seat();
@@ -106,10 +126,8 @@ impl<O: OpClass> Desk<O> {
         for _ in rt.forever() {
             let (next, span, read) = self.read_once(rt, going);
             going = next;
-            match read {
-                Read::On | Read::Sift { .. } => {}
-                Read::Closed(rows) => return (going, span, Ok(rows)),
-                Read::Refused => return (going, span, Err(Memory)),
+            if let Some(closed) = closed_by(read) {
+                return (going, span, closed);
             }
         }
         unreachable!()
@@ -132,11 +150,6 @@ impl<O: OpClass> Desk<O> {
             return (Pass { going }, FindAnswer::Memory(first));
         };
         let (going, last, closed) = self.scan(rt, going);
-        let span = joined(first, last);
-        let answer = match closed {
-            Ok(rows) => FindAnswer::Found { rows, span },
-            Err(Memory) => FindAnswer::Memory(span),
-        };
-        (Pass { going }, answer)
+        (Pass { going }, ended_find(closed, joined(first, last)))
     }
 }

@@ -19,7 +19,7 @@ use std::sync::Wait;
 
 /// Gives up what the seat has open, for want of memory.
 pub(crate) fn give_up<O: OpClass>(bare: &mut Bare<O>, seat: SeatNo)
-    requires open { stage_at bare.old seat ≢ free }
+    requires operating { stage_at bare.old seat ≢ free }
     ensures { (doing : Doing O O.Key O.Recon O.Cond) → IsStageFor doing (stage_at bare.old seat) → Adds bare.old bare.new (left_by seat doing ∷ []) }
 {
     bare.abandon(seat, Why::Given);
@@ -29,7 +29,7 @@ impl<O: OpClass> Desk<O> {
     /// A turn in which what the pass's seat has open is given up, for want of memory.
     pub(crate) fn give_up<R: Wait>(&self, rt: &R, going: Going<O>) -> (Going<O>, Span)
         requires own { pass_turn going.pass ≡ desk_id self.now }
-        requires open { doing_at (pass_view going.pass) ≢ idle }
+        requires operating { doing_at (pass_view going.pass) ≢ idle }
         ensures own { pass_turn result.0.pass ≡ desk_id self.now }
         ensures told { Told O.meaning (pass_view going.pass) (pass_view result.0.pass) result.1 (left_by (pass_view going.pass).number (doing_at (pass_view going.pass)) ∷ []) }
     {
@@ -37,6 +37,7 @@ impl<O: OpClass> Desk<O> {
         let seat = held.seat();
         let from = held.state().journal().len();
         give_up(held.state_mut(), seat);
-        self.leave(held, from)
+        let (going, span) = self.leave(held, from);
+        (going, span)
     }
 }

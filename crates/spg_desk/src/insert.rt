@@ -4,7 +4,7 @@ ghost use Rattle.spg_calls.specs.Doing.{idle};
 ghost use Rattle.spg_desk.specs.Knowing.{doing_at};
 ghost use Rattle.spg_desk.specs.Acting.{IsPut, TellsPut, TellsLook, OpensPut};
 ghost use Rattle.spg_desk.specs.Passes.{desk_id, desk_of, view_of};
-ghost use Rattle.spg_desk.specs.Answers.{DidInsert};
+ghost use Rattle.spg_desk.specs.Answers.{DidInsert, refused_insert, ended_insert};
 
 use crate::answer::InsertAnswer;
 use crate::desk::Desk;
@@ -16,6 +16,29 @@ use spg_base::{Row, Span};
 use spg_core::OpenRefused;
 use spg_opclass::{Bunch, OpClass, Spotted, Started, choose_at, part_at, start_at};
 use std::sync::Wait;
+
+/// What an insert answers that was not opened.
+fn refused_insert(refused: &OpenRefused, span: Span) -> InsertAnswer
+    ensures { result ≡ refused_insert refused.now span }
+{
+    match refused {
+        OpenRefused::RowUsed => InsertAnswer::RowUsed(span),
+        OpenRefused::RowHeld { by } => InsertAnswer::RowHeld { by: *by, span },
+        OpenRefused::Memory => InsertAnswer::Memory(span),
+    }
+}
+
+/// What an insert answers that has ended.
+fn ended_insert(end: Ended, span: Span) -> InsertAnswer
+    ensures { result ≡ ended_insert end span }
+{
+    match end {
+        Ended::Put => InsertAnswer::Added(span),
+        Ended::Full => InsertAnswer::IndexFull(span),
+        Ended::Clock => InsertAnswer::ClockFull(span),
+        Ended::Refused => InsertAnswer::Memory(span),
+    }
+}
 
 impl<O: OpClass> Desk<O> {
     /// The turn in which an insert opens.
@@ -157,26 +180,10 @@ impl<O: OpClass> Desk<O> {
             return (Pass { going }, InsertAnswer::Memory(span));
         };
         let (going, first, opened) = self.open_insert(rt, going, row, started);
-        match &opened {
-            Ok(()) => {}
-            Err(OpenRefused::RowUsed) => return (Pass { going }, InsertAnswer::RowUsed(first)),
-            Err(OpenRefused::RowHeld { by }) => {
-                let held = InsertAnswer::RowHeld {
-                    by: *by,
-                    span: first,
-                };
-                return (Pass { going }, held);
-            }
-            Err(OpenRefused::Memory) => return (Pass { going }, InsertAnswer::Memory(first)),
+        if let Err(refused) = &opened {
+            return (Pass { going }, refused_insert(refused, first));
         }
         let (going, last, end) = self.put(rt, going);
-        let span = joined(first, last);
-        let answer = match end {
-            Ended::Put => InsertAnswer::Added(span),
-            Ended::Full => InsertAnswer::IndexFull(span),
-            Ended::Clock => InsertAnswer::ClockFull(span),
-            Ended::Refused => InsertAnswer::Memory(span),
-        };
-        (Pass { going }, answer)
+        (Pass { going }, ended_insert(end, joined(first, last)))
     }
 }

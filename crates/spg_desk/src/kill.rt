@@ -1,13 +1,24 @@
 ghost use Rattle.std.specs.Prelude.{◌≡◌};
 ghost use Rattle.spg_desk.specs.Passes.{desk_id, desk_of, view_of};
-ghost use Rattle.spg_desk.specs.Answers.{DidKill};
+ghost use Rattle.spg_desk.specs.Answers.{DidKill, kill_answer};
 
 use crate::answer::KillAnswer;
 use crate::desk::Desk;
 use crate::pass::Pass;
-use spg_base::{Memory, Row};
+use spg_base::{Memory, Row, Span};
 use spg_opclass::OpClass;
 use std::sync::Wait;
+
+/// What a delete answers.
+fn kill_answer(killed: Result<bool, Memory>, span: Span) -> KillAnswer
+    ensures { result ≡ kill_answer killed span }
+{
+    match killed {
+        Ok(true) => KillAnswer::Killed(span),
+        Ok(false) => KillAnswer::NotLive(span),
+        Err(Memory) => KillAnswer::Memory(span),
+    }
+}
 
 impl<O: OpClass> Desk<O> {
     /// Deletes the row. `Killed` exactly where it is live in its turn, and else nothing changes.
@@ -22,11 +33,6 @@ impl<O: OpClass> Desk<O> {
         let from = held.state().journal().len();
         let killed = held.state_mut().kill(seat, row);
         let (going, span) = self.leave(held, from);
-        let answer = match killed {
-            Ok(true) => KillAnswer::Killed(span),
-            Ok(false) => KillAnswer::NotLive(span),
-            Err(Memory) => KillAnswer::Memory(span),
-        };
-        (Pass { going }, answer)
+        (Pass { going }, kill_answer(killed, span))
     }
 }

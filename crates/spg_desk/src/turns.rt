@@ -35,7 +35,8 @@ impl<O: OpClass> Desk<O> {
         let Going { pass } = going;
         let held = self.turn.enter(rt, pass);
         // What a seat has open is what the journal says.
-        let _ = held.state().open_of(held.seat());
+        let seat = held.seat();
+        let _open = held.state().open_of(seat);
         held
     }
 
@@ -48,6 +49,7 @@ impl<O: OpClass> Desk<O> {
         requires origin { (held_state held).origin ≡ (held_view held).origin }
         ensures own { pass_turn result.0.pass ≡ desk_id self.now }
         ensures span { result.1 ≡ span_at (length (held_view held).seen) (length (pass_view result.0.pass).seen) }
+        ensures seen { (pass_view result.0.pass).seen ≡ (held_state held).journal }
         ensures told { Told O.meaning (held_view held) (pass_view result.0.pass) result.1 (drop (length (held_view held).seen) (held_state held).journal) }
     {
         // The journal is right.
@@ -64,6 +66,7 @@ impl<O: OpClass> Desk<O> {
     {
         let held = self.enter(rt, going);
         let from = held.state().journal().len();
-        self.leave(held, from)
+        let (going, span) = self.leave(held, from);
+        (going, span)
     }
 }

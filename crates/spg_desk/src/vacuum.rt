@@ -1,16 +1,17 @@
-ghost use Rattle.std.specs.Prelude.{◌≡◌, ◌∷◌, []};
+ghost use Rattle.std.specs.Prelude.{◌≡◌, ◌∷◌, [], ℕ, OnOk, OnErr, IsErrOf};
 ghost use Rattle.spg_rows.specs.declared.event.Event.{Event as Entry};
 ghost use Rattle.spg_rows.specs.declared.event.Event.TheVariants.{OpenVacuum as Opens};
 ghost use Rattle.spg_turn.specs.declared.rule.View.{View};
 ghost use Rattle.spg_turn.specs.Passes.{pass_turn, pass_view};
 ghost use Rattle.spg_calls.specs.Doing.{idle, sweeps};
-ghost use Rattle.spg_core.specs.Seen.{stage_at};
-ghost use Rattle.spg_core.specs.Stage.{IsSweeping};
+ghost use Rattle.spg_core.specs.Seen.{stage_at, past_of};
+ghost use Rattle.spg_core.specs.Stage.{free, IsSweeping};
+ghost use Rattle.spg_core.specs.Sections.{OpensVacuum};
 ghost use Rattle.spg_desk.specs.Knowing.{doing_at};
 ghost use Rattle.spg_desk.specs.Told.{Told};
-ghost use Rattle.spg_desk.specs.Acting.{StepsSweep, OpensSweep, TellsSweep, EndsSweep};
+ghost use Rattle.spg_desk.specs.Acting.{HasVacuum, sweep_end, StepsSweep, OpensSweep, TellsSweep, EndsSweep};
 ghost use Rattle.spg_desk.specs.Passes.{desk_id, desk_of, view_of};
-ghost use Rattle.spg_desk.specs.Answers.{DidVacuum};
+ghost use Rattle.spg_desk.specs.Answers.{DidVacuum, refused_vacuum, ended_vacuum};
 
 use crate::answer::VacuumAnswer;
 use crate::desk::Desk;
@@ -22,6 +23,21 @@ use spg_core::{Bare, VacuumOut, VacuumRefused};
 use spg_opclass::OpClass;
 use spg_rows::Why;
 use std::sync::Wait;
+
+/// Opens a vacuum. `Open` only where that seat has one open.
+fn open_on<O: OpClass>(bare: &mut Bare<O>, seat: SeatNo) -> Result<(), VacuumRefused>
+    requires free { stage_at bare.old seat ≡ free }
+    ensures ok { OnOk result (OpensVacuum bare.old bare.new seat) }
+    ensures open { (by : ℕ) → IsErrOf result (VacuumRefused.Open by) → HasVacuum (past_of bare.old) by }
+    ensures err { OnErr result (bare.new ≡ bare.old) }
+{
+    let opened = bare.open_vacuum(seat);
+    if let Err(VacuumRefused::Open { by }) = &opened {
+        // What a seat has open is what the journal says.
+        let _open = bare.open_of(*by);
+    }
+    opened
+}
 
 /// Does the next section of the seat's vacuum. After a refusal the vacuum is given up.
 fn sweep_on<O: OpClass>(bare: &mut Bare<O>, seat: SeatNo) -> Swept
@@ -35,6 +51,37 @@ fn sweep_on<O: OpClass>(bare: &mut Bare<O>, seat: SeatNo) -> Swept
             bare.abandon(seat, Why::Given);
             Swept::Refused
         }
+    }
+}
+
+/// How the section ended the vacuum, if it did.
+fn sweep_end(swept: Swept) -> Option<Result<u64, Memory>>
+    ensures { result ≡ sweep_end swept }
+{
+    match swept {
+        Swept::On => None,
+        Swept::Closed(count) => Some(Ok(count)),
+        Swept::Refused => Some(Err(Memory)),
+    }
+}
+
+/// What a vacuum answers that was not opened.
+fn refused_vacuum(refused: &VacuumRefused, span: Span) -> VacuumAnswer
+    ensures { result ≡ refused_vacuum refused.now span }
+{
+    match refused {
+        VacuumRefused::Open { by } => VacuumAnswer::Open { by: *by, span },
+        VacuumRefused::Memory => VacuumAnswer::Memory(span),
+    }
+}
+
+/// What a vacuum answers that has ended.
+fn ended_vacuum(swept: Result<u64, Memory>, span: Span) -> VacuumAnswer
+    ensures { result ≡ ended_vacuum swept span }
+{
+    match swept {
+        Ok(swept) => VacuumAnswer::Vacuumed { swept, span },
+        Err(Memory) => VacuumAnswer::Memory(span),
     }
 }
 
@@ -53,7 +100,7 @@ impl<O: OpClass> Desk<O> {
         let mut held = self.enter(rt, going);
         let seat = held.seat();
         let from = held.state().journal().len();
-        let opened = held.state_mut().open_vacuum(seat);
+        let opened = open_on(held.state_mut(), seat);
         let (going, span) = self.leave(held, from);
         (going, span, opened)
     }
@@ -91,10 +138,8 @@ impl<O: OpClass> Desk<O> {
             let (next, more, swept) = self.sweep_once(rt, going);
             going = next;
             span = joined(span, more);
-            match swept {
-                Swept::On => {}
-                Swept::Closed(swept) => return (going, span, Ok(swept)),
-                Swept::Refused => return (going, span, Err(Memory)),
+            if let Some(end) = sweep_end(swept) {
+                return (going, span, end);
             }
         }
         unreachable!()
@@ -110,22 +155,10 @@ impl<O: OpClass> Desk<O> {
     {
         let Pass { going } = pass;
         let (going, first, opened) = self.open_vacuum(rt, going);
-        match &opened {
-            Ok(()) => {}
-            Err(VacuumRefused::Open { by }) => {
-                let open = VacuumAnswer::Open {
-                    by: *by,
-                    span: first,
-                };
-                return (Pass { going }, open);
-            }
-            Err(VacuumRefused::Memory) => return (Pass { going }, VacuumAnswer::Memory(first)),
+        if let Err(refused) = &opened {
+            return (Pass { going }, refused_vacuum(refused, first));
         }
         let (going, span, swept) = self.sweep(rt, going, first);
-        let answer = match swept {
-            Ok(swept) => VacuumAnswer::Vacuumed { swept, span },
-            Err(Memory) => VacuumAnswer::Memory(span),
-        };
-        (Pass { going }, answer)
+        (Pass { going }, ended_vacuum(swept, span))
     }
 }
