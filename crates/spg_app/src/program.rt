@@ -13,10 +13,13 @@ use spg_core::State;
 use spg_histories::Status;
 use spg_io::{Images, Sink, Source};
 use spg_kd::Kd;
+use spg_perform::Gate;
 use spg_quad::Quad;
 use spg_radix::Radix;
 use spg_script::{ClassName, Script, ScriptRefused, parse};
 use std::alloc::Global;
+use std::sync::Wait;
+use std::thread::Threads;
 
 fn quad_ended(ending: (Status, Option<State<Quad>>)) -> (Status, Option<EndState>)
     ensures { result ≡ ended state.Quad ending }
@@ -64,12 +67,13 @@ fn read_script<S: Source>(alloc: Global, source: &mut S) -> Result<Script, Statu
 }
 
 /// Reads a script, does its commands and writes the text of the run.
-fn run_script<S: Source, K: Sink, M: Images>(
-    alloc: Global,
+fn run_script<R: AllocGlobal + Threads + Wait + Sync, S: Source, K: Sink, M: Images, G: Gate>(
+    rt: &R,
     limit: u32,
     source: &mut S,
     out: &mut K,
     images: &mut M,
+    gate: &G,
 ) -> (Status, Option<EndState>)
     requires from { 4 ≤ limit }
     requires to { limit ≤ 131072 }
@@ -77,32 +81,34 @@ fn run_script<S: Source, K: Sink, M: Images>(
         (outlets (K.contents out.old) (K.contents out.new) (K.faults out.old) (K.faults out.new)
         (M.held images.old) (M.held images.new) (M.faults images.old) (M.faults images.new)) result.0 result.1 }
 {
-    let script = match read_script(alloc, source) {
+    let script = match read_script(rt.alloc(), source) {
         Ok(script) => script,
         Err(status) => return (status, None),
     };
     match script.class() {
-        ClassName::Quad => quad_ended(run_commands(alloc, Quad, limit, &script, out, images)),
-        ClassName::Kd => kd_ended(run_commands(alloc, Kd, limit, &script, out, images)),
-        ClassName::Radix => radix_ended(run_commands(alloc, Radix, limit, &script, out, images)),
+        ClassName::Quad => quad_ended(run_commands(rt, Quad, limit, &script, out, images, gate)),
+        ClassName::Kd => kd_ended(run_commands(rt, Kd, limit, &script, out, images, gate)),
+        ClassName::Radix => radix_ended(run_commands(rt, Radix, limit, &script, out, images, gate)),
     }
 }
 
 /// The program: reads a script from the source, does its commands and writes the text of the run
 /// to the sink; what the script saves goes to the images. The words are `run`, `run --limit N` or
 /// `run --limit=N`, with N from 4 to 131,072 pages; without it N is 65,536. `Usage` comes exactly
-/// where they are none of these. `ReadFault` comes only where the source failed. `BadScript(n)` comes
+/// where they are none of these. Lanes run beside each other, and each asks the gate before each of its
+/// commands. `ReadFault` comes only where the source failed. `BadScript(n)` comes
 /// exactly where the bytes are no script, and line `n`, counted from 1, is the first at which none can
 /// go on; `BadScript(0)` exactly where there are more than 67,108,864 bytes. Nothing is written then.
 /// Once the commands have begun the state after the last one is handed back, and the status is the
 /// first of these that applies: `WriteFault` where the sink failed, `Memory` where there was none for
 /// writing, `ImageFault` and `Memory` where a record says so, else `Done`.
-pub fn run<R: AllocGlobal, S: Source, K: Sink, M: Images>(
+pub fn run<R: AllocGlobal + Threads + Wait + Sync, S: Source, K: Sink, M: Images, G: Gate>(
     rt: &R,
     words: &[String],
     script: &mut S,
     out: &mut K,
     images: &mut M,
+    gate: &G,
 ) -> (Status, Option<EndState>)
     // Each answer, with its cause.
     ensures answer { IsAnswer (map string_bytes words.now) (streams (S.left script.old) (S.left script.new) (S.faults script.old) (S.faults script.new))
@@ -122,7 +128,7 @@ pub fn run<R: AllocGlobal, S: Source, K: Sink, M: Images>(
         → (result.0 ≡ Status.BadScript n) ⊎ (result.0 ≡ Status.Memory) }
 {
     match limit_of(words) {
-        Some(limit) => run_script(rt.alloc(), limit, script, out, images),
+        Some(limit) => run_script(rt, limit, script, out, images, gate),
         None => (Status::Usage, None),
     }
 }
