@@ -10,8 +10,8 @@ sweep-going-requires-clause-sweeping g c =
     let told = rw c.in_default.is at c.open_vacuum-going.ensures.told in
     vacuum_doing g.O.OpClass.meaning (view_of c.args.pass) (pass_view c.open_vacuum-going.result.0.pass) c.open_vacuum-going.result.1 told
 
-pub invariant_of-result-1 : goal.invariant_of-result-1
-invariant_of-result-1 g c =
+pub invariant_of-result-2 : goal.invariant_of-result-2
+invariant_of-result-2 g c =
     let told = rw c.in_default.is at c.open_vacuum-going.ensures.told in
     record { idle = vacuum_idle g.O.OpClass.meaning (view_of c.args.pass) (pass_view c.sweep-going.result.0.pass) c.sweep-going.result.1 c.sweep-going.result.2 (c.sweep-going.ensures.told (view_of c.args.pass) told) }
 
