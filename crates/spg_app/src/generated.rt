@@ -1,0 +1,69 @@
+ghost use Rattle.std.specs.Prelude.{◌≡◌};
+ghost use Rattle.spg_perform.specs.Session.{IsOfClass};
+ghost use Rattle.spg_app.specs.Ending.{outlets};
+ghost use Rattle.spg_app.specs.LoadWords.{IsLoad};
+ghost use Rattle.spg_app.specs.Loads.{EndsLoad, IsGen};
+
+use crate::end_state::{EndState, kd_ended, quad_ended, radix_ended};
+use crate::load::Load;
+use crate::session::status_after;
+use crate::summary::write_summary;
+use crate::words::USUAL_PAGES;
+use spg_core::State;
+use spg_histories::Status;
+use spg_io::{Images, Sink};
+use spg_kd::Kd;
+use spg_perform::perform;
+use spg_quad::Quad;
+use spg_radix::Radix;
+use spg_script::{ClassName, Script, Spoken, generate};
+use std::alloc::Global;
+
+/// Does the commands of a generated script on a new state of the usual limit, then writes the summary
+/// of the run. There is no state where memory was wanting before the first command.
+fn run_load<O: Spoken, K: Sink, M: Images>(
+    alloc: Global,
+    class: O,
+    script: &Script,
+    out: &mut K,
+    images: &mut M,
+) -> (Status, Option<State<O>>)
+    requires of_class { IsOfClass O.speech script.now.class }
+    ensures { EndsLoad O.meaning O.speech O.code_number script.now
+        (outlets (K.contents out.old) (K.contents out.new) (K.faults out.old) (K.faults out.new)
+        (M.held images.old) (M.held images.new) (M.faults images.old) (M.faults images.new)) result.0 result.1 }
+{
+    let Ok(state) = State::new(alloc, class, USUAL_PAGES) else {
+        return (Status::Memory, None);
+    };
+    match perform(alloc, state, script, images) {
+        Ok((state, records)) => {
+            let events = state.journal().as_slice();
+            let written = write_summary(alloc, events, records.as_slice(), out);
+            (status_after(written, records.as_slice()), Some(state))
+        }
+        Err(_) => (Status::Memory, None),
+    }
+}
+
+/// Makes the script of a load, does its commands and writes the summary of the run.
+pub fn run_generated<K: Sink, M: Images>(
+    alloc: Global,
+    load: Load,
+    out: &mut K,
+    images: &mut M,
+) -> (Status, Option<EndState>)
+    requires { IsLoad load }
+    ensures { IsGen load
+        (outlets (K.contents out.old) (K.contents out.new) (K.faults out.old) (K.faults out.new)
+        (M.held images.old) (M.held images.new) (M.faults images.old) (M.faults images.new)) result.0 result.1 }
+{
+    let Ok(script) = generate(alloc, load.count, load.seed, load.lanes as u8, load.class) else {
+        return (Status::Memory, None);
+    };
+    match load.class {
+        ClassName::Quad => quad_ended(run_load(alloc, Quad, &script, out, images)),
+        ClassName::Kd => kd_ended(run_load(alloc, Kd, &script, out, images)),
+        ClassName::Radix => radix_ended(run_load(alloc, Radix, &script, out, images)),
+    }
+}
