@@ -6,6 +6,7 @@ use Rattle.spg_opclass.specs.Meaning.{Meaning}
 use Rattle.spg_rows.specs.declared.event.Event.{Event}
 use Rattle.spg_core.specs.Seen.{Seen}
 use Rattle.spg_script.specs.Blocks.{Script}
+use Rattle.spg_script.specs.Generated.{generated}
 use Rattle.spg_script.specs.Speech.{Speech}
 use Rattle.spg_report.specs.declared.record.Record.{Record}
 use Rattle.spg_histories.specs.declared.status.Status.{Status}
@@ -23,6 +24,10 @@ use Rattle.spg_app.proofs.Complete.{done_or_memory}
 
 pub summary_same : {O Key Recon Cond : Type 0} (journal journal2 : List (Event O Key Recon Cond)) (records records2 : List Record) → journal ≡ journal2 → records ≡ records2 → summary journal records ≡ summary journal2 records2
 summary_same journal journal2 records records2 is is2 = ap (λ j. summary j records) is ∙ ap (λ (rs : List Record). summary journal2 rs) is2
+
+pub class_of : (load : Load) → (script_of load).class ≡ load.class
+unfolding generated
+class_of load = refl
 
 -- of the commands of a script that is the generated one, by the class of the state
 pub gen_ended : {O Key Recon Cond : Type 0} (m : Meaning Key Recon Cond) (speech : Speech Key Cond) (code : ℕ) (load : Load) (out : Outlets) (script : Script) (state : Seen O Key Recon Cond → EndState)

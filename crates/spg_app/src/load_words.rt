@@ -1,12 +1,18 @@
-ghost use Rattle.std.specs.Prelude.{◌≡◌, ◌≤◌, ◌∷◌, IfSome, IfNone, length, map, string_bytes};
-ghost use Rattle.spg_app.specs.LoadWords.{IsLoad, number_in, class_named, nothing_asked, with_number, with_lanes, with_class, with_word, read_words, whole_load, load_of};
+ghost use Rattle.std.specs.Prelude.{◌≡◌, ◌≤◌, IfSome, map, string_bytes};
+ghost use Rattle.spg_app.specs.LoadWords.{IsLoad, class_named, nothing_asked, with_number, with_lanes, with_class, with_word, step, read_words, checked, whole_load, load_of};
 
 use crate::load::Load;
-use crate::words::number;
-use spg_script::{ClassName, MOST_LOAD_LANES, MOST_ROWS, MOST_SEED};
+use spg_script::{ClassName, MOST_LOAD_LANES, MOST_ROWS, MOST_SEED, number};
 
 /// How many lanes insert where the words name no number.
 pub const USUAL_LANES: u32 = 4;
+
+/// An option of `gen`.
+#[derive(Clone, Copy, Debug, PartialEq, Eq)]
+pub enum OptionName {
+    Lanes,
+    Class,
+}
 
 /// What the words of `gen` have asked for so far.
 #[derive(Clone, Copy, Debug, PartialEq, Eq)]
@@ -15,18 +21,8 @@ pub struct Asked {
     pub seed: Option<u32>,
     pub lanes: Option<u32>,
     pub class: Option<ClassName>,
-}
-
-/// The number of this range that a word spells.
-fn number_in(word: &str, least: u32, most: u32) -> Option<u32>
-    ensures { result ≡ number_in least most word.now }
-{
-    let n = number(word)?;
-    if least <= n && n <= most {
-        Some(n)
-    } else {
-        None
-    }
+    /// The option whose value is the next word.
+    pub awaited: Option<OptionName>,
 }
 
 /// The class of this name.
@@ -44,6 +40,16 @@ fn class_named(word: &[u8]) -> Option<ClassName>
     }
 }
 
+/// The load, where its numbers are in range.
+fn checked(load: Load) -> Option<Load>
+    ensures value { result ≡ checked load }
+    ensures in_range { IfSome result (λ load. IsLoad load) }
+{
+    let rows = 1 <= load.count && load.count <= MOST_ROWS && load.seed <= MOST_SEED;
+    let lanes = 1 <= load.lanes && load.lanes <= u32::from(MOST_LOAD_LANES);
+    if rows && lanes { Some(load) } else { None }
+}
+
 impl Asked {
     /// Nothing was asked for yet.
     fn nothing() -> Asked
@@ -54,20 +60,21 @@ impl Asked {
             seed: None,
             lanes: None,
             class: None,
+            awaited: None,
         }
     }
 
     /// A word that is no option: the number of rows, then the seed.
-    fn with_number(self, word: &str) -> Option<Asked>
+    fn with_number(self, word: &[u8]) -> Option<Asked>
         ensures { result ≡ with_number self word.now }
     {
         match (self.count, self.seed) {
             (None, _) => Some(Asked {
-                count: Some(number_in(word, 1, MOST_ROWS)?),
+                count: Some(number(word)?),
                 ..self
             }),
             (Some(_), None) => Some(Asked {
-                seed: Some(number_in(word, 0, MOST_SEED)?),
+                seed: Some(number(word)?),
                 ..self
             }),
             (Some(_), Some(_)) => None,
@@ -75,12 +82,13 @@ impl Asked {
     }
 
     /// The value of the option `--lanes`.
-    fn with_lanes(self, value: &str) -> Option<Asked>
+    fn with_lanes(self, value: &[u8]) -> Option<Asked>
         ensures { result ≡ with_lanes self value.now }
     {
         match self.lanes {
             None => Some(Asked {
-                lanes: Some(number_in(value, 1, u32::from(MOST_LOAD_LANES))?),
+                lanes: Some(number(value)?),
+                awaited: None,
                 ..self
             }),
             Some(_) => None,
@@ -88,58 +96,67 @@ impl Asked {
     }
 
     /// The value of the option `--class`.
-    fn with_class(self, value: &str) -> Option<Asked>
+    fn with_class(self, value: &[u8]) -> Option<Asked>
         ensures { result ≡ with_class self value.now }
     {
         match self.class {
             None => Some(Asked {
-                class: Some(class_named(value.as_bytes())?),
+                class: Some(class_named(value)?),
+                awaited: None,
                 ..self
             }),
             Some(_) => None,
         }
     }
 
-    /// A word that has no value behind it: an option with its value, or no option.
-    fn with_word(self, word: &str) -> Option<Asked>
+    /// A word that is no value: an option, or one with its value, or none.
+    fn with_word(self, word: &[u8]) -> Option<Asked>
         ensures { result ≡ with_word self word.now }
     {
-        if let Some(value) = word.strip_prefix("--lanes=") {
-            self.with_lanes(value)
-        } else if let Some(value) = word.strip_prefix("--class=") {
-            self.with_class(value)
+        if word == b"--lanes".as_slice() {
+            Some(Asked {
+                awaited: Some(OptionName::Lanes),
+                ..self
+            })
+        } else if word == b"--class".as_slice() {
+            Some(Asked {
+                awaited: Some(OptionName::Class),
+                ..self
+            })
+        } else if word.starts_with(b"--lanes=") {
+            self.with_lanes(&word[8..])
+        } else if word.starts_with(b"--class=") {
+            self.with_class(&word[8..])
         } else {
             self.with_number(word)
         }
     }
 
-    /// What follows from a word and those after it: what is asked for then, and the words that are left.
-    fn step<'a>(self, word: &str, after: &'a [String]) -> Option<(Asked, &'a [String])>
-        ensures some { IfSome result (λ next. read_words self (word.now ∷ map string_bytes after.now) ≡ read_words next.0 (map string_bytes next.1.now)) }
-        ensures shorter { IfSome result (λ next. length next.1.now ≤ length after.now) }
-        ensures none { IfNone result (read_words self (word.now ∷ map string_bytes after.now) ≡ None) }
+    /// What is asked for after one word more.
+    fn step(self, word: &[u8]) -> Option<Asked>
+        ensures { result ≡ step self word.now }
     {
-        if let [value, rest @ ..] = after {
-            if word == "--lanes" {
-                return Some((self.with_lanes(value.as_str())?, rest));
-            }
-            if word == "--class" {
-                return Some((self.with_class(value.as_str())?, rest));
-            }
+        match self.awaited {
+            Some(OptionName::Lanes) => self.with_lanes(word),
+            Some(OptionName::Class) => self.with_class(word),
+            None => self.with_word(word),
         }
-        Some((self.with_word(word)?, after))
     }
 
-    /// The load, where the number of rows and the seed were asked for.
+    /// The load, where all that it needs was asked for.
     fn load(self) -> Option<Load>
-        ensures { result ≡ whole_load self }
+        ensures value { result ≡ whole_load self }
+        ensures in_range { IfSome result (λ load. IsLoad load) }
     {
-        Some(Load {
-            count: self.count?,
-            seed: self.seed?,
-            lanes: self.lanes.unwrap_or(USUAL_LANES),
-            class: self.class.unwrap_or(ClassName::Quad),
-        })
+        match (self.awaited, self.count, self.seed) {
+            (None, Some(count), Some(seed)) => checked(Load {
+                count,
+                seed,
+                lanes: self.lanes.unwrap_or(USUAL_LANES),
+                class: self.class.unwrap_or(ClassName::Quad),
+            }),
+            _ => None,
+        }
     }
 }
 
@@ -148,11 +165,8 @@ fn read_words(words: &[String]) -> Option<Asked>
     ensures { result ≡ read_words nothing_asked (map string_bytes words.now) }
 {
     let mut asked = Asked::nothing();
-    let mut rest = words;
-    while let [word, after @ ..] = rest {
-        let (next, left) = asked.step(word.as_str(), after)?;
-        asked = next;
-        rest = left;
+    for word in words {
+        asked = asked.step(word.as_bytes())?;
     }
     Some(asked)
 }
@@ -164,8 +178,10 @@ pub fn load_of(words: &[String]) -> Option<Load>
     ensures value { result ≡ load_of (map string_bytes words.now) }
     ensures in_range { IfSome result (λ load. IsLoad load) }
 {
-    match words {
-        [command, rest @ ..] if command.as_str() == "gen" => read_words(rest)?.load(),
-        _ => None,
+    let (command, rest) = words.split_first()?;
+    if command.as_bytes() == b"gen".as_slice() {
+        read_words(rest)?.load()
+    } else {
+        None
     }
 }

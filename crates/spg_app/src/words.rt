@@ -14,7 +14,7 @@ pub const MOST_PAGES: u32 = 131_072;
 pub const USUAL_PAGES: u32 = 65_536;
 
 /// The number that a word spells, as numbers are printed: without leading zeros or a sign.
-pub fn number(word: &str) -> Option<u32>
+fn number(word: &str) -> Option<u32>
     ensures some { (n : ℕ) → result ≡ Some n → word.now ≡ decimal n }
     ensures none { result ≡ None → (n : ℕ) → n < 2 ^ 32 → word.now ≢ decimal n }
 {
