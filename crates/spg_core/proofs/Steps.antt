@@ -33,7 +33,7 @@ use Rattle.spg_seats.proofs.Slots.{more_room}
 use Rattle.spg_seats.proofs.Holding.{latches_law}
 use Rattle.spg_core.specs.declared.slot.Slot.{Slot}
 use Rattle.spg_core.specs.declared.slot.Slot.TheVariants.{Free}
-use Rattle.spg_core.specs.declared.state.State.TheInside.{Inside}
+use Rattle.spg_core.specs.declared.bare.Bare.TheInside.{Inside}
 use Rattle.spg_core.specs.Slot.{stage_of}
 use Rattle.spg_core.specs.Kept.{fields_of, seen_of, IsState}
 use Rattle.spg_core.specs.Waiting.{is_used}
@@ -58,7 +58,7 @@ open_within (x ∷ xs) (suc seat) was = omega (arith, open_within xs seat was)
 module _ {O Key Recon Cond : Type 0} (m : Meaning Key Recon Cond) where
   -- the state with these fields
   abbrev pub with_all : Inside O Key Recon Cond → pages.Table → Table O Key Recon Cond → Vec (Slot O Key Recon Cond) Global → Written O Key Recon Cond → List (ℕ × Option ℕ) → RowSet → RowSet → Inside O Key Recon Cond
-  with_all s table rows slots journal vacuums targets later = record { alloc = s.alloc; class = s.class; table = table; rows = rows; slots = slots; journal = journal; vacuums = vacuums; targets = targets; later = later; origin = s.origin }
+  with_all s table rows slots journal vacuums targets later = record { alloc = s.alloc; table = table; rows = rows; slots = slots; journal = journal; vacuums = vacuums; targets = targets; later = later; origin = s.origin }
 
   abbrev pub with_fields : Inside O Key Recon Cond → pages.Table → Table O Key Recon Cond → Vec (Slot O Key Recon Cond) Global → Written O Key Recon Cond → Inside O Key Recon Cond
   with_fields s table rows slots journal = with_all s table rows slots journal s.vacuums s.targets s.later

@@ -24,6 +24,13 @@ IsSweeping (descending key d) = ⊥
 IsSweeping (reading s) = ⊥
 IsSweeping (sweeping v) = ⊤
 
+-- a scan
+abbrev pub IsReading : {O Key Recon Cond : Type 0} → Stage O Key Recon Cond → Type 0
+IsReading free = ⊥
+IsReading (descending key d) = ⊥
+IsReading (reading s) = ⊤
+IsReading (sweeping v) = ⊥
+
 -- a scan that holds nothing more
 abbrev pub IsRead : {O Key Recon Cond : Type 0} → Stage O Key Recon Cond → Type 0
 IsRead free = ⊥

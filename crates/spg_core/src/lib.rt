@@ -2,13 +2,18 @@
 #![tactic(auto)]
 
 mod answer;
+mod bare;
 mod choose;
+mod found;
 mod inner;
 mod insert;
 mod latches;
 mod laws;
+mod look;
 mod operations;
+mod plan;
 mod recorded;
+mod sifting;
 mod slot;
 mod stat;
 mod state;
@@ -18,7 +23,9 @@ mod vacuums;
 mod waiting;
 
 pub use answer::{InsertOut, InsertRan, OpenKind, OpenRefused, VacuumOut, VacuumRefused};
+pub use bare::Bare;
 pub use laws::call_laws;
-pub use spg_scan::{Closed, ReadOut};
+pub use look::{ApplyRefused, Look};
+pub use spg_scan::{Closed, ReadOut, ScanCopy, SiftRefused};
 pub use spg_tree::StepRefused;
 pub use state::State;

@@ -12,6 +12,7 @@ ghost use Rattle.spg_rows.specs.History.{open_of};
 ghost use Rattle.spg_tree.specs.Table.{sheets_of};
 ghost use Rattle.spg_seats.specs.Slots.{StageFits, LatchesAre, kept_key};
 ghost use Rattle.spg_seats.specs.Descending.{ChangesHeld};
+ghost use Rattle.spg_seats.specs.Drops.{HaveCauses};
 ghost use Rattle.spg_core.specs.Stage.{free, IsInserting, IsSweeping, IsRead, IsStageOf, MayGiveUp, held_count, kind_of};
 ghost use Rattle.spg_core.specs.Seen.{stage_at, past_of, IsPresentWith};
 ghost use Rattle.spg_core.specs.Stepping.{IsNearLimit, Grows, MakesAtMostOne};
@@ -22,55 +23,29 @@ ghost use Rattle.spg_core.specs.Waiting.{is_used};
 ghost use Rattle.spg_core.specs.Sections.{IsNew, OpensInsert, IsInsertOut, TellsSection, LatchesAfter, OthersHold, IsHeavy, SeatFindsNoPage, SeatTicks, KillsRow, OpensScan, ReadsItem, ClosesScan, OpensVacuum, StepsVacuum, GivesUp};
 
 use crate::answer::{InsertOut, OpenKind, OpenRefused, VacuumOut, VacuumRefused};
-use crate::operations::{close_slot, end_insert, end_vacuum, read_slot, release_slot, step_slot};
-use crate::slot::{SEATS, Slot, free_slots, give_up, kind, set_slot, slot_at};
-use crate::stat::stat_of;
-use crate::sweeping::{sweep_slot, tell_sweeps};
-use crate::vacuums::Vacuums;
-use crate::waiting::{scan_seat, vacuum_seat};
-use spg_base::{Memory, Origin, Row, RowSet, Same, SeatNo, Stamp, Stat};
-use spg_descend::open_descent;
-use spg_opclass::{OpClass, Query};
-use spg_rows::{Event, Journal, RowState, RowTable, Why};
-use spg_scan::{Closed, ReadOut, Scan};
+use crate::bare::Bare;
+use spg_base::{Memory, Origin, Row, SeatNo, Stat};
+use spg_opclass::{OpClass, Query, start_at};
+use spg_rows::{Journal, RowTable, Why};
+use spg_scan::{Closed, ReadOut};
 use spg_tree::{PageTable, StepRefused, Touched};
-use spg_vacuum::Vacuum;
 use std::alloc::Global;
 use std::marker::Model;
 
-/// An open needs room for its own event and for the events that end what all seats have open.
-const ROOM: u64 = SEATS as u64 + 1;
-
-/// No page has more tuples.
-const MOST_SWEEPS: u64 = 408;
-
-/// An index, what each of 64 seats has open, and the journal of all that was done. A seat has at most
-/// one operation open. The sections of the seats come in any order.
+/// An index with the class of its keys: a `Bare` index whose sections ask the class at once. A seat has
+/// at most one operation open. The sections of the seats come in any order.
 #[derive(Drop)]
 pub struct State<O: OpClass> {
-    alloc: Global,
     class: O,
-    table: PageTable,
-    rows: RowTable<O>,
-    slots: Vec<Slot<O>>,
-    journal: Journal<O>,
-    vacuums: Vacuums,
-    /// The deleted rows that are not swept: those deleted before the newest vacuum opened,
-    targets: RowSet,
-    /// and those deleted since.
-    later: RowSet,
-    origin: Origin,
+    bare: Bare<O>,
 }
 
 impl<O: OpClass> Model for State<O> {
     ghost use Rattle.spg_core.specs.Seen.{Seen};
-    ghost use Rattle.spg_core.specs.Kept.{seen_of, IsState};
 
     ghost Value = { Seen O O.Key O.Recon O.Cond };
 
-    ghost view = { seen_of };
-
-    ghost invariant = { λ s. IsState O.meaning s };
+    ghost view = { λ s. s.bare };
 }
 
 impl<O: OpClass> State<O> {
@@ -81,22 +56,23 @@ impl<O: OpClass> State<O> {
         ensures { IfOk result (λ state. IsNew limit state) }
     {
         Ok(State {
-            alloc,
             class,
-            table: PageTable::new(alloc, limit)?,
-            rows: RowTable::new(alloc),
-            slots: free_slots(alloc)?,
-            journal: Journal::new(alloc),
-            vacuums: Vacuums::new(alloc),
-            targets: RowSet::new(alloc),
-            later: RowSet::new(alloc),
-            origin: Origin {
-                limit,
-                pages: 3,
-                clock: 0,
-                loaded: false,
-            },
+            bare: Bare::new(alloc, limit)?,
         })
+    }
+
+    /// The class and the index without it. It takes no memory.
+    pub fn part(self) -> (O, Bare<O>)
+        ensures { result.1 ≡ self }
+    {
+        (self.class, self.bare)
+    }
+
+    /// The index of a class. It takes no memory.
+    pub fn whole(class: O, bare: Bare<O>) -> State<O>
+        ensures { result ≡ bare }
+    {
+        State { class, bare }
     }
 
     /// The class of the keys.
@@ -109,7 +85,7 @@ impl<O: OpClass> State<O> {
         ensures value { result ≡ self.now.origin }
         ensures limit { self.now.table.limit ≡ result.limit }
     {
-        self.origin
+        self.bare.origin()
     }
 
     /// The journal. It is legal, and each closed scan and each closed vacuum is right.
@@ -117,7 +93,7 @@ impl<O: OpClass> State<O> {
         ensures events { result.now.events ≡ self.now.journal }
         ensures right { Right O.meaning self.now.journal }
     {
-        &self.journal
+        self.bare.journal()
     }
 
     /// The state of each row, and the key of each that is not free. They are what the journal says.
@@ -125,27 +101,29 @@ impl<O: OpClass> State<O> {
         ensures states { (row : RowAt) → state_in result.now row ≡ state_of row (past_of self.now) }
         ensures keys { (row : RowAt) → key_in result.now row ≡ kept_key row (past_of self.now) }
     {
-        &self.rows
+        self.bare.rows()
     }
 
     /// The pages. They are well formed and hold just the rows that are present, each with its key. A
     /// root is an inner tuple only where the keys of its tree that were ever inserted take more than
     /// 8,160 bytes. A block is latched by a seat exactly where the seat's open insert stands on it or
-    /// has the tuple above on it.
+    /// has the tuple above on it. Where an insert was given up as the index was full, fewer than 4
+    /// blocks are left below the limit; where one was as the clock was at its end, it is there.
     pub fn pages(&self) -> &PageTable
         ensures value { result.now ≡ self.now.table }
         ensures represents { Represents O.meaning (sheets_of self.now.table) (IsPresentWith (past_of self.now)) }
         ensures heavy { RootsAreHeavy O.meaning self.now.table (past_of self.now) }
         ensures latches { LatchesAre self.now.table self.now.stages }
+        ensures drops { HaveCauses (past_of self.now) self.now.table }
     {
-        &self.table
+        self.bare.pages()
     }
 
     /// The clock, below 2^48.
     pub fn clock(&self) -> u64
         ensures { result ≡ self.now.table.clock }
     {
-        self.table.clock()
+        self.bare.clock()
     }
 
     /// The blocks that the last section of an insert or of a vacuum changed or added. A call that is
@@ -153,7 +131,7 @@ impl<O: OpClass> State<O> {
     pub fn touched(&self) -> &Touched
         ensures { result.now ≡ self.now.table.touched }
     {
-        self.table.touched()
+        self.bare.touched()
     }
 
     /// How many pages and how many tuples of each kind there are, and the clock. It looks at all
@@ -161,7 +139,7 @@ impl<O: OpClass> State<O> {
     pub fn stat(&self) -> Stat
         ensures { IsStat self.now.table result }
     {
-        stat_of(&self.table)
+        self.bare.stat()
     }
 
     /// What the seat has open. It is what the journal says. An open insert carries its key to where it
@@ -172,7 +150,7 @@ impl<O: OpClass> State<O> {
         ensures journal { IsStageOf (open_of seat (past_of self.now)) (stage_at self.now seat) }
         ensures fits { StageFits O.meaning self.now.table (past_of self.now) seat (stage_at self.now seat) }
     {
-        kind(slot_at(&self.slots, seat))
+        self.bare.open_of(seat)
     }
 
     /// The seat that is waited for until the row may be inserted again: that of the vacuum that swept
@@ -181,13 +159,7 @@ impl<O: OpClass> State<O> {
     pub fn held_by(&self, row: Row) -> Option<SeatNo>
         ensures { result ≡ held_by row (past_of self.now) }
     {
-        let RowState::Swept { vacuum } = self.rows.state(row) else {
-            return None;
-        };
-        match self.vacuums.end_of(vacuum) {
-            None => vacuum_seat(&self.slots),
-            Some(at) => scan_seat(&self.slots, at),
-        }
+        self.bare.held_by(row)
     }
 
     /// Opens an insert. It claims the row. `RowUsed` exactly where the row is claimed, and waits for
@@ -204,25 +176,13 @@ impl<O: OpClass> State<O> {
         ensures row_held { (by : ℕ) → IsErrOf result (OpenRefused.RowHeld by) ↔ (held_by row (past_of self.old) ≡ Some by) }
         ensures err { OnErr result (self.new ≡ self.old) }
     {
-        if let Some(by) = self.held_by(row) {
-            return Err(OpenRefused::RowHeld { by });
+        match start_at(self.bare.alloc, &self.class, key) {
+            Ok(started) => self.bare.open_insert(seat, row, started),
+            Err(Memory) => match self.bare.may_claim(row) {
+                Ok(()) => Err(OpenRefused::Memory),
+                Err(refused) => Err(refused),
+            },
         }
-        if is_used(self.rows.state(row)) {
-            return Err(OpenRefused::RowUsed);
-        }
-        let descent = open_descent(self.alloc, &self.class, row, key.as_ref())?;
-        let told = copy_key::<O>(&key)?;
-        let claimed = copy_key::<O>(&key)?;
-        self.journal.reserve(ROOM)?;
-        self.rows.claim(row, claimed)?;
-        self.journal.append(Event::OpenInsert {
-            seat,
-            row,
-            key: told,
-        });
-        set_slot(&mut self.slots, seat, Slot::Insert { key, descent });
-        self.table.set_touched(Touched::new());
-        Ok(())
     }
 
     /// The next section of an insert. `Descended` where it comes to the root, or from an inner
@@ -255,19 +215,7 @@ impl<O: OpClass> State<O> {
         ensures clock_first { SeatTicks O.meaning self.old seat → self.old.table.clock + 1 ≡ 2 ^ 48 → IsErrOf result StepRefused.ClockFull ⊎ IsErrOf result StepRefused.Memory }
         ensures err { OnErr result (self.new ≡ self.old) }
     {
-        let out = step_slot(
-            self.alloc,
-            &self.class,
-            &mut self.table,
-            &mut self.slots,
-            seat,
-        )?;
-        if has_ended(&out) {
-            let row = end_insert(&mut self.slots, seat);
-            self.rows.put(row);
-            self.journal.append(Event::Put { seat, row });
-        }
-        Ok(out)
+        self.bare.insert_step(&self.class, seat)
     }
 
     /// Deletes the row. True exactly where it is live; else nothing changes.
@@ -276,15 +224,7 @@ impl<O: OpClass> State<O> {
         ensures ok { IfOk result (λ killed. KillsRow self.old self.new seat row killed) }
         ensures err { OnErr result (self.new ≡ self.old) }
     {
-        if !is_live(self.rows.state(row)) {
-            return Ok(false);
-        }
-        self.journal.reserve(ROOM)?;
-        self.later.add(row)?;
-        self.rows.kill(row, self.journal.len());
-        self.journal.append(Event::Kill { seat, row });
-        self.table.set_touched(Touched::new());
-        Ok(true)
+        self.bare.kill(seat, row)
     }
 
     /// Opens a scan. It holds the roots that the query begins at.
@@ -293,15 +233,8 @@ impl<O: OpClass> State<O> {
         ensures ok { OnOk result (OpensScan O.meaning self.old self.new seat query) }
         ensures err { OnErr result (self.new ≡ self.old) }
     {
-        let told = query.copy()?;
-        let start = self.class.start(self.alloc)?;
-        let stamp = Stamp::at(self.table.clock());
-        let scan = Scan::open(self.alloc, query, start, self.journal.len(), stamp)?;
-        self.journal.reserve(ROOM)?;
-        self.journal.append(Event::OpenScan { seat, query: told });
-        set_slot(&mut self.slots, seat, Slot::Scan(scan));
-        self.table.set_touched(Touched::new());
-        Ok(())
+        let start = self.class.start(self.bare.alloc)?;
+        self.bare.open_scan(seat, query, start)
     }
 
     /// Reads a held item: what it leads to takes its place, and the live rows that the query asks for
@@ -312,17 +245,7 @@ impl<O: OpClass> State<O> {
         ensures ok { IfOk result (λ out. ReadsItem O.meaning self.old self.new seat item out) }
         ensures err { OnErr result (self.new ≡ self.old) }
     {
-        let out = read_slot(
-            self.alloc,
-            &self.class,
-            &self.table,
-            &self.rows,
-            &mut self.slots,
-            seat,
-            item,
-        )?;
-        self.table.set_touched(Touched::new());
-        Ok(out)
+        self.bare.scan_read(&self.class, seat, item)
     }
 
     /// Ends a scan that holds nothing, and gives its rows, ascending.
@@ -331,11 +254,7 @@ impl<O: OpClass> State<O> {
         ensures ok { IfOk result (λ closed. ClosesScan self.old self.new seat closed) }
         ensures err { OnErr result (self.new ≡ self.old) }
     {
-        let (told, closed) = close_slot(self.alloc, &mut self.slots, seat)?;
-        self.journal.append(Event::CloseScan { seat, rows: told });
-        set_slot(&mut self.slots, seat, Slot::Free);
-        self.table.set_touched(Touched::new());
-        Ok(closed)
+        self.bare.close_scan(seat)
     }
 
     /// Opens a vacuum. Its targets are the rows that are deleted by now and not swept. `Open` exactly
@@ -346,18 +265,7 @@ impl<O: OpClass> State<O> {
         ensures open { (by : ℕ) → IsErrOf result (VacuumRefused.Open by) ↔ IsSweeping (stage_at self.old by) }
         ensures err { OnErr result (self.new ≡ self.old) }
     {
-        if let Some(by) = vacuum_seat(&self.slots) {
-            return Err(VacuumRefused::Open { by });
-        }
-        self.journal.reserve(ROOM)?;
-        self.targets.take_all(&mut self.later)?;
-        let at = self.journal.len();
-        self.vacuums.open(at)?;
-        self.journal.append(Event::OpenVacuum { seat });
-        let vacuum = Vacuum::open(self.alloc, at, Stamp::at(self.table.clock()));
-        set_slot(&mut self.slots, seat, Slot::Vacuum(vacuum));
-        self.table.set_touched(Touched::new());
-        Ok(())
+        self.bare.open_vacuum(seat)
     }
 
     /// The next section of a vacuum. `Pending` exactly where it handles the first place of its pending
@@ -374,33 +282,7 @@ impl<O: OpClass> State<O> {
         ensures grows { Grows self.old.table self.new.table }
         ensures err { OnErr result (self.new ≡ self.old) }
     {
-        self.journal.reserve(MOST_SWEEPS + ROOM)?;
-        let stepped = sweep_slot(
-            self.alloc,
-            &mut self.table,
-            &mut self.slots,
-            &self.targets,
-            seat,
-        )?;
-        if let VacuumOut::Latched { .. } = stepped.out {
-            return Ok(stepped.out);
-        }
-        if let VacuumOut::Finished { swept } = stepped.out {
-            self.vacuums.end(self.journal.len());
-            self.journal.append(Event::CloseVacuum { seat, swept });
-            set_slot(&mut self.slots, seat, Slot::Free);
-            return Ok(stepped.out);
-        }
-        tell_sweeps(
-            &mut self.journal,
-            &mut self.rows,
-            &mut self.targets,
-            seat,
-            stepped.opened,
-            stepped.rows.as_slice(),
-        );
-        let _events = self.journal.len();
-        Ok(stepped.out)
+        self.bare.vacuum_step(seat)
     }
 
     /// Gives up what the seat has open: an insert with this cause, `Full` only where fewer than 4
@@ -411,46 +293,6 @@ impl<O: OpClass> State<O> {
         requires why { MayGiveUp self.old.table (stage_at self.old seat) why }
         ensures { GivesUp self.old self.new seat why }
     {
-        let slot = set_slot(&mut self.slots, seat, Slot::Free);
-        release_slot(&mut self.table, &mut self.rows, &slot, seat);
-        end_vacuum(&mut self.vacuums, &slot, self.journal.len());
-        self.journal.append(give_up(&slot, seat, why));
-        self.table.set_touched(Touched::new());
-    }
-}
-
-/// An equal key, or a null.
-fn copy_key<O: OpClass>(key: &Option<O::Key>) -> Result<Option<O::Key>, Memory>
-    ensures { IfOk result (λ copied. copied ≡ key.now) }
-{
-    match key {
-        None => Ok(None),
-        Some(key) => Ok(Some(key.copy()?)),
-    }
-}
-
-/// Whether the row was put, so that the insert has ended.
-fn has_ended(out: &InsertOut) -> bool
-    ensures { IsTrue result ↔ (out.now ≡ InsertOut.Put) }
-{
-    matches!(out, InsertOut::Put)
-}
-
-/// Whether an insert of the row is open, or its entry is there.
-fn is_used(state: RowState) -> bool
-    ensures { result ≡ is_used state }
-{
-    match state {
-        RowState::Claimed | RowState::Live | RowState::Killed { .. } => true,
-        RowState::Free | RowState::Swept { .. } => false,
-    }
-}
-
-fn is_live(state: RowState) -> bool
-    ensures { IsTrue result ↔ (state ≡ row_state.Live) }
-{
-    match state {
-        RowState::Live => true,
-        _ => false,
+        self.bare.abandon(seat, why)
     }
 }

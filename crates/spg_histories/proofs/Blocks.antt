@@ -14,7 +14,8 @@ use Rattle.spg_report.specs.declared.record.Record.{Record}
 use Rattle.spg_histories.specs.Tasks.{Task, lane_tasks, lanes_tasks}
 use Rattle.spg_histories.specs.Run.{Does, past_at, between, IsBySeat, Did, Follows, AreInOrder, IsWithin, IsOwned, Entry, load_events, RunOf}
 use Rattle.spg_histories.specs.Blocks.{joined, BlockOf, Performed, Spans, spanned, LaneRan, LanesRan, AreRefused, SpansTold, RunsGrow}
-use Rattle.spg_histories.proofs.Lists.{get-drop, get-between, get-left, get-some}
+use Rattle.spg_calls.proofs.Journals.{between-grows, past_at-grows, by_seat-grows, new_by_seat, own-append, own-all, drop_drop}
+use Rattle.spg_histories.proofs.Lists.{get-drop, get-between, get-some}
 use Rattle.spg_histories.proofs.Owners.{load_long}
 
 -- ---- lists
@@ -91,29 +92,6 @@ within_order R at (t ∷ ts) (r ∷ rs) all within =
     (zip_seconds R (IsWithin at at) (Follows t r) ts rs all.1 within.1 (λ t2 r2 is same. omega (arith, is.after, within.0.before)), within_order R at ts rs all.1 within.1)
 
 module _ {O Key Recon Cond : Type 0} where
-  -- ---- one list of events before another
-
-  pub between-grows : (low high : ℕ) (journal more : List (Event O Key Recon Cond)) → low ≤ high → high ≤ length journal → between low high (journal ++ more) ≡ between low high journal
-  between-grows low high journal more le within =
-      ap (take (high - low)) (drop-append-le low journal more (omega arith)) ∙ take-append-le (high - low) (drop low journal) more (omega (arith, length-drop low journal))
-
-  pub past_at-grows : (at : ℕ) (journal more : List (Event O Key Recon Cond)) → at ≤ length journal → past_at at (journal ++ more) ≡ past_at at journal
-  past_at-grows at journal more within = ap reverse (take-append-le at journal more within)
-
-  pub by_seat-grows : (seat : ℕ) (journal more : List (Event O Key Recon Cond)) (at : ℕ) → at < length journal → IsBySeat seat journal at → IsBySeat seat (journal ++ more) at
-  by_seat-grows seat journal more at within by = subst (λ (o : Option (Event O Key Recon Cond)). IsSomeAnd o (λ e. seat_of e ≡ seat)) (sym (get-left journal more at within)) by
-
-  pub own-append : (seat : ℕ) (xs ys : List (Event O Key Recon Cond)) → own seat (xs ++ ys) ≡ own seat xs ++ own seat ys
-  own-append seat [] ys = refl
-  own-append seat (e ∷ xs) ys = elim (eqb_tells (seat_of e) seat) [
-    | inl same ↦ rw same.0 (ap (λ l. e ∷ l) (own-append seat xs ys))
-    | inr other ↦ rw other.0 (own-append seat xs ys)
-  ]
-
-  pub own-all : (seat : ℕ) (events : List (Event O Key Recon Cond)) → AllByRecursion (λ e. seat_of e ≡ seat) events → own seat events ≡ events
-  own-all seat [] each = refl
-  own-all seat (e ∷ events) each = rw (eq-eqb (seat_of e) seat each.0, own-all seat events each.1) refl
-
   -- an event of the seat is among its own
   own_some : (seat : ℕ) (xs : List (Event O Key Recon Cond)) (i : ℕ) → IsBySeat seat xs i → 0 < length (own seat xs)
   own_some seat [] i by = absurd by
@@ -131,31 +109,12 @@ module _ {O Key Recon Cond : Type 0} where
   by_seat_between : (seat low high : ℕ) (journal : List (Event O Key Recon Cond)) (at : ℕ) → low ≤ at → at < high → IsBySeat seat journal at → IsBySeat seat (between low high journal) (at - low)
   by_seat_between seat low high journal at from to by = subst (λ (o : Option (Event O Key Recon Cond)). IsSomeAnd o (λ e. seat_of e ≡ seat)) (sym (get-between low high journal at from to)) by
 
-  abbrev nothing_yet : List (Event O Key Recon Cond)
-  nothing_yet = []
-
-  drop_nil : (n : ℕ) → drop n (nothing_yet) ≡ nothing_yet
-  drop_nil zero = refl
-  drop_nil (suc n) = refl
-
-  pub drop_drop : (a b : ℕ) (xs : List (Event O Key Recon Cond)) → drop b (drop a xs) ≡ drop (a + b) xs
-  drop_drop zero b xs = let same : b ≡ 0 + b = omega arith in ap (λ n. drop n xs) same
-  drop_drop (suc a) b [] = drop_nil b ∙ sym (drop_nil (suc a + b))
-  drop_drop (suc a) b (x ∷ xs) = drop_drop a b xs ∙ (let same : suc (a + b) ≡ suc a + b = omega arith in ap (λ n. drop n (x ∷ xs)) same)
-
   -- the events from low on are those up to mid and those from mid on
   own_parts : (seat low mid : ℕ) (journal : List (Event O Key Recon Cond)) → low ≤ mid → length (own seat (drop low journal)) ≡ length (own seat (between low mid journal)) + length (own seat (drop mid journal))
   own_parts seat low mid journal le =
       let same : low + (mid - low) ≡ mid = omega arith in
       let split : drop low journal ≡ between low mid journal ++ drop mid journal = sym (take-append-drop (mid - low) (drop low journal)) ∙ ap (λ l. between low mid journal ++ l) (drop_drop low (mid - low) journal ∙ ap (λ n. drop n journal) same) in
       ap (λ l. length (own seat l)) split ∙ ap length (own-append seat (between low mid journal) (drop mid journal)) ∙ length-append (own seat (between low mid journal)) (own seat (drop mid journal))
-
-  pub new_by_seat : (seat : ℕ) (old events : List (Event O Key Recon Cond)) (at : ℕ) → AllByRecursion (λ e. seat_of e ≡ seat) events → length old ≤ at → at < length old + length events → IsBySeat seat (old ++ events) at
-  new_by_seat seat [] [] at each low high = absurd (omega arith)
-  new_by_seat seat [] (e ∷ events) zero each low high = each.0
-  new_by_seat seat [] (e ∷ events) (suc at) each low high = new_by_seat seat [] events at each.1 (omega arith) (omega arith)
-  new_by_seat seat (x ∷ old) events zero each low high = absurd (omega arith)
-  new_by_seat seat (x ∷ old) events (suc at) each low high = new_by_seat seat old events at each (omega arith) (omega arith)
 
   -- ---- owners
 

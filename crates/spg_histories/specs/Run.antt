@@ -1,14 +1,15 @@
 -- When a journal and a list of records are a run of a script.
-use Rattle.std.specs.Prelude.{◌≡◌, ◌<◌, ◌≤◌, ◌⊎◌, ◌-◌, ◌*◌, ◌++◌, ℕ, false, List, [], ◌∷◌, length, map, take, drop, reverse, slice_get, Option, is_some, IsSomeAnd, Some, ⊤}
+use Rattle.std.specs.Prelude.{◌≡◌, ◌<◌, ◌≤◌, ◌⊎◌, ◌-◌, ◌*◌, ◌++◌, ℕ, false, List, [], ◌∷◌, length, map, Option, is_some, Some, ⊤}
 use Rattle.std.specs.List.{AllZip, AllByRecursion}
 use Rattle.spg_base.specs.Row.{RowAt}
 use Rattle.spg_opclass.specs.declared.query.Query.{Query}
 use Rattle.spg_rows.specs.declared.event.Event.{Event}
 use Rattle.spg_rows.specs.declared.event.Event.TheVariants.{OpenInsert, Put, Drop, Kill, OpenScan, CloseScan, OpenVacuum, Sweep, CloseVacuum, Leave}
 use Rattle.spg_rows.specs.declared.event.Why.TheVariants as cause
-use Rattle.spg_rows.specs.History.{History, vacuuming, open_of, seat_of, own}
+use Rattle.spg_rows.specs.History.{History, vacuuming, open_of, own}
 use Rattle.spg_rows.specs.Rows.{held_by, is_live}
 use Rattle.spg_rows.specs.Told.{IsUsed}
+pub use Rattle.spg_calls.specs.Calls.{between, past_at, IsBySeat}
 use Rattle.spg_script.specs.declared.any_key.AnyKey.{AnyKey}
 use Rattle.spg_script.specs.declared.any_query.AnyQuery.{AnyQuery}
 use Rattle.spg_script.specs.declared.command.Command.{Command}
@@ -85,18 +86,6 @@ module _ {O Key Recon Cond : Type 0} (speech : Speech Key Cond) where
   Does t before events outcome.Memory = (events ≡ []) ⊎ GivesUp t.seat events t.command
 
 -- ---- records
-
--- the events from a position up to another
-abbrev pub between : {X : Type 0} → ℕ → ℕ → List X → List X
-between low high journal = take (high - low) (drop low journal)
-
--- what was before a position, the newest event first
-abbrev pub past_at : {O Key Recon Cond : Type 0} → ℕ → List (Event O Key Recon Cond) → History O Key Recon Cond
-past_at at journal = reverse (take at journal)
-
--- the event at this position is one of the seat
-abbrev pub IsBySeat : {O Key Recon Cond : Type 0} → ℕ → List (Event O Key Recon Cond) → ℕ → Type 0
-IsBySeat seat journal at = IsSomeAnd (slice_get journal at) (λ e. seat_of e ≡ seat)
 
 -- the record of a command says what the journal says
 pub record Did {O Key Recon Cond : Type 0} (speech : Speech Key Cond) (journal : List (Event O Key Recon Cond)) (t : Task) (r : Record) : Type 0 where

@@ -27,6 +27,7 @@ mod refused;
 mod script;
 mod spelling;
 mod spoken;
+mod tail;
 mod texts;
 
 pub use any_cond::AnyCond;
@@ -44,6 +45,7 @@ pub use printing::print;
 pub use refused::ScriptRefused;
 pub use script::Script;
 pub use spoken::Spoken;
+pub use tail::Tail;
 
 #[cfg(test)]
 mod tests;

@@ -1,0 +1,3 @@
+pub mod Journals
+pub mod Calls
+pub mod Doing

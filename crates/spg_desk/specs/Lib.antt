@@ -1,0 +1,5 @@
+pub mod Knowing
+pub mod Told
+pub mod Passes
+pub mod Answers
+pub mod Acting

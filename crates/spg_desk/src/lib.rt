@@ -1,0 +1,20 @@
+//! An index that threads share: whole calls, each done in sections under a counted lock.
+#![tactic(auto)]
+
+mod answer;
+mod desk;
+mod ended;
+mod find;
+mod give_up;
+mod insert;
+mod kill;
+mod pass;
+mod put;
+mod scan;
+mod span;
+mod turns;
+mod vacuum;
+
+pub use answer::{FindAnswer, InsertAnswer, KillAnswer, VacuumAnswer};
+pub use desk::Desk;
+pub use pass::Pass;

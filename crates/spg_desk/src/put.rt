@@ -1,0 +1,106 @@
+// The sections of an insert, on the index that a turn lends.
+ghost use Rattle.std.specs.Prelude.{◌≡◌, ◌+◌, ◌^◌, Option};
+ghost use Rattle.spg_base.specs.Row.{RowAt};
+ghost use Rattle.spg_core.specs.declared.look.ApplyRefused.TheVariants as apply_refused;
+ghost use Rattle.spg_core.specs.Seen.{stage_at};
+ghost use Rattle.spg_core.specs.Stage.{IsInserting};
+ghost use Rattle.spg_core.specs.Stepping.{IsNearLimit};
+ghost use Rattle.spg_core.specs.Sections.{IsHeavy};
+ghost use Rattle.spg_desk.specs.Acting.{IsPutting, LooksPut, StepsPut, ended_of};
+
+use crate::ended::{Ended, Looked};
+use spg_base::SeatNo;
+use spg_core::{ApplyRefused, Bare, InsertOut, Look, StepRefused};
+use spg_opclass::{Chosen, OpClass, Parted};
+use spg_rows::Why;
+
+/// How the insert ended, if the section ended it.
+fn ended(out: &InsertOut) -> Option<Ended>
+    ensures { result ≡ ended_of out.now }
+{
+    match out {
+        InsertOut::Put => Some(Ended::Put),
+        InsertOut::Descended | InsertOut::Restructured | InsertOut::Restarted { .. } => None,
+    }
+}
+
+/// Looks at the seat's insert, and does its next section where the class has no say in it. After a
+/// refusal the insert is given up.
+pub(crate) fn look_on<O: OpClass>(bare: &mut Bare<O>, seat: SeatNo) -> Looked<O>
+    requires inserting { IsInserting (stage_at bare.old seat) }
+    ensures { (row : RowAt) (key : Option O.Key) → IsPutting row key (stage_at bare.old seat) → LooksPut O.meaning bare.old bare.new seat row key result }
+{
+    match bare.insert_look(seat) {
+        Ok(Look::Stepped(out)) => Looked::Stepped(ended(&out)),
+        Ok(Look::Choose(spotted)) => Looked::Choose(spotted),
+        Ok(Look::Part(bunch)) if bunch.rests().len() > 0 => Looked::Part(bunch),
+        Ok(Look::Part(_)) => Looked::Stepped(None),
+        Err(StepRefused::IndexFull) => {
+            bare.abandon(seat, Why::Full);
+            Looked::Stepped(Some(Ended::Full))
+        }
+        Err(StepRefused::ClockFull) => {
+            bare.abandon(seat, Why::Clock);
+            Looked::Stepped(Some(Ended::Clock))
+        }
+        Err(StepRefused::Memory) => {
+            bare.abandon(seat, Why::Given);
+            Looked::Stepped(Some(Ended::Refused))
+        }
+    }
+}
+
+/// Gives the insert up after a refusal. One that was changed meanwhile goes on.
+fn refuse<O: OpClass>(bare: &mut Bare<O>, seat: SeatNo, refused: ApplyRefused) -> Option<Ended>
+    requires inserting { IsInserting (stage_at bare.old seat) }
+    requires full { refused ≡ apply_refused.IndexFull → IsHeavy O.meaning bare.old seat × IsNearLimit bare.old.table }
+    requires clock { refused ≡ apply_refused.ClockFull → IsHeavy O.meaning bare.old seat × (bare.old.table.clock + 1 ≡ 2 ^ 48) }
+    ensures { (row : RowAt) (key : Option O.Key) → IsPutting row key (stage_at bare.old seat) → StepsPut O.meaning bare.old bare.new seat row key result }
+{
+    match refused {
+        ApplyRefused::Changed => None,
+        ApplyRefused::IndexFull => {
+            bare.abandon(seat, Why::Full);
+            Some(Ended::Full)
+        }
+        ApplyRefused::ClockFull => {
+            bare.abandon(seat, Why::Clock);
+            Some(Ended::Clock)
+        }
+        ApplyRefused::Memory => {
+            bare.abandon(seat, Why::Given);
+            Some(Ended::Refused)
+        }
+    }
+}
+
+/// Goes on with the seat's insert by what the class chose for a copy, unless that is not what it
+/// stands at any more. After another refusal the insert is given up.
+pub(crate) fn choose_on<O: OpClass>(
+    bare: &mut Bare<O>,
+    seat: SeatNo,
+    chosen: &Chosen<O>,
+) -> Option<Ended>
+    requires inserting { IsInserting (stage_at bare.old seat) }
+    ensures { (row : RowAt) (key : Option O.Key) → IsPutting row key (stage_at bare.old seat) → StepsPut O.meaning bare.old bare.new seat row key result }
+{
+    match bare.insert_choose(seat, chosen) {
+        Ok(out) => ended(&out),
+        Err(refused) => refuse(bare, seat, refused),
+    }
+}
+
+/// The same by how the class divided copied values.
+pub(crate) fn part_on<O: OpClass>(
+    bare: &mut Bare<O>,
+    seat: SeatNo,
+    parted: &Parted<O>,
+) -> Option<Ended>
+    requires inserting { IsInserting (stage_at bare.old seat) }
+    ensures { (row : RowAt) (key : Option O.Key) → IsPutting row key (stage_at bare.old seat) → StepsPut O.meaning bare.old bare.new seat row key result }
+{
+    match bare.insert_part(seat, parted) {
+        Ok(out) => ended(&out),
+        Err(refused) => refuse(bare, seat, refused),
+    }
+}
