@@ -18,7 +18,7 @@ words_over {X = X} f words i asked over = at_drop_all (λ (ws : List X). read_wo
 
 pub returns-in_err-asked : goal.returns-in_err-asked
 returns-in_err-asked c =
-    sym (c.loop-word.invariant
+    c.from_residual.ensures ∙ sym (c.loop-word.invariant
     ∙ words_more string_bytes c.args.words.now c.loop-word.word-index c.word-item.result c.loop-word.asked c.step.result (omega arith) c.word-item.is (c.step.ensures ∙ ap (step c.loop-word.asked) c.as_bytes.ensures.value)
     ∙ ap (λ (o : Option Asked). o >>= λ next. read_words next (map string_bytes (drop (c.loop-word.word-index + 1) c.args.words.now))) c.in_err-asked.was)
 
