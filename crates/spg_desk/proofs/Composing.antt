@@ -1,5 +1,5 @@
 -- Sections one after another.
-use Rattle.std.proofs.Common.{◌≡◌, ◌<◌, ◌≤◌, ◌+◌, ◌⊎◌, inl, inr, ℕ, suc, cond, List, [], ◌∷◌, ◌++◌, length, map, drop, refl, sym, ap, ◌∙◌, subst, arith}
+use Rattle.std.proofs.Common.{◌≡◌, ◌<◌, ◌≤◌, ◌+◌, ◌⊎◌, inl, inr, ℕ, suc, cond, List, [], ◌∷◌, ◌++◌, length, map, drop, Some, None, refl, sym, ap, ◌∙◌, subst, arith}
 use Rattle.std.proofs.lemmas.Bool.{eq-eqb}
 use Rattle.std.proofs.lemmas.List.{append_assoc, append-nil}
 use Rattle.spg_base.specs.Row.{RowAt}
@@ -16,6 +16,15 @@ use Rattle.spg_calls.proofs.Doing.{swept_parts}
 use Rattle.spg_desk.specs.Told.{Told}
 use Rattle.spg_desk.specs.Acting.{IsOn}
 use Rattle.spg_desk.proofs.Views.{told_add, told_watched}
+
+pub some_same : {X : Type 0} (x y : X) → Some x ≡ Some y → x ≡ y
+some_same x y is = (cc)
+
+pub never_some : {X : Type 0} (x : X) → Some x ≡ None → ⊥
+never_some x is = absurd (cc)
+
+pub never_none : {X : Type 0} (x : X) → None ≡ Some x → ⊥
+never_none x is = absurd (cc)
 
 module _ {O Key Recon Cond : Type 0} where
   -- a call without an event was only a look

@@ -18,7 +18,7 @@ use Rattle.spg_desk.specs.Answers.{DidFind, ended_find}
 use Rattle.spg_desk.specs.declared.ended.Read.{Read}
 use Rattle.spg_desk.specs.declared.ended.Read.TheVariants as read
 use Rattle.spg_desk.proofs.Views.{told_add, told_doing}
-use Rattle.spg_desk.proofs.Composing.{on_told}
+use Rattle.spg_desk.proofs.Composing.{some_same, never_some, never_none, on_told}
 use Rattle.spg_desk.proofs.Inserting.{on_doing, still_on}
 
 module _ {O Key Recon Cond : Type 0} where
@@ -41,15 +41,6 @@ module _ {O Key Recon Cond : Type 0} (m : Meaning Key Recon Cond) where
   pub on_reads : (v w x : View (Event O Key Recon Cond)) (span : Span) (r : Read O Key Recon Cond) → IsOn v w → Told m w x span (readings w.number r) → Told m v x span (readings v.number r)
   on_reads v w x span r on told = on_told m v w x span (readings v.number r) on (subst (λ (n : ℕ). Told m w x span (readings n r)) (ap (λ (z : View (Event O Key Recon Cond)). z.number) on.0) told)
 
-  some_same : {X : Type 0} (x y : X) → Some x ≡ Some y → x ≡ y
-  some_same x y is = (cc)
-
-  never_some : {X : Type 0} (x : X) → Some x ≡ None → ⊥
-  never_some x is = absurd (cc)
-
-  never_none : {X : Type 0} (x : X) → None ≡ Some x → ⊥
-  never_none x is = absurd (cc)
-
   pub reads_closed : (u v w : View (Event O Key Recon Cond)) (span : Span) (r : Read O Key Recon Cond) (closed : Result (List RowAt) Memory) → IsOn u v → Told m v w span (readings v.number r) → closed_by r ≡ Some closed → Told m u w span (closings u.number closed)
   reads_closed u v w span read.On closed on told is = absurd (never_none closed is)
   reads_closed u v w span (read.Sift item copied) closed on told is = absurd (never_none closed is)
@@ -59,8 +50,8 @@ module _ {O Key Recon Cond : Type 0} (m : Meaning Key Recon Cond) where
   pub reads_on : (u v w : View (Event O Key Recon Cond)) (span : Span) (r : Read O Key Recon Cond) → IsOn u v → Told m v w span (readings v.number r) → closed_by r ≡ None → IsOn u w
   reads_on u v w span read.On on told is = still_on m u v w span on told
   reads_on u v w span (read.Sift item copied) on told is = still_on m u v w span on told
-  reads_on u v w span (read.Closed rows) on told is = absurd (never_some (Ok {E = Memory} rows) is)
-  reads_on u v w span read.Refused on told is = absurd (never_some (Err {T = List RowAt} no_memory) is)
+  reads_on u v w span (read.Closed rows) on told is = let x : Result (List RowAt) Memory = Ok rows in absurd (never_some x is)
+  reads_on u v w span read.Refused on told is = let x : Result (List RowAt) Memory = Err no_memory in absurd (never_some x is)
 
   pub scan_doing : (v w : View (Event O Key Recon Cond)) (span : Span) (query : Query O Key Recon Cond) → Told m v w span (OpenScan v.number query ∷ []) → IsScan (doing_at w)
   scan_doing v w span query told =

@@ -1,5 +1,5 @@
 -- The sections of a vacuum.
-use Rattle.std.proofs.Common.{◌≡◌, ◌⊎◌, inl, inr, ◌+◌, ℕ, List, [], ◌∷◌, ◌++◌, length, map, take, drop, reverse, Option, Some, None, Result, Ok, Err, IsErrOf, ◌↔◌, refl, sym, ap, ◌∙◌, subst, arith, take-append-drop}
+use Rattle.std.proofs.Common.{◌≡◌, ◌⊎◌, inl, inr, ◌+◌, ℕ, cond, List, [], ◌∷◌, ◌++◌, length, map, take, drop, reverse, Option, Some, None, Result, Ok, Err, IsErrOf, ◌↔◌, refl, sym, ap, ◌∙◌, subst, arith, take-append-drop}
 use Rattle.std.proofs.lemmas.Bool.{eq-eqb}
 use Rattle.std.proofs.lemmas.List.{append_assoc, reverse-append}
 use Rattle.spg_base.specs.Row.{RowAt}
@@ -29,7 +29,7 @@ use Rattle.spg_desk.specs.declared.ended.Swept.{Swept}
 use Rattle.spg_desk.specs.declared.ended.Swept.TheVariants as swept
 use Rattle.spg_desk.proofs.Views.{lent_doing, told_add, told_doing}
 use Rattle.spg_desk.proofs.Sections.{section_did}
-use Rattle.spg_desk.proofs.Composing.{own_sweeps, sweeps_on, swept_rows}
+use Rattle.spg_desk.proofs.Composing.{some_same, never_some, never_none, own_sweeps, sweeps_on, swept_rows}
 
 module _ {O Key Recon Cond : Type 0} where
   sweeps_open : (has : Opened O Key Recon Cond) → doing_of has ≡ sweeps → (before : History O Key Recon Cond) × (has ≡ vacuuming before)
@@ -50,6 +50,10 @@ module _ {O Key Recon Cond : Type 0} where
       ap (swept_after h.number 0) (sym (take-append-drop h.base h.seen)) ∙ (swept_parts h.number 0 (take h.base h.seen) (drop h.base h.seen)
       ∙ (swept_alone h.number (swept_after h.number 0 (take h.base h.seen)) (drop h.base h.seen) ∙ ap (swept_after h.number (swept_after h.number 0 (take h.base h.seen))) lent.whole))
 
+  still_sweeps : (n : ℕ) (rows : List RowAt) (es : List (Event O Key Recon Cond)) → es ≡ swept_rows n rows → doing_after n sweeps es ≡ sweeps
+  still_sweeps n [] es is = ap (doing_after n sweeps) is
+  still_sweeps n (r ∷ rows) es is = ap (doing_after n sweeps) is ∙ (ap (λ b. doing_after n (cond b sweeps sweeps) (swept_rows n rows)) (eq-eqb n n refl) ∙ still_sweeps n rows (swept_rows n rows) refl)
+
 module _ {O Key Recon Cond : Type 0} (m : Meaning Key Recon Cond) where
   -- the number in the close of a vacuum
   close_counted : (h : View (Event O Key Recon Cond)) (journal : List (Event O Key Recon Cond)) (count : ℕ) → IsLent h → doing_at h ≡ sweeps → journal ≡ h.seen ++ CloseVacuum h.number count ∷ [] → Right m journal → (was : ℕ) × (count ≡ swept_after h.number was h.mine)
@@ -64,7 +68,7 @@ module _ {O Key Recon Cond : Type 0} (m : Meaning Key Recon Cond) where
       let same : count ≡ swept_after h.number 0 h.seen = omega arith in
       (swept_after h.number 0 (take h.base h.seen), same ∙ swept_since h lent)
 
-  pub sweep_counted : (v h w : View (Event O Key Recon Cond)) (span : Span) (rows : List RowAt) (out : Swept) → IsLent h → h ≡ record v { seen = h.seen } → doing_at v ≡ sweeps → w.seen ≡ h.seen ++ sweepings h.number rows out → Right m w.seen → IsCounted v out
+  pub sweep_counted : (v h w : View (Event O Key Recon Cond)) (span : Span) (rows : List RowAt) (out : Swept) → IsLent h → h ≡ record v { seen = h.seen } → doing_at v ≡ sweeps → w.seen ≡ h.seen ++ sweepings h.number rows out → Right m w.seen → IsCounted m v out
   sweep_counted v h w span rows swept.On lent view does is right = tt
   sweep_counted v h w span rows (swept.Closed count) lent view does is right =
       let same : doing_at h ≡ doing_at v = ap doing_at view in
@@ -91,11 +95,7 @@ module _ {O Key Recon Cond : Type 0} (m : Meaning Key Recon Cond) where
   vacuum_doing v w span told = told_doing m v w span (OpenVacuum v.number ∷ []) told ∙ (rw (eq-eqb v.number v.number refl) refl)
 
   pub sweep_doing : (v w : View (Event O Key Recon Cond)) (span : Span) (rows : List RowAt) → doing_at v ≡ sweeps → Told m v w span (map (λ (r : RowAt). Sweep v.number r) rows) → doing_at w ≡ sweeps
-  sweep_doing v w span rows does told = told_doing m v w span (map (λ (r : RowAt). Sweep v.number r) rows) told ∙ (ap (λ d. doing_after v.number d (map (λ (r : RowAt). Sweep v.number r) rows)) does ∙ go v.number rows)
-    where
-      go : (n : ℕ) (rs : List RowAt) → doing_after n sweeps (swept_rows n rs) ≡ sweeps
-      go n [] = refl
-      go n (r ∷ rs) = rw (eq-eqb n n refl) (go n rs)
+  sweep_doing v w span rows does told = told_doing m v w span (swept_rows v.number rows) told ∙ (ap (λ d. doing_after v.number d (swept_rows v.number rows)) does ∙ still_sweeps v.number rows (swept_rows v.number rows) refl)
 
   -- one more section
   pub sweeps_more : (u v w : View (Event O Key Recon Cond)) (s1 s2 : Span) (rows more : List RowAt) → Told m u v s1 (OpenVacuum u.number ∷ map (λ (r : RowAt). Sweep u.number r) rows) → Told m v w s2 (map (λ (r : RowAt). Sweep v.number r) more)
@@ -112,7 +112,7 @@ module _ {O Key Recon Cond : Type 0} (m : Meaning Key Recon Cond) where
       let number : v.number ≡ u.number = ap (λ (z : View (Event O Key Recon Cond)). z.number) a.same in
       told_add m u v w s1 s2 (OpenVacuum u.number ∷ map (λ (r : RowAt). Sweep u.number r) rows) (last u.number ∷ []) a (subst (λ (n : ℕ). Told m v w s2 (last n ∷ [])) number b)
 
-  pub sweeps_closed : (u v w : View (Event O Key Recon Cond)) (s1 s2 : Span) (rows : List RowAt) (count : ℕ) → Told m u v s1 (OpenVacuum u.number ∷ map (λ (r : RowAt). Sweep u.number r) rows) → Told m v w s2 (CloseVacuum v.number count ∷ []) → IsCounted v (swept.Closed count) → EndsSweep m u w (joined s1 s2) (Ok count)
+  pub sweeps_closed : (u v w : View (Event O Key Recon Cond)) (s1 s2 : Span) (rows : List RowAt) (count : ℕ) → Told m u v s1 (OpenVacuum u.number ∷ map (λ (r : RowAt). Sweep u.number r) rows) → Told m v w s2 (CloseVacuum v.number count ∷ []) → IsCounted m v (swept.Closed count) → EndsSweep m u w (joined s1 s2) (Ok count)
   sweeps_closed u v w s1 s2 rows count a b (was, counts) =
       let same : count ≡ swept_after u.number was (u.mine ++ OpenVacuum u.number ∷ map (λ (r : RowAt). Sweep u.number r) rows) = counts ∙ ap (λ (z : View (Event O Key Recon Cond)). swept_after z.number was z.mine) a.same in
       (rows, sym (same ∙ own_sweeps u.number was u.mine rows), sweeps_last u v w s1 s2 rows (λ n. CloseVacuum n count) a b)
@@ -120,25 +120,16 @@ module _ {O Key Recon Cond : Type 0} (m : Meaning Key Recon Cond) where
   pub sweeps_refused : (u v w : View (Event O Key Recon Cond)) (s1 s2 : Span) (rows : List RowAt) (e : Memory) → Told m u v s1 (OpenVacuum u.number ∷ map (λ (r : RowAt). Sweep u.number r) rows) → Told m v w s2 (Leave v.number ∷ []) → EndsSweep m u w (joined s1 s2) (Err e)
   sweeps_refused u v w s1 s2 rows e a b = (rows, sweeps_last u v w s1 s2 rows (λ n. Leave n) a b)
 
-  some_same : {X : Type 0} (x y : X) → Some x ≡ Some y → x ≡ y
-  some_same x y is = (cc)
-
-  never_some : {X : Type 0} (x : X) → Some x ≡ None → ⊥
-  never_some x is = absurd (cc)
-
-  never_none : {X : Type 0} (x : X) → None ≡ Some x → ⊥
-  never_none x is = absurd (cc)
-
   -- a section of a vacuum that goes on
   pub sweep_step : (u v w : View (Event O Key Recon Cond)) (s1 s2 : Span) (out : Swept) → (rows : List RowAt) × Told m u v s1 (OpenVacuum u.number ∷ swept_rows u.number rows) → TellsSweep m v w s2 out → sweep_end out ≡ None → (rows : List RowAt) × Told m u w (joined s1 s2) (OpenVacuum u.number ∷ swept_rows u.number rows)
   sweep_step u v w s1 s2 swept.On (rows, a) ((more, b), counted) is = (rows ++ more, sweeps_more u v w s1 s2 rows more a b)
-  sweep_step u v w s1 s2 (swept.Closed count) had tells is = absurd (never_some (Ok {E = Memory} count) is)
-  sweep_step u v w s1 s2 swept.Refused had tells is = absurd (never_some (Err {T = ℕ} no_memory) is)
+  sweep_step u v w s1 s2 (swept.Closed count) had tells is = let x : Result ℕ Memory = Ok count in absurd (never_some x is)
+  sweep_step u v w s1 s2 swept.Refused had tells is = let x : Result ℕ Memory = Err no_memory in absurd (never_some x is)
 
   pub sweep_still : (v w : View (Event O Key Recon Cond)) (span : Span) (out : Swept) → doing_at v ≡ sweeps → TellsSweep m v w span out → sweep_end out ≡ None → doing_at w ≡ sweeps
   sweep_still v w span swept.On does ((more, b), counted) is = sweep_doing v w span more does b
-  sweep_still v w span (swept.Closed count) does tells is = absurd (never_some (Ok {E = Memory} count) is)
-  sweep_still v w span swept.Refused does tells is = absurd (never_some (Err {T = ℕ} no_memory) is)
+  sweep_still v w span (swept.Closed count) does tells is = let x : Result ℕ Memory = Ok count in absurd (never_some x is)
+  sweep_still v w span swept.Refused does tells is = let x : Result ℕ Memory = Err no_memory in absurd (never_some x is)
 
   -- one that ended it
   pub sweep_ends : (u v w : View (Event O Key Recon Cond)) (s1 s2 : Span) (out : Swept) (r : Result ℕ Memory) → (rows : List RowAt) × Told m u v s1 (OpenVacuum u.number ∷ swept_rows u.number rows) → TellsSweep m v w s2 out → sweep_end out ≡ Some r → EndsSweep m u w (joined s1 s2) r

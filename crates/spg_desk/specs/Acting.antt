@@ -44,7 +44,7 @@ ended_of outs.Restructured = None
 ended_of (outs.Restarted block by) = None
 ended_of outs.Put = Some ended.Put
 
-abbrev no_memory : Memory
+abbrev pub no_memory : Memory
 no_memory = record {}
 
 -- how a section of a vacuum ended it, if it did

@@ -126,7 +126,8 @@ impl<O: OpClass> Desk<O> {
         for _ in rt.forever() {
             let (next, span, read) = self.read_once(rt, going);
             going = next;
-            if let Some(closed) = closed_by(read) {
+            let closed = closed_by(read);
+            if let Some(closed) = closed {
                 return (going, span, closed);
             }
         }
@@ -146,9 +147,9 @@ impl<O: OpClass> Desk<O> {
             return (Pass { going }, FindAnswer::Memory(span));
         };
         let (going, first, opened) = self.open_scan(rt, going, query, start);
-        let Ok(()) = opened else {
+        if let Err(Memory) = &opened {
             return (Pass { going }, FindAnswer::Memory(first));
-        };
+        }
         let (going, last, closed) = self.scan(rt, going);
         (Pass { going }, ended_find(closed, joined(first, last)))
     }

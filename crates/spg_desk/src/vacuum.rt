@@ -138,7 +138,8 @@ impl<O: OpClass> Desk<O> {
             let (next, more, swept) = self.sweep_once(rt, going);
             going = next;
             span = joined(span, more);
-            if let Some(end) = sweep_end(swept) {
+            let end = sweep_end(swept);
+            if let Some(end) = end {
                 return (going, span, end);
             }
         }

@@ -1,9 +1,9 @@
 -- Calls of a seat, one after another.
-use Rattle.std.proofs.Common.{◌≡◌, ◌<◌, ◌≤◌, ◌+◌, ◌-◌, ℕ, zero, suc, Bool, not, List, [], ◌∷◌, ◌++◌, length, drop, refl, sym, ap, ◌∙◌, subst, arith}
+use Rattle.std.proofs.Common.{◌≡◌, ◌≤◌, ◌+◌, ◌-◌, ℕ, suc, Bool, not, List, [], ◌∷◌, ◌++◌, length, drop, sym, ap, ◌∙◌, arith}
 use Rattle.std.proofs.lemmas.List.{append_assoc, append-nil}
 use Rattle.spg_rows.specs.declared.event.Event.{Event}
 use Rattle.spg_rows.specs.History.{own}
-use Rattle.spg_calls.specs.Calls.{GrewTo, Watched, Called}
+use Rattle.spg_calls.specs.Calls.{GrewTo}
 use Rattle.spg_calls.proofs.Journals.{past_at-grows}
 use Rattle.spg_calls.proofs.Calls.{own_drop, long_grew, grew_on, between_grew, up_to_grew, by_grew}
 use Rattle.spg_script.specs.declared.command.Command.{Command}

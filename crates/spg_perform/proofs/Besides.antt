@@ -1,5 +1,5 @@
 -- A block of lanes: from the passes that are dealt to the state that comes back.
-use Rattle.std.proofs.Common.{◌≡◌, ◌<◌, ◌≤◌, get_or, ℕ, zero, suc, List, [], ◌∷◌, ◌++◌, length, take, drop, vec_capacity, refl, sym, ap, ◌∙◌, subst, arith}
+use Rattle.std.proofs.Common.{◌≡◌, ◌<◌, ◌≤◌, get_or, ℕ, suc, List, [], ◌∷◌, ◌++◌, length, take, drop, vec_capacity, refl, sym, ap, ◌∙◌, subst, arith}
 use Rattle.std.proofs.lemmas.List.{get_or_default, take_at}
 use Rattle.atomic_table.specs.Seated.{TableId}
 use Rattle.spg_base.specs.declared.recorded.Origin.{Origin}
@@ -13,10 +13,9 @@ use Rattle.spg_script.specs.Speech.{Speech}
 use Rattle.spg_report.specs.declared.record.Record.{Record}
 use Rattle.spg_turn.specs.declared.rule.View.{View}
 use Rattle.spg_turn.specs.Views.{kept_of, first_view}
-use Rattle.spg_desk.specs.Passes.{desk_of, view_of}
 use Rattle.spg_perform.specs.Session.{AllClosed}
 use Rattle.spg_perform.specs.declared.post.Post.{Post}
-use Rattle.spg_perform.specs.Posts.{IsVacant, Holds, IsWhole, IsReady, view_for, IsDealt, HasRun, IsOver, Gathered, groups_of, RanBeside}
+use Rattle.spg_perform.specs.Posts.{IsVacant, Holds, IsReady, view_for, IsDealt, HasRun, IsOver, Gathered, groups_of, RanBeside}
 use Rattle.spg_perform.proofs.Gathers.{holds_whole, lane_over, first_over, lanes_done, gathered_grew}
 
 module _ {O Key Recon Cond : Type 0} where

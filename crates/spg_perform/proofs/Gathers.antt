@@ -1,5 +1,5 @@
 -- The passes of lanes: what each knows when it is dealt, when its lane has run, and when it is joined.
-use Rattle.std.proofs.Common.{◌≡◌, inl, inr, ◌<◌, ◌≤◌, ◌+◌, cond, get_or, ℕ, zero, suc, true, false, Bool, List, [], ◌∷◌, ◌++◌, length, drop, Option, Some, None, refl, sym, ap, ◌∙◌, subst, arith, length-append, length-set, set}
+use Rattle.std.proofs.Common.{◌≡◌, inl, inr, ◌<◌, ◌≤◌, ◌+◌, cond, get_or, ℕ, zero, suc, Bool, List, [], ◌∷◌, ◌++◌, length, drop, Option, Some, None, refl, sym, ap, ◌∙◌, subst, arith, length-append, length-set, set}
 use Rattle.std.proofs.lemmas.List.{append-nil, get_or_append_left, get_or_default, get_or-set_other}
 use Rattle.std.proofs.lemmas.Grind.{get_or-set_at}
 use Rattle.std.proofs.Math.Seq.{get_or-append_seam}
@@ -10,7 +10,7 @@ use Rattle.spg_base.specs.declared.recorded.Origin.{Origin}
 use Rattle.spg_opclass.specs.Meaning.{Meaning}
 use Rattle.spg_rows.specs.declared.event.Event.{Event}
 use Rattle.spg_rows.specs.History.{own}
-use Rattle.spg_calls.specs.Calls.{GrewTo, between}
+use Rattle.spg_calls.specs.Calls.{GrewTo}
 use Rattle.spg_calls.proofs.Calls.{grew_on, long_grew, own_drop, up_to_grew}
 use Rattle.spg_script.specs.declared.command.Command.{Command}
 use Rattle.spg_script.specs.Speech.{Speech}
@@ -18,7 +18,7 @@ use Rattle.spg_report.specs.declared.record.Record.{Record}
 use Rattle.spg_turn.specs.declared.rule.View.{View}
 use Rattle.spg_turn.specs.Views.{kept_of, first_view, dealt, after_join}
 use Rattle.spg_desk.specs.declared.pass.Pass.{Pass}
-use Rattle.spg_desk.specs.Passes.{desk_of, view_of}
+use Rattle.spg_desk.specs.Passes.{view_of}
 use Rattle.spg_perform.specs.declared.post.Post.{Post}
 use Rattle.spg_perform.specs.Lanes.{CommandsDone, Went, LaneDone, LanesDone}
 use Rattle.spg_perform.specs.Posts.{IsVacant, Holds, IsWhole, view_for, WentThrough, SeatDone, IsOver, Gathered, groups_of}

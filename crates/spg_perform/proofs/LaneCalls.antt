@@ -1,25 +1,25 @@
 -- The commands of lanes, one after another, and what they are in a run.
-use Rattle.std.proofs.Common.{◌≡◌, ◌≤◌, ◌+◌, ℕ, Bool, false, List, [], ◌∷◌, ◌++◌, length, drop, refl, sym, ap, ◌∙◌, subst, arith, length-append}
-use Rattle.std.specs.List.{AllZip, AllByRecursion}
+use Rattle.std.proofs.Common.{◌≡◌, ◌+◌, ℕ, Bool, false, List, [], ◌∷◌, ◌++◌, length, refl, sym, ap, ◌∙◌, subst, arith, length-append}
+use Rattle.std.specs.List.{AllZip}
 use Rattle.std.proofs.lemmas.List.{append-nil}
 use Rattle.spg_base.specs.declared.recorded.Origin.{Origin}
 use Rattle.spg_opclass.specs.Meaning.{Meaning}
 use Rattle.spg_rows.specs.declared.event.Event.{Event}
 use Rattle.spg_rows.specs.History.{History}
-use Rattle.spg_calls.specs.Calls.{GrewTo, Watched, Called, past_at}
+use Rattle.spg_calls.specs.Calls.{GrewTo, Watched, past_at}
 use Rattle.spg_calls.proofs.Journals.{past_at-grows}
-use Rattle.spg_calls.proofs.Calls.{grew_on, long_grew}
+use Rattle.spg_calls.proofs.Calls.{grew_on}
 use Rattle.spg_script.specs.declared.command.Command.{Command}
 use Rattle.spg_script.specs.Speech.{Speech}
 use Rattle.spg_report.specs.declared.record.Record.{Record}
-use Rattle.spg_histories.specs.Tasks.{Task, lane_tasks, lanes_tasks}
+use Rattle.spg_histories.specs.Tasks.{lane_tasks, lanes_tasks}
 use Rattle.spg_histories.specs.Blocks.{joined, LanesRan}
 use Rattle.spg_histories.specs.Calls.{CallsTo}
 use Rattle.spg_histories.specs.Causes.{IsTooFull, IsTooFullIn}
 use Rattle.spg_histories.proofs.Blocks.{zip_append}
 use Rattle.spg_histories.proofs.Calls.{calls_compose}
 use Rattle.spg_perform.proofs.Tasks.{lane_length}
-use Rattle.spg_perform.specs.Lanes.{CommandDone, CommandsDone, LaneDone, LanesDone}
+use Rattle.spg_perform.specs.Lanes.{CommandDone, CommandsDone, LanesDone}
 
 module _ {O Key Recon Cond : Type 0} (m : Meaning Key Recon Cond) (speech : Speech Key Cond) where
   -- ---- one more command

@@ -1,16 +1,11 @@
 -- One command of a lane: from what the desk tells to what was done.
-use Rattle.std.proofs.Common.{◌≡◌, ◌⊎◌, inl, inr, ◌<◌, ◌≤◌, ◌+◌, ℕ, false, List, [], ◌∷◌, ◌++◌, length, take, drop, Option, Some, None, refl, sym, ap, ◌∙◌, subst, arith}
-use Rattle.std.specs.Prelude.{is_none}
+use Rattle.std.proofs.Common.{◌≡◌, inl, inr, ℕ, List, [], ◌∷◌, length, drop, Option, Some, refl, sym, ap, ◌∙◌, subst}
 use Rattle.std.proofs.lemmas.List.{append-nil}
 use Rattle.spg_base.specs.Row.{RowAt}
-use Rattle.spg_base.specs.declared.names.Span.{Span}
 use Rattle.spg_base.specs.declared.recorded.Origin.{Origin}
 use Rattle.spg_opclass.specs.Meaning.{Meaning}
 use Rattle.spg_opclass.specs.declared.query.Query.{Query}
-use Rattle.spg_forest.specs.Walk.{weight_of}
 use Rattle.spg_rows.specs.declared.event.Event.{Event}
-use Rattle.spg_rows.specs.declared.event.Event.TheVariants.{OpenInsert, Put, Drop, Kill, OpenScan, CloseScan, OpenVacuum, Sweep, CloseVacuum, Leave}
-use Rattle.spg_rows.specs.declared.event.Why.TheVariants as cause
 use Rattle.spg_rows.specs.History.{own}
 use Rattle.spg_calls.specs.Calls.{past_at, Watched, Called, span_at}
 use Rattle.spg_calls.proofs.Calls.{call_one}
@@ -19,12 +14,9 @@ use Rattle.spg_script.specs.declared.any_query.AnyQuery.{AnyQuery}
 use Rattle.spg_script.specs.declared.command.Command.{Command}
 use Rattle.spg_script.specs.declared.command.Command.TheVariants as asked
 use Rattle.spg_script.specs.Speech.{Speech, key_or_null_in, query_in}
-use Rattle.spg_report.specs.declared.outcome.Outcome.{Outcome}
-use Rattle.spg_report.specs.declared.outcome.Outcome.TheVariants as outcome
 use Rattle.spg_report.specs.declared.record.Record.{Record}
 use Rattle.spg_histories.specs.Run.{Does}
 use Rattle.spg_histories.specs.Causes.{IsTooFull}
-use Rattle.spg_core.specs.Weight.{opened_keys}
 use Rattle.spg_turn.specs.declared.rule.View.{View}
 use Rattle.spg_desk.specs.Told.{Told}
 use Rattle.spg_desk.specs.Knowing.{own_since}
@@ -37,7 +29,7 @@ use Rattle.spg_desk.specs.declared.answer.FindAnswer.{FindAnswer}
 use Rattle.spg_desk.specs.declared.answer.FindAnswer.TheVariants as finds
 use Rattle.spg_desk.specs.declared.answer.VacuumAnswer.{VacuumAnswer}
 use Rattle.spg_desk.specs.declared.answer.VacuumAnswer.TheVariants as vacuums
-use Rattle.spg_perform.specs.Lanes.{lane_task, CommandDone, WentOne, insert_record, kill_record, find_record, vacuum_record, refused_at}
+use Rattle.spg_perform.specs.Lanes.{lane_task, WentOne, insert_record, kill_record, find_record, vacuum_record, refused_at}
 use Rattle.spg_perform.proofs.Keys.{same_null}
 
 module _ {O Key Recon Cond : Type 0} (m : Meaning Key Recon Cond) (speech : Speech Key Cond) (v w : View (Event O Key Recon Cond)) where

@@ -7,7 +7,6 @@ use Rattle.std.proofs.lemmas.List.{append-nil}
 use Rattle.std.proofs.lemmas.List.Elements.{recursion_from_All}
 use Rattle.spg_base.specs.declared.recorded.Origin.{Origin}
 use Rattle.spg_opclass.specs.Meaning.{Meaning}
-use Rattle.spg_forest.specs.Sheets.{Sheets}
 use Rattle.spg_io.specs.Held.{Holding}
 use Rattle.spg_rows.specs.declared.event.Event.{Event}
 use Rattle.spg_rows.specs.History.{History, own}
@@ -25,14 +24,14 @@ use Rattle.spg_histories.specs.Tasks.{Task, lane_tasks, lanes_tasks}
 use Rattle.spg_histories.specs.Run.{Does, Did, IsWithin, past_at, between}
 use Rattle.spg_histories.specs.Blocks.{joined, BlockOf, AreRefused}
 use Rattle.spg_histories.specs.Telling.{AreOfLanes, TellAll}
-use Rattle.spg_histories.specs.Causes.{IsTooFullIn, IsDueIn, TellDrops, Causes, CausesGrow}
+use Rattle.spg_histories.specs.Causes.{IsTooFullIn, IsDueIn, TellDrops, Causes}
 use Rattle.spg_histories.proofs.Blocks.{runs_grow, run_goes_on, each_weaker, each_append}
 use Rattle.spg_histories.proofs.Causes.{causes_grow, no_save_in}
 use Rattle.spg_histories.proofs.Telling.{lanes_more}
 use Rattle.spg_perform.specs.Session.{AllClosed, told_of, ReadsBack, is_image_fault, image_faults, RoseBy, Session, LeadsOn, standing}
 use Rattle.spg_perform.specs.Acted.{CanBeDone}
-use Rattle.spg_perform.specs.Lanes.{refused_at, refusals}
-use Rattle.spg_perform.specs.Posts.{groups_of, RanBeside}
+use Rattle.spg_perform.specs.Lanes.{refusals}
+use Rattle.spg_perform.specs.Posts.{RanBeside}
 use Rattle.spg_perform.proofs.LaneCalls.{lanes_ran, lanes_full}
 use Rattle.spg_perform.proofs.Tasks.{lanes_length}
 

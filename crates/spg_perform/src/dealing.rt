@@ -1,11 +1,9 @@
 // How the lanes of a block get their passes, run, and give the passes back.
-ghost use Rattle.std.specs.Prelude.{◌≡◌, ◌<◌, ◌≤◌, ◌+◌, ℕ, false, [], List as Items, length, All, slice_index_or};
-ghost use Rattle.spg_rows.specs.declared.event.Event.{Event as Entry};
-ghost use Rattle.spg_base.specs.declared.recorded.Origin.{Origin as Made};
+ghost use Rattle.std.specs.Prelude.{◌≡◌, ◌<◌, ◌≤◌, ℕ, false, List as Items, length, All, slice_index_or};
 ghost use Rattle.spg_script.specs.declared.command.Command.{Command as Asked};
 ghost use Rattle.spg_desk.specs.Passes.{desk_id, desk_seats, desk_of, view_of};
 ghost use Rattle.spg_perform.specs.Acted.{CanBeDone};
-ghost use Rattle.spg_perform.specs.Posts.{Holds, IsReady, HasRun, IsDealt, IsOver, Gathered};
+ghost use Rattle.spg_perform.specs.Posts.{IsReady, HasRun, IsDealt};
 
 use crate::gate::Gate;
 use crate::lane::run_lane;

@@ -1,4 +1,4 @@
-use Rattle.std.proofs.Common.{Bool, true, false, not, List, sym, subst}
+use Rattle.std.proofs.Common.{Bool, false, not, List, sym, subst}
 use Rattle.std.specs.Prelude.{All}
 use Rattle.spg_script.specs.declared.command.Command.{Command}
 use Rattle.spg_histories.specs.Tasks.{lanes_tasks}

@@ -1,4 +1,4 @@
-use Rattle.std.proofs.Common.{◌≡◌, length, sym, ◌∙◌, arith}
+use Rattle.std.proofs.Common.{◌≡◌, length, ◌∙◌, arith}
 use Rattle.spg_desk.specs.Passes.{view_of}
 use Rattle.spg_perform.proofs.BlocksTasks.{IsNext}
 use Rattle.spg_perform.proofs.LaneRuns.{went_next, went_count}

@@ -1,4 +1,4 @@
-use Rattle.std.proofs.Common.{◌≡◌, length, vec_len, sym, ap, ◌∙◌, subst, arith, refl}
+use Rattle.std.proofs.Common.{length, sym, ap, ◌∙◌, arith}
 use Rattle.std.proofs.lemmas.List.{get_or_default}
 use Rattle.spg_perform.proofs.Gathers.{vacant_push}
 use Rattle.spg_perform.proofs.post.posts_for.Goals as goal

@@ -1,4 +1,4 @@
-use Rattle.std.proofs.Common.{◌≡◌, ◌<◌, ℕ, List as Items, length, vec_len, slice_index_or}
+use Rattle.std.proofs.Common.{◌≡◌, ◌<◌, ℕ, List as Items, vec_len, slice_index_or}
 use Rattle.spg_script.specs.declared.command.Command.{Command as Asked}
 use Rattle.spg_perform.specs.Posts.{IsVacant}
 use Rattle.spg_perform.proofs.post.posts_for.Given as goal

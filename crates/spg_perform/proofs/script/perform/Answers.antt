@@ -2,7 +2,7 @@ use Rattle.spg_perform.proofs.Beginning.{script_can, performs}
 use Rattle.spg_perform.proofs.script.perform.Goals as goal
 
 pub parts-state-requires-clause-can : goal.parts-state-requires-clause-can
-parts-state-requires-clause-can g c = script_can g.O.Spoken.speech c.args.script.now c.parts-blocks.result.now c.parts-blocks.ensures.written c.parts-blocks.ensures.parts c.requires.of_class
+parts-state-requires-clause-can g c = λ lives outlives. script_can g.O.Spoken.speech c.args.script.now c.parts-blocks.result.now c.parts-blocks.ensures.written c.parts-blocks.ensures.parts c.requires.of_class
 
 pub returns-clause-ok : goal.returns-clause-ok
 returns-clause-ok g c =

@@ -1,4 +1,4 @@
-use Rattle.std.proofs.Common.{◌≡◌, true, length, drop, sym, ◌∙◌, arith}
+use Rattle.std.proofs.Common.{true, length, sym, arith}
 use Rattle.std.proofs.lemmas.Bool.{ne_eqb}
 use Rattle.spg_histories.specs.Tasks.{lanes_tasks}
 use Rattle.spg_perform.proofs.BlocksTasks.{IsNext, lanes_left}

@@ -1,4 +1,4 @@
-use Rattle.std.proofs.Common.{◌≡◌, ◌+◌, ◌≤◌, true, length, take, arith}
+use Rattle.std.proofs.Common.{◌+◌, true, length, take, arith}
 use Rattle.spg_histories.specs.Tasks.{lanes_tasks}
 use Rattle.spg_perform.proofs.Tasks.{lanes_count}
 use Rattle.spg_perform.proofs.Refusing.{refused_lane, taken_count}

@@ -1,4 +1,4 @@
-use Rattle.std.proofs.Common.{rules, ◌≡◌, ◌<◌, ℕ, length, get_or, sym, ap, ◌∙◌, subst, arith}
+use Rattle.std.proofs.Common.{rules, ◌≡◌, length, subst, arith}
 use Rattle.spg_core.specs.Seen.{Seen}
 use Rattle.spg_turn.specs.Views.{first_view}
 use Rattle.spg_desk.specs.Passes.{desk_id, view_of}

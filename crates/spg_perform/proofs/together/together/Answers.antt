@@ -1,9 +1,7 @@
-use Rattle.std.proofs.Common.{rules, ◌≡◌, ◌≢◌, true, false, length, sym, ap, ◌∙◌, subst, arith, ◌++◌, List}
-use Rattle.std.proofs.lemmas.Bool.{eqb-true, eq-eqb}
+use Rattle.std.proofs.Common.{rules, ◌≡◌, true, false, length, sym, ap, ◌∙◌, subst, arith, ◌++◌}
+use Rattle.std.proofs.lemmas.Bool.{eqb-true}
 use Rattle.spg_core.specs.Seen.{Seen, past_of}
-use Rattle.spg_report.specs.declared.record.Record.{Record}
 use Rattle.spg_histories.specs.Tasks.{lanes_tasks}
-use Rattle.spg_histories.specs.Blocks.{joined}
 use Rattle.spg_perform.specs.Session.{AllClosed, LeadsOn, standing}
 use Rattle.spg_perform.specs.Lanes.{refusals}
 use Rattle.spg_perform.specs.Posts.{groups_of, RanBeside}

@@ -15,11 +15,11 @@ read_once-next-requires-clause-scanning g c = c.loop.invariant.scanning
 
 pub returns-in-Some-closed-clause-told : goal.returns-in-Some-closed-clause-told
 returns-in-Some-closed-clause-told g c =
-    reads_closed g.O.OpClass.meaning (pass_view c.args.going.pass) (pass_view c.loop.going.pass) (pass_view c.read_once-next.result.0.pass) c.read_once-next.result.1 c.read_once-next.result.2 c.in-Some-closed.closed c.loop.invariant.on c.read_once-next.ensures.told (sym c.closed_by.ensures ∙ c.in-Some-closed.is)
+    reads_closed g.O.OpClass.meaning (pass_view c.args.going.pass) (pass_view c.loop.going.pass) (pass_view c.read_once-next.result.0.pass) c.read_once-next.result.1 c.read_once-next.result.2 c.in-Some-closed.closed c.loop.invariant.on c.read_once-next.ensures.told (sym c.closed_by-closed.ensures ∙ c.in-Some-closed.is)
 
 pub loop-preserved : goal.loop-preserved
 loop-preserved g c =
     let u = pass_view c.args.going.pass in
     let w = pass_view c.read_once-next.result.0.pass in
-    let on = reads_on g.O.OpClass.meaning u (pass_view c.loop.going.pass) w c.read_once-next.result.1 c.read_once-next.result.2 c.loop.invariant.on c.read_once-next.ensures.told (sym c.closed_by.ensures ∙ c.in_default.is) in
+    let on = reads_on g.O.OpClass.meaning u (pass_view c.loop.going.pass) w c.read_once-next.result.1 c.read_once-next.result.2 c.loop.invariant.on c.read_once-next.ensures.told (sym c.closed_by-closed.ensures ∙ c.in_default.is) in
     record { own = c.read_once-next.ensures.own; scanning = on_scan u w on c.requires.scanning; on = on }

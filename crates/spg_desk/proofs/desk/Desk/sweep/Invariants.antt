@@ -15,5 +15,5 @@ abbrev pub invariant-loop : goal.invariant-loop
 invariant-loop g l = record {
   own : pass_turn l.going.pass ≡ desk_id l.self;
   sweeping : doing_at (pass_view l.going.pass) ≡ sweeps;
-  told : (v : View (Event g.row.O.Denot g.row.O-Key.Denot g.row.O-Recon.Denot g.row.O-Cond.Denot)) → Told g.O.OpClass.meaning v (pass_view l.initial.going.pass) l.initial.opened (OpenVacuum v.number ∷ []) → (rows : List RowAt) × Told g.O.OpClass.meaning v (pass_view l.going.pass) l.span (OpenVacuum v.number ∷ swept_rows v.number rows);
+  told : (v : View (Event g.row.O.Denot g.row.O-Key.Denot g.row.O-Recon.Denot g.row.O-Cond.Denot)) → Told g.O.OpClass.meaning v (pass_view l.fn.going.pass) l.fn.opened (OpenVacuum v.number ∷ []) → (rows : List RowAt) × Told g.O.OpClass.meaning v (pass_view l.going.pass) l.span (OpenVacuum v.number ∷ swept_rows v.number rows);
 }

@@ -1,0 +1,21 @@
+use Rattle.std.proofs.Common.{◌≡◌, [], ◌∷◌, sym, ap, ◌∙◌, subst, refl}
+use Rattle.spg_turn.specs.Passes.{pass_view}
+use Rattle.spg_calls.specs.Calls.{joined}
+use Rattle.spg_desk.specs.Passes.{view_of}
+use Rattle.spg_desk.proofs.Sweeping.{vacuum_doing, vacuum_idle, vacuumed}
+use Rattle.spg_desk.proofs.desk.Desk.vacuum.Goals as goal
+
+pub sweep-going-requires-clause-sweeping : goal.sweep-going-requires-clause-sweeping
+sweep-going-requires-clause-sweeping g c =
+    let told = rw c.in_default.is at c.open_vacuum-going.ensures.told in
+    vacuum_doing g.O.OpClass.meaning (view_of c.args.pass) (pass_view c.open_vacuum-going.result.0.pass) c.open_vacuum-going.result.1 told
+
+pub invariant_of-result-1 : goal.invariant_of-result-1
+invariant_of-result-1 g c =
+    let told = rw c.in_default.is at c.open_vacuum-going.ensures.told in
+    record { idle = vacuum_idle g.O.OpClass.meaning (view_of c.args.pass) (pass_view c.sweep-going.result.0.pass) c.sweep-going.result.1 c.sweep-going.result.2 (c.sweep-going.ensures.told (view_of c.args.pass) told) }
+
+pub returns-clause-did : goal.returns-clause-did
+returns-clause-did g c =
+    let told = rw c.in_default.is at c.open_vacuum-going.ensures.told in
+    rw c.ended_vacuum.ensures (vacuumed g.O.OpClass.meaning (view_of c.args.pass) (pass_view c.sweep-going.result.0.pass) c.sweep-going.result.1 c.sweep-going.result.2 (c.sweep-going.ensures.told (view_of c.args.pass) told))
