@@ -1,4 +1,4 @@
-use Rattle.std.proofs.Common.{◌≡◌, sym, ap, ◌∙◌, subst}
+use Rattle.std.proofs.Common.{sym, ap, ◌∙◌, subst}
 use Rattle.spg_quad.specs.Quad.{quad_meaning}
 use Rattle.spg_kd.specs.Kd.{kd_meaning}
 use Rattle.spg_radix.specs.Radix.{radix_meaning}

@@ -1,6 +1,5 @@
-use Rattle.std.proofs.Common.{◌≡◌, List, ℕ, ◌∷◌, Bool, true, false, if◌then◌else◌, bytes_eq, codes, map, string_bytes, Option, Some, None, sym, ap, ◌∙◌}
+use Rattle.std.proofs.Common.{◌≡◌, List, ℕ, ◌∷◌, Bool, true, false, if◌then◌else◌, bytes_eq, codes, map, string_bytes, Option, None, sym, ap, ◌∙◌}
 use Rattle.spg_script.specs.Reading.{◌>>=◌}
-use Rattle.spg_app.specs.declared.load.Load.{Load}
 use Rattle.spg_app.specs.declared.load_words.Asked.{Asked}
 use Rattle.spg_app.specs.LoadWords.{nothing_asked, read_words, whole_load, load_of}
 use Rattle.spg_app.proofs.load_words.load_of.Goals as goal
