@@ -69,7 +69,13 @@ pub fn run_generated<R: AllocGlobal + Threads + Wait + Sync, K: Sink, M: Images,
         (outlets (K.contents out.old) (K.contents out.new) (K.faults out.old) (K.faults out.new)
         (M.held images.old) (M.held images.new) (M.faults images.old) (M.faults images.new)) result.0 result.1 }
 {
-    let Ok(script) = generate(rt.alloc(), load.count, load.seed, load.lanes as u8, load.class) else {
+    let Ok(script) = generate(
+        rt.alloc(),
+        load.count,
+        load.seed,
+        load.lanes as u8,
+        load.class,
+    ) else {
         return (Status::Memory, None);
     };
     match load.class {
