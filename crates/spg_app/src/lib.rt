@@ -2,9 +2,13 @@
 #![tactic(auto)]
 
 mod end_state;
+mod generated;
+mod load;
+mod load_words;
 mod program;
 mod session;
 mod stream;
+mod summary;
 mod words;
 mod writing;
 

@@ -53,7 +53,7 @@ fn any_memory(records: &[Record]) -> bool
 }
 
 /// The status of a run whose text was written so.
-fn status_after(written: Result<(), IoRefused>, records: &[Record]) -> Status
+pub fn status_after(written: Result<(), IoRefused>, records: &[Record]) -> Status
     ensures { result ≡ status_after (writing_of written) records.now }
 {
     match written {

@@ -38,6 +38,7 @@ pub use command::Command;
 pub use generating::{MOST_LOAD_LANES, generate};
 pub use laws::{prints_read_back, readers_find, readers_go_on, scripts_are_exact};
 pub use load::{MOST_ROWS, MOST_SEED};
+pub use numbers::number;
 pub use parsing::parse;
 pub use part::Part;
 pub use printing::print;

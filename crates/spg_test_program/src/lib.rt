@@ -8,6 +8,8 @@ mod faults;
 #[cfg(test)]
 mod lanes;
 #[cfg(test)]
+mod loads;
+#[cfg(test)]
 mod long_texts;
 #[cfg(test)]
 mod program;
