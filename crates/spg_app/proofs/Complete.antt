@@ -54,7 +54,7 @@ decide true memory not_so = absurd (not_so refl)
 decide false true not_so = inr refl
 decide false false not_so = inl refl
 
-done_or_memory : (writing : Writing) (records : List Record) (f f_after g g_after : ℕ) → (writing ≡ write_failed → Rose f f_after) → RoseBy (image_faults records) g g_after → (Rose f f_after → ⊥) → (Rose g g_after → ⊥)
+pub done_or_memory : (writing : Writing) (records : List Record) (f f_after g g_after : ℕ) → (writing ≡ write_failed → Rose f f_after) → RoseBy (image_faults records) g g_after → (Rose f f_after → ⊥) → (Rose g g_after → ⊥)
     → (status_after writing records ≡ Done) ⊎ (status_after writing records ≡ Memory)
 done_or_memory write_failed records f f_after g g_after cause by no_write no_image = absurd (no_write (cause refl))
 done_or_memory memory_wanting records f f_after g g_after cause by no_write no_image = inr refl

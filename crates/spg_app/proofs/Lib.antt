@@ -1,3 +1,4 @@
 pub mod Streams
 pub mod Outcomes
 pub mod Complete
+pub mod LoadEnds

@@ -81,3 +81,8 @@ module _ {O Key Recon Cond : Type 0} (speech : Speech Key Cond) where
 
     pub events_fail : Appends b c line → WroteSome c d events → WroteSome a d whole
     events_fail next some = WroteSome-more a c d whole events [] events (wrote_line next) some (sym (append-nil events))
+
+-- ---- lines
+
+pub lines_more : (lines : List (List ℕ)) (i : ℕ) (one : List ℕ) → i < length lines → one ≡ get_or lines i one → ended (drop i lines) ≡ (one ++ 10 ∷ []) ++ ended (drop (i + 1) lines)
+lines_more lines i one within is = at_drop_more ended lines i one within ∙ ap (λ (line : List ℕ). (line ++ 10 ∷ []) ++ ended (drop (i + 1) lines)) (sym is)

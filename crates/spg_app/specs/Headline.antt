@@ -19,6 +19,9 @@ use Rattle.spg_app.specs.declared.stream.TheConstants.{LONGEST}
 use Rattle.spg_app.specs.Ending.{Outlets, LeftAlone, RanCommands}
 use Rattle.spg_app.specs.Io.{ReadWhole, ReadMore}
 use Rattle.spg_app.specs.Words.{IsRunLine}
+use Rattle.spg_app.specs.declared.load.Load.{Load}
+use Rattle.spg_app.specs.LoadWords.{load_of}
+use Rattle.spg_app.specs.Loads.{IsGen}
 
 -- what a source tells before and after
 pub record Streams : Type 0 where
@@ -82,12 +85,20 @@ pub record IsUsage (words : List (List ℕ)) (io : Streams) (out : Outlets) (sta
   pub status_is : status ≡ Usage
   pub none : end ≡ None
   pub no_line : (limit : ℕ) → IsRunLine limit words → ⊥
+  pub no_load : load_of words ≡ None
   pub unread : (io.left_after ≡ io.left) × (io.read_faults_after ≡ io.read_faults)
   pub left_alone : LeftAlone out
 
+-- the words ask for a generated load, whose script was run; nothing was read
+pub record IsLoaded (words : List (List ℕ)) (io : Streams) (out : Outlets) (status : Status) (end : Option EndState) : Type 0 where
+  pub load : Load
+  pub asked : load_of words ≡ Some load
+  pub unread : (io.left_after ≡ io.left) × (io.read_faults_after ≡ io.read_faults)
+  pub run : IsGen load out status end
+
 -- what each answer says
 abbrev pub IsAnswer : List (List ℕ) → Streams → Outlets → Status → Option EndState → Type 0
-IsAnswer words io out status end = IsUsage words io out status end ⊎ ((limit : ℕ) × IsRunLine limit words × IsRun limit io out status end)
+IsAnswer words io out status end = IsUsage words io out status end ⊎ (((limit : ℕ) × IsRunLine limit words × IsRun limit io out status end) ⊎ IsLoaded words io out status end)
 
 -- the answer of a run that ended so, by its class
 abbrev pub ended : {O Key Recon Cond : Type 0} → (Seen O Key Recon Cond → EndState) → Status × Option (Seen O Key Recon Cond) → Status × Option EndState

@@ -5,6 +5,7 @@ use Rattle.std.specs.declared.alloc.Global.{Global}
 use Rattle.spg_base.specs.Row.{RowAt}
 use Rattle.spg_opclass.specs.Meaning.{Meaning}
 use Rattle.spg_opclass.specs.Laws.{CodeLaw}
+use Rattle.spg_opclass.specs.Copies.{AtTuple, RestsAt}
 use Rattle.spg_forest.specs.Walk.{weight_of}
 use Rattle.spg_rows.specs.declared.event.Event.TheVariants.{Put}
 use Rattle.spg_rows.specs.declared.table.RowState.TheVariants as row_state
@@ -22,20 +23,23 @@ use Rattle.spg_core.specs.declared.answer.InsertOut.TheVariants as outs
 use Rattle.spg_core.specs.declared.slot.Slot.{Slot}
 use Rattle.spg_core.specs.declared.slot.Slot.TheVariants.{Free, Insert, Scan, Vacuum}
 use Rattle.spg_core.specs.declared.bare.Bare.TheInside.{Inside}
-use Rattle.spg_core.specs.Stepping.{SamePages, Grows, MakesAtMostOne, IsStepOut}
+use Rattle.spg_core.specs.Stepping.{SamePages, Grows, MakesAtMostOne, IsStepOut, MayStep}
 use Rattle.spg_core.specs.Telling.{StepTells, StepDone}
 use Rattle.spg_core.specs.Ends.{EndsWithin, StageEnds, SeatEnds, SeatThenEnds}
-use Rattle.spg_core.specs.Operations.{CanStep, IsOutgrownBy, StepsFrom, IsInsert, IsRowOf}
+use Rattle.spg_core.specs.Operations.{CanStep, IsOutgrownBy, StepsFrom, IsInsert, IsDescentOf, IsRowOf}
 use Rattle.spg_core.specs.Sections.{IsOutOf, IsHeavyFor, FindsNoPageFor, SeatFindsNoPage, TicksFor, SeatTicks, StoodFor, TellsFor, LatchesAfter, HasNone, OthersHold}
 use Rattle.spg_core.specs.Latches.{HoldsAfter}
+use Rattle.spg_core.specs.declared.plan.Plan.{Plan}
+use Rattle.spg_core.specs.Plans.{IsPlanned, PlannedIn, IsSpottedAt, IsBunchAt, AsksAt}
+use Rattle.spg_core.specs.Looking.{SpottedIn, IsSpotted, BunchIn, IsBunch, AsksIn, Asks}
 use Rattle.spg_core.specs.Slot.{stage_of}
 use Rattle.spg_core.specs.Stage.{IsInserting}
-use Rattle.spg_core.specs.Seen.{Seen, moved, logged}
+use Rattle.spg_core.specs.Seen.{Seen, stage_at, moved, logged}
 use Rattle.spg_core.specs.Kept.{fields_of, seen_of, IsState}
 use Rattle.spg_core.proofs.Weights.{nulls_key}
 use Rattle.spg_core.proofs.Keeping.{outgrown_heavy, its_held, section_changes, section_grows, step_keeps, put_keeps}
 use Rattle.spg_core.proofs.Slots.{set_twice, stages_set, stage_set, stage_get, stage_is, past_is, table_is, moved_is, logged_is, seen_as}
-use Rattle.spg_core.proofs.Steps.{with_fields, same_rows, past, seats, low, room_on, room_ended, insert_claimed}
+use Rattle.spg_core.proofs.Steps.{with_fields, same_rows, past, seats, fits, low, room_on, room_ended, insert_claimed}
 
 -- what a seat has latched is its own, and what it has not is not
 pub none_held : (t t2 : pages.Table) (seat : ℕ) → AreHeld t2 seat (rest_of t seat) (λ b. false) → HasNone t2 seat
@@ -52,6 +56,59 @@ module _ {O Key Recon Cond : Type 0} (m : Meaning Key Recon Cond) (s : Inside O 
   pub ticks_kept : SeatTicks m seen seat → TicksFor m s.table (stage_of (get_or s.slots.items seat Free))
   ticks_kept h = subst (λ (t : pages.Table). TicksFor m t (stage_of (get_or s.slots.items seat Free))) (table_is s seen view 0) (subst (λ (x : Stage O Key Recon Cond). TicksFor m seen.table x) (stage_is s seen view seat) h)
 
+-- the insert in the seat's slot, as callers see it
+module _ {O Key Recon Cond : Type 0} (s : Inside O Key Recon Cond) (seen : Seen O Key Recon Cond) (view : seen_of s ≡ seen) (seat : ℕ) where
+  pub is_insert : (items : List (Slot O Key Recon Cond)) → items ≡ s.slots.items → IsInserting (stage_at seen seat) → IsInsert (get_or items seat Free)
+  is_insert items same is = subst (λ (l : List (Slot O Key Recon Cond)). IsInsert (get_or l seat Free)) (sym same) (go (get_or s.slots.items seat Free) (subst (λ (x : Stage O Key Recon Cond). IsInserting x) (stage_is s seen view seat) is))
+    where
+      go : (slot : Slot O Key Recon Cond) → IsInserting (stage_of slot) → IsInsert slot
+      go Free h = absurd h
+      go (Insert key d) h = tt
+      go (Scan x) h = absurd h
+      go (Vacuum x) h = absurd h
+
+  pub stage_here : (d : Descending Recon) → IsDescentOf (get_or s.slots.items seat Free) d → (key : Option Key) × (stage_at seen seat ≡ descending key d)
+  stage_here d h = let (key, e) = go (get_or s.slots.items seat Free) h in (key, stage_is s seen view seat ∙ e)
+    where
+      go : (slot : Slot O Key Recon Cond) → IsDescentOf slot d → (key : Option Key) × (stage_of slot ≡ descending key d)
+      go Free e = absurd e
+      go (Insert key d2) e = (key, ap (λ (z : Descending Recon). descending key z) (sym e))
+      go (Scan x) e = absurd e
+      go (Vacuum x) e = absurd e
+
+  -- what is said of it by the table and its stage is said of what callers see
+  pub seen_here : (P : pages.Table → Stage O Key Recon Cond → Type 0) (key : Option Key) (d : Descending Recon) → stage_at seen seat ≡ descending key d → P s.table (descending key d) → P seen.table (stage_at seen seat)
+  seen_here P key d e h = subst (λ (x : Stage O Key Recon Cond). P seen.table x) (sym e) (subst (λ (t : pages.Table). P t (descending key d)) (sym (table_is s seen view seat)) h)
+
+  pub kept_here : (P : pages.Table → Stage O Key Recon Cond → Type 0) (key : Option Key) (d : Descending Recon) → stage_at seen seat ≡ descending key d → P seen.table (stage_at seen seat) → P s.table (descending key d)
+  kept_here P key d e h = subst (λ (t : pages.Table). P t (descending key d)) (table_is s seen view seat) (subst (λ (x : Stage O Key Recon Cond). P seen.table x) e h)
+
+  -- its plan, and the copies that a look gives
+  module _ (d : Descending Recon) (items : List (Slot O Key Recon Cond)) (same : items ≡ s.slots.items) (it : IsDescentOf (get_or items seat Free) d) where
+    it_is : IsDescentOf (get_or s.slots.items seat Free) d
+    it_is = subst (λ (l : List (Slot O Key Recon Cond)). IsDescentOf (get_or l seat Free) d) same it
+
+    pub plan_seen : (m : Meaning Key Recon Cond) (plan : Plan O Key Recon Cond) (parted : Option (RestsAt Recon)) → IsPlanned m s.table d plan parted → PlannedIn m seen.table (stage_at seen seat) plan parted
+    plan_seen m plan parted h = let (key, e) = stage_here d it_is in seen_here (λ t x. PlannedIn m t x plan parted) key d e h
+
+    pub spotted_seen : (x : AtTuple Recon) → IsSpottedAt s.table d x → IsSpotted seen seat x
+    spotted_seen x h = let (key, e) = stage_here d it_is in seen_here (λ t z. SpottedIn t z x) key d e h
+
+    pub spotted_kept : (x : AtTuple Recon) → IsSpotted seen seat x → IsSpottedAt s.table d x
+    spotted_kept x h = let (key, e) = stage_here d it_is in kept_here (λ t z. SpottedIn t z x) key d e h
+
+    pub bunch_seen : (x : RestsAt Recon) → IsBunchAt s.table d x → IsBunch seen seat x
+    bunch_seen x h = let (key, e) = stage_here d it_is in seen_here (λ t z. BunchIn t z x) key d e h
+
+    pub bunch_kept : (x : RestsAt Recon) → IsBunch seen seat x → IsBunchAt s.table d x
+    bunch_kept x h = let (key, e) = stage_here d it_is in kept_here (λ t z. BunchIn t z x) key d e h
+
+    pub asks_seen : AsksAt s.table d → Asks seen seat
+    asks_seen h = let (key, e) = stage_here d it_is in seen_here (λ t z. AsksIn t z) key d e h
+
+    pub asks_kept : Asks seen seat → AsksAt s.table d
+    asks_kept h = let (key, e) = stage_here d it_is in kept_here (λ t z. AsksIn t z) key d e h
+
 module _ {O Key Recon Cond : Type 0} (m : Meaning Key Recon Cond) (codes : CodeLaw m) (s : Inside O Key Recon Cond) (I : IsState m s) (seat : ℕ) where
   abbrev before : History O Key Recon Cond
   before = past m s I
@@ -61,6 +118,16 @@ module _ {O Key Recon Cond : Type 0} (m : Meaning Key Recon Cond) (codes : CodeL
   can_step (Insert key d) has is = (has.1, has.2)
   can_step (Scan x) has is = absurd is
   can_step (Vacuum x) has is = absurd is
+
+  -- its insert may do a section
+  pub may_step : (d : Descending Recon) (items : List (Slot O Key Recon Cond)) → items ≡ s.slots.items → IsDescentOf (get_or items seat Free) d → MayStep m s.table d
+  may_step d items same it = go (get_or s.slots.items seat Free) (fits m s I seat) (subst (λ (l : List (Slot O Key Recon Cond)). IsDescentOf (get_or l seat Free) d) same it)
+    where
+      go : (slot : Slot O Key Recon Cond) → StageFits m s.table before seat (stage_of slot) → IsDescentOf slot d → MayStep m s.table d
+      go Free has e = absurd e
+      go (Insert key d2) has e = subst (λ (z : Descending Recon). MayStep m s.table z) (sym e) (record { shape = I.tells.holds.shape; of_key = (key, has.1); stands = has.2 })
+      go (Scan x) has e = absurd e
+      go (Vacuum x) has e = absurd e
 
   pub heavy_for : (seen : Seen O Key Recon Cond) → seen_of s ≡ seen → (slot : Slot O Key Recon Cond) → StageFits m s.table before seat (stage_of slot) → IsOutgrownBy s.table slot → IsHeavyFor m seen (stage_of slot)
   heavy_for seen view Free has out = absurd out

@@ -1,5 +1,6 @@
 pub mod Stands
 pub mod Chooses
+pub mod Looks
 pub mod Moves
 pub mod Weights
 pub mod Trees
@@ -22,6 +23,7 @@ pub mod Inserts
 pub mod Going
 pub mod Opens
 pub mod Scans
+pub mod Siftings
 pub mod Works
 pub mod Sweepers
 pub mod Vacuumed

@@ -11,6 +11,7 @@ use Rattle.spg_opclass.specs.Meaning.{Meaning}
 use Rattle.spg_rows.specs.declared.event.Event.{Event}
 use Rattle.spg_rows.specs.declared.event.Event.TheVariants.{OpenInsert, Kill}
 use Rattle.spg_rows.specs.declared.event.Why.{Why}
+use Rattle.spg_rows.specs.declared.event.Why.TheVariants as cause
 use Rattle.spg_rows.specs.declared.table.RowState.TheVariants as row_state
 use Rattle.spg_rows.specs.History.{Written}
 use Rattle.spg_rows.specs.Lives.{Life, lives}
@@ -24,6 +25,7 @@ use Rattle.spg_tree.specs.Descents.{Descending, in_nulls}
 use Rattle.spg_descend.specs.Enters.{opened_for, CarriesNew}
 use Rattle.spg_descend.specs.Leaves.{released, is_held}
 use Rattle.spg_seats.specs.Descending.{Stands}
+use Rattle.spg_seats.specs.Drops.{MayDrop}
 use Rattle.spg_seats.specs.Latching.{HoldsNone, InsertHolds, rest_of}
 use Rattle.spg_seats.specs.Slots.{free, descending, is_open, open_count, stage_in, stage_holds, StageFits}
 use Rattle.spg_seats.proofs.Calls as calls
@@ -33,7 +35,7 @@ use Rattle.spg_core.specs.declared.slot.Slot.{Slot}
 use Rattle.spg_core.specs.declared.slot.Slot.TheVariants.{Free, Insert, Scan, Vacuum}
 use Rattle.spg_core.specs.declared.bare.Bare.TheInside.{Inside}
 use Rattle.spg_core.specs.Slot.{stage_of, GivesBack, ended_with}
-use Rattle.spg_core.specs.Stage.{given_up}
+use Rattle.spg_core.specs.Stage.{Stage, MayGiveUp, given_up}
 use Rattle.spg_core.specs.Seen.{Seen, stage_at, logged, untouched}
 use Rattle.spg_core.specs.Operations.{CanRelease}
 use Rattle.spg_core.specs.Sections.{HasNone, OthersHold, IsReleased, KillsRow}
@@ -184,6 +186,12 @@ module _ {O Key Recon Cond : Type 0} (m : Meaning Key Recon Cond) (s : Inside O 
 
   -- ---- an operation is given up
 
+  -- the cause of an insert
+  pub may_drop : (t : pages.Table) (stage : Stage O Key Recon Cond) (why : Why) → MayGiveUp t stage why → MayDrop t why
+  may_drop t stage cause.Given may = tt
+  may_drop t stage cause.Full may = may.1
+  may_drop t stage cause.Clock may = may.1
+
   -- what an open operation holds can be given free
   pub can_release : (slot : Slot O Key Recon Cond) → StageFits m s.table (past m s I) seat (stage_of slot) → CanRelease s.table s.rows slot
   can_release Free has = tt
@@ -196,7 +204,7 @@ module _ {O Key Recon Cond : Type 0} (m : Meaning Key Recon Cond) (s : Inside O 
   can_release (Vacuum v) has = tt
 
   module _ (t2 : pages.Table) (rows : Table O Key Recon Cond) (slots : Vec (Slot O Key Recon Cond) Global) (journal : Written O Key Recon Cond) (vacuums : List (ℕ × Option ℕ)) (why : Why) (items : slots.items ≡ set s.slots.items seat Free) (but : IsButLatches s.table t2) (none : HoldsNone t2 seat (rest_of s.table seat))
-      (spare : journal.spare + 1 ≡ s.journal.spare) (was : is_open (stage_of (get_or s.slots.items seat Free)) ≡ true) where
+      (spare : journal.spare + 1 ≡ s.journal.spare) (was : is_open (stage_of (get_or s.slots.items seat Free)) ≡ true) (may : MayDrop s.table why) where
     -- the seat's stage
     was_at : (slot : Slot O Key Recon Cond) → get_or s.slots.items seat Free ≡ slot → stage_in (stages m s I) seat ≡ stage_of slot
     was_at slot here = stage_get s.slots.items seat ∙ ap stage_of here
@@ -220,6 +228,7 @@ module _ {O Key Recon Cond : Type 0} (m : Meaning Key Recon Cond) (s : Inside O 
         d.row
         key
         why
+        may
         refl
         (subst (λ (x : Slot O Key Recon Cond). StageFits m s.table (past m s I) seat (stage_of x)) here (fits m s I seat)).0
         events

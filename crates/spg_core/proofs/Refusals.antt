@@ -1,6 +1,6 @@
 -- What is said of refusals where a section was done, or was refused by what it called.
-use Rattle.std.proofs.Common.{◌≡◌, ◌+◌, ◌^◌, ℕ, Ok}
-use Rattle.std.specs.Prelude.{IsErrOf}
+use Rattle.std.proofs.Common.{◌≡◌, ◌+◌, ◌^◌, ℕ, Ok, Err, Result, ap, ◌∙◌}
+use Rattle.std.specs.Prelude.{IsErrOf, IfOk}
 use Rattle.spg_opclass.specs.Meaning.{Meaning}
 use Rattle.spg_tree.specs.Table.{Table}
 use Rattle.spg_tree.specs.Descents.{Descending}
@@ -22,3 +22,14 @@ done_so m t t2 d d2 seat out apart = record {
   err = tt;
   err_descent = tt;
 }
+
+-- what holds beside what comes of a section
+pub ok_with : {T E : Type 0} (P : Type 0) (Q : T → Type 0) (r : Result T E) → P → IfOk r Q → IfOk r (λ x. P × Q x)
+ok_with P Q (Ok x) p q = (p, q)
+ok_with P Q (Err e) p q = tt
+
+-- a refusal that is handed on
+pub same_err : {T U E : Type 0} (r : Result T E) (e f x : E) → r ≡ Err e → e ≡ f → IsErrOf {T = U} {E = E} (Err f) x → IsErrOf r x
+same_err r e f x is same h =
+    let q : f ≡ x = cc in
+    is ∙ ap (λ y. Err y) (same ∙ q)

@@ -122,7 +122,7 @@ module _ {O Key Recon Cond : Type 0} (m : Meaning Key Recon Cond) where
   longer s s2 seat (opens_scan query) (none, G, table, rows) = G.journal
   longer s s2 seat (reads item out) (q, q2, here, R, G, table, rows) = G.journal
   longer s s2 seat (closes closed) (q, here, empty, C, G, table, rows) = G.journal
-  longer s s2 seat (drops row why) (key, d, here, r, G, table, none, rows) = G.journal
+  longer s s2 seat (drops row why) (key, d, here, r, may, G, table, none, rows) = G.journal
   longer s s2 seat leaves (left, G, table, rows) = G.journal
   longer s s2 seat opens_vacuum (none, alone, G, table, rows) = G.journal
   longer s s2 seat (works out swept) (v, v2, here, D, K, to) = same_work s s2 seat v v2 swept out to
@@ -161,7 +161,7 @@ module _ {O Key Recon Cond : Type 0} (m : Meaning Key Recon Cond) where
   leaves_keep : (s s2 : Fields O Key Recon Cond) → IsKept m s → (seat : ℕ) (stage : Stage O Key Recon Cond) → stage_in s.stages seat ≡ stage → IsLeft stage → Goes s s2 seat free (event.Leave seat ∷ []) → s2.table ≡ untouched s.table → ChangesRows (event.Leave seat) (reverse s.journal) s s2 → IsKept m s2
   leaves_keep s s2 kept seat stage here left G table rows =
       let (none, may) = left_fits s kept seat stage here left in
-      calls.kept_event m s s2 seat free kept G.stages G.here (none_then s s2 kept seat stage here none table) G.room (ap (λ (t : pages.Table). t.limit) table) G.origin (event.Leave seat) refl tt may tt G.journal (ap sheets_of table) rows
+      calls.kept_event m s s2 seat free kept G.stages G.here (none_then s s2 kept seat stage here none table) G.room (ap (λ (t : pages.Table). t.limit) table) G.origin (event.Leave seat) refl tt tt may tt G.journal (ap sheets_of table) rows
       (itself_opens (event.Leave seat) (reverse s.journal))
 
   -- ---- a section of a vacuum
@@ -199,8 +199,8 @@ module _ {O Key Recon Cond : Type 0} (m : Meaning Key Recon Cond) where
   one_keeps K L s s2 kept seat (closes closed) (q, here, empty, C, G, table, rows) =
       let (before, has, D) = stage_fits m s kept seat (reading q) here in
       calls.kept_closes_scan m s s2 seat free kept G.stages G.here (none_then s s2 kept seat (reading q) here (λ b. refl) table) G.room (ap (λ (t : pages.Table). t.limit) table) G.origin (ap sheets_of table) q closed.rows refl here empty C.same (C.ascending (once_taken q D)) G.journal rows
-  one_keeps K L s s2 kept seat (drops row why) (key, d, here, r, G, (t, but, is), none, rows) =
-      calls.kept_drops m s s2 seat free kept G.stages G.here none G.room (ap (λ (t : pages.Table). t.limit) is ∙ ap (λ (t : pages.Table). t.limit) but) G.origin (ap sheets_of is ∙ ap sheets_of but) row key why refl
+  one_keeps K L s s2 kept seat (drops row why) (key, d, here, r, may, G, (t, but, is), none, rows) =
+      calls.kept_drops m s s2 seat free kept G.stages G.here none G.room (ap (λ (t : pages.Table). t.limit) is ∙ ap (λ (t : pages.Table). t.limit) but) G.origin (ap sheets_of is ∙ ap sheets_of but) row key why may refl
       ((stage_fits m s kept seat (descending key d) here).0 ∙ ap (λ (x : RowAt). inserting x key) r) G.journal rows
   one_keeps K L s s2 kept seat leaves (left, G, table, rows) = leaves_keep s s2 kept seat (stage_in s.stages seat) refl left G table rows
   one_keeps K L s s2 kept seat opens_vacuum (none, alone, G, table, rows) =

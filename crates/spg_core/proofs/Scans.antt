@@ -80,11 +80,11 @@ module _ {O Key Recon Cond : Type 0} (m : Meaning Key Recon Cond) (s : Inside O 
     was : is_open (stage_of slot_now) ≡ true
     was = ap (λ (x : Slot O Key Recon Cond). is_open (stage_of x)) here
 
-    has : StageFits m s.table (steps.past m s I) seat (reading q)
+    pub has : StageFits m s.table (steps.past m s I) seat (reading q)
     has = subst (λ (x : Slot O Key Recon Cond). StageFits m s.table (steps.past m s I) seat (stage_of x)) here (steps.fits m s I seat)
 
     -- it holds no latch
-    none : AreHeld (untouched s.table) seat (rest_of s.table seat) (λ b. false)
+    pub none : AreHeld (untouched s.table) seat (rest_of s.table seat) (λ b. false)
     none = steps.held_on s.table (untouched s.table) seat (rest_of s.table seat) (λ b. false) (λ b. refl) (subst (λ (x : Slot O Key Recon Cond). AreHeld s.table seat (rest_of s.table seat) (stage_holds (stage_of x))) here (steps.held m s I seat))
 
     reads_at : (out : ReadOut) → KeptLaw m → CodeLaw m → IsReadOut m s.table s.rows q q2 item seat out → IsKept m (fields_of (steps.with_fields m s (untouched s.table) s.rows slots s.journal))

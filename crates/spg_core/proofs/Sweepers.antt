@@ -117,6 +117,7 @@ module _ {O Key Recon Cond : Type 0} (m : Meaning Key Recon Cond) where
       vacuums = kept.tells.vacuums;
       room = kept.tells.room;
       limit = kept.tells.limit;
+      drops = kept.tells.drops;
     };
     seats = kept.seats;
     stages = kept.stages;

@@ -1,16 +1,12 @@
 -- What a look at an open insert tells, and how the insert goes on by what the class answered; the same of an item of an open scan.
-use Rattle.std.specs.Prelude.{◌≡◌, ◌⊎◌, ℕ, suc, Option, Some, false, Result, OnOk}
+use Rattle.std.specs.Prelude.{◌≡◌, ℕ, suc}
 use Rattle.spg_base.specs.Row.{RowAt}
 use Rattle.spg_opclass.specs.Meaning.{Meaning}
 use Rattle.spg_opclass.specs.Copies.{AtTuple, RestsAt}
 use Rattle.spg_opclass.specs.declared.copied.Copied.{Copied}
-use Rattle.spg_page.specs.Reads.{frame_in}
 use Rattle.spg_rows.specs.Table as rows
 use Rattle.spg_rows.specs.Rows.{state_of}
-use Rattle.spg_tree.specs.Table.{Table, tuple_at}
-use Rattle.spg_tree.specs.Descents.{in_nulls}
-use Rattle.spg_descend.specs.declared.rule.Rule.TheVariants as rules
-use Rattle.spg_descend.specs.Follows.{IsAtInner, tuple_place}
+use Rattle.spg_tree.specs.Table.{Table}
 use Rattle.spg_scan.specs.Scanning.{Scanning}
 use Rattle.spg_scan.specs.Copying.{IsCopyOut, HasKept, TakesIn}
 use Rattle.spg_scan.specs.declared.scan_copy.ScanCopy.{ScanCopy}
@@ -20,7 +16,7 @@ use Rattle.spg_core.specs.declared.look.Look.TheVariants.{Stepped, Choose, Part}
 use Rattle.spg_core.specs.Stage.{Stage, free, descending, reading, sweeping}
 use Rattle.spg_core.specs.Seen.{Seen, stage_at, moved, past_of, untouched}
 use Rattle.spg_core.specs.Stepping.{MakesAtMostOne}
-use Rattle.spg_core.specs.Telling.{IsRuleFor}
+use Rattle.spg_core.specs.Plans.{IsSpottedAt, IsBunchAt, AsksAt}
 use Rattle.spg_core.specs.Ends.{SeatEnds, SeatThenEnds}
 use Rattle.spg_core.specs.Sections.{IsInsertOut, TellsSection, LatchesAfter}
 
@@ -29,17 +25,17 @@ use Rattle.spg_core.specs.Sections.{IsInsertOut, TellsSection, LatchesAfter}
 -- the insert that is open at this stage stands at this inner tuple of the main tree, with this rebuilt value and this rest of its key
 abbrev pub SpottedIn : {O Key Recon Cond : Type 0} → Table → Stage O Key Recon Cond → AtTuple Recon → Type 0
 SpottedIn t free x = ⊥
-SpottedIn t (descending key d) x = IsAtInner t d.stand × (d.recon ≡ Some x.recon) × (x.tuple ≡ frame_in (tuple_at t (tuple_place d.stand))) × (x.rest ≡ d.rest)
+SpottedIn t (descending key d) x = IsSpottedAt t d x
 SpottedIn t (reading s) x = ⊥
 SpottedIn t (sweeping v) x = ⊥
 
 abbrev pub IsSpotted : {O Key Recon Cond : Type 0} → Seen O Key Recon Cond → ℕ → AtTuple Recon → Type 0
 IsSpotted seen seat x = SpottedIn seen.table (stage_at seen seat) x
 
--- it divides leaves of the main tree, with this rebuilt value and these rests
+-- it divides leaves of the main tree: these rests, its own the last, with this rebuilt value
 abbrev pub BunchIn : {O Key Recon Cond : Type 0} → Table → Stage O Key Recon Cond → RestsAt Recon → Type 0
 BunchIn t free x = ⊥
-BunchIn t (descending key d) x = IsRuleFor t d rules.Divide × (d.recon ≡ Some x.recon)
+BunchIn t (descending key d) x = IsBunchAt t d x
 BunchIn t (reading s) x = ⊥
 BunchIn t (sweeping v) x = ⊥
 
@@ -49,7 +45,7 @@ IsBunch seen seat x = BunchIn seen.table (stage_at seen seat) x
 -- the class has a say in the next section: the insert stands at an inner tuple of the main tree, or divides leaves of it
 abbrev pub AsksIn : {O Key Recon Cond : Type 0} → Table → Stage O Key Recon Cond → Type 0
 AsksIn t free = ⊥
-AsksIn t (descending key d) = (in_nulls d ≡ false) × (IsAtInner t d.stand ⊎ IsRuleFor t d rules.Divide)
+AsksIn t (descending key d) = AsksAt t d
 AsksIn t (reading s) = ⊥
 AsksIn t (sweeping v) = ⊥
 

@@ -90,3 +90,9 @@ IsRowOf Free row = ⊥
 IsRowOf (Insert key d) row = row ≡ d.row
 IsRowOf (Scan s) row = ⊥
 IsRowOf (Vacuum v) row = ⊥
+
+abbrev pub IsDescentOf : {O Key Recon Cond : Type 0} → Slot O Key Recon Cond → Descending Recon → Type 0
+IsDescentOf Free d2 = ⊥
+IsDescentOf (Insert key d) d2 = d2 ≡ d
+IsDescentOf (Scan s) d2 = ⊥
+IsDescentOf (Vacuum v) d2 = ⊥

@@ -15,6 +15,7 @@ use Rattle.spg_scan.specs.Scanning.{Scanning, IsClosing, opened}
 use Rattle.spg_scan.specs.Reading.{IsReadOut}
 use Rattle.spg_scan.specs.declared.walk.ReadOut.{ReadOut}
 use Rattle.spg_scan.specs.declared.walk.Closed.{Closed}
+use Rattle.spg_seats.specs.Drops.{MayDrop}
 use Rattle.spg_seats.specs.Latching.{HoldsNone, rest_of}
 use Rattle.spg_vacuum.specs.declared.vacuum.Vacuum.{Vacuum}
 use Rattle.spg_seats.specs.Opening.{opened_vacuum, SameRows, ChangesRows, SweepsRows, EndsNewest, sweeps}
@@ -114,7 +115,7 @@ Does {O} {Key} {Recon} {Cond} m s s2 seat (reads item out) =
 Does {O} {Key} {Recon} {Cond} m s s2 seat (closes closed) =
     (q : Scanning O Key Recon Cond) × (stage_in s.stages seat ≡ reading q) × (q.items ≡ []) × IsClosing q closed × Goes s s2 seat free (event.CloseScan seat closed.rows ∷ []) × (s2.table ≡ untouched s.table) × SameRows s s2
 Does {O} {Key} {Recon} {Cond} m s s2 seat (drops row why) =
-    (key : Option Key) × (d : Descending Recon) × (stage_in s.stages seat ≡ descending key d) × (d.row ≡ row) × Goes s s2 seat free (event.Drop seat row why ∷ []) × ((t : Table) × IsButLatches s.table t × (s2.table ≡ untouched t)) × HoldsNone s2.table seat (rest_of s.table seat)
+    (key : Option Key) × (d : Descending Recon) × (stage_in s.stages seat ≡ descending key d) × (d.row ≡ row) × MayDrop s.table why × Goes s s2 seat free (event.Drop seat row why ∷ []) × ((t : Table) × IsButLatches s.table t × (s2.table ≡ untouched t)) × HoldsNone s2.table seat (rest_of s.table seat)
     × ChangesRows (event.Drop seat row why) (reverse s.journal) s s2
 Does {O} {Key} {Recon} {Cond} m s s2 seat leaves =
     IsLeft (stage_in s.stages seat) × Goes s s2 seat free (event.Leave seat ∷ []) × (s2.table ≡ untouched s.table) × ChangesRows (event.Leave seat) (reverse s.journal) s s2

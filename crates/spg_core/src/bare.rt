@@ -1,4 +1,4 @@
-ghost use Rattle.std.specs.Prelude.{false, ◌≡◌, ◌≢◌, ◌<◌, ◌≤◌, ◌+◌, ◌^◌, ◌↔◌, ◌⊎◌, [], ℕ, suc, Option, Some, None, IfOk, OnOk, OnErr, IsErrOf, IsTrue};
+ghost use Rattle.std.specs.Prelude.{false, ◌≡◌, ◌≢◌, ◌<◌, ◌≤◌, ◌+◌, ◌^◌, ◌↔◌, ◌⊎◌, [], ℕ, suc, Option, option_copied, Some, None, IfOk, OnOk, OnErr, IsErrOf, IsTrue};
 ghost use Rattle.spg_base.specs.declared.recorded.Origin.{Origin};
 ghost use Rattle.spg_forest.specs.Shape.{Represents};
 ghost use Rattle.spg_base.specs.Row.{RowAt};
@@ -12,6 +12,7 @@ ghost use Rattle.spg_rows.specs.History.{open_of};
 ghost use Rattle.spg_tree.specs.Table.{sheets_of};
 ghost use Rattle.spg_seats.specs.Slots.{StageFits, LatchesAre, kept_key};
 ghost use Rattle.spg_seats.specs.Descending.{ChangesHeld};
+ghost use Rattle.spg_seats.specs.Drops.{HaveCauses};
 ghost use Rattle.spg_core.specs.Stage.{free, IsInserting, IsReading, IsSweeping, IsRead, IsStageOf, MayGiveUp, held_count, kind_of};
 ghost use Rattle.spg_core.specs.Seen.{stage_at, past_of, IsPresentWith};
 ghost use Rattle.spg_core.specs.Stepping.{IsNearLimit, Grows, MakesAtMostOne};
@@ -20,12 +21,16 @@ ghost use Rattle.spg_core.specs.Kept.{RootsAreHeavy};
 ghost use Rattle.spg_core.specs.Counts.{IsStat};
 ghost use Rattle.spg_core.specs.Waiting.{is_used};
 ghost use Rattle.spg_core.specs.Looking.{LooksAt, StepsInsert, Asks, IsSpotted, IsBunch, CopiesItem, KeptIn, SiftsItem};
+ghost use Rattle.spg_core.specs.Plans.{PlannedIn};
 ghost use Rattle.spg_core.specs.Sections.{IsNew, OpensInsert, IsInsertOut, TellsSection, LatchesAfter, OthersHold, IsHeavy, SeatFindsNoPage, SeatTicks, KillsRow, OpensScan, ReadsItem, ClosesScan, OpensVacuum, StepsVacuum, GivesUp};
 
 use crate::answer::{InsertOut, OpenKind, OpenRefused, VacuumOut, VacuumRefused};
+use crate::found::{Found, is_bunch, is_spotted, look_at, step_for};
 use crate::look::{ApplyRefused, Look};
 use crate::operations::{close_slot, end_insert, end_vacuum, read_slot, release_slot, step_slot};
-use crate::slot::{SEATS, Slot, free_slots, give_up, kind, set_slot, slot_at};
+use crate::plan::{Plan, plan_at};
+use crate::sifting::{copy_slot, sift_slot};
+use crate::slot::{SEATS, Slot, descent_at, free_slots, give_up, kind, set_slot, slot_at};
 use crate::stat::stat_of;
 use crate::sweeping::{sweep_slot, tell_sweeps};
 use crate::vacuums::Vacuums;
@@ -126,12 +131,14 @@ impl<O: OpClass> Bare<O> {
     /// The pages. They are well formed and hold just the rows that are present, each with its key. A
     /// root is an inner tuple only where the keys of its tree that were ever inserted take more than
     /// 8,160 bytes. A block is latched by a seat exactly where the seat's open insert stands on it or
-    /// has the tuple above on it.
+    /// has the tuple above on it. Where an insert was given up as the index was full, fewer than 4
+    /// blocks are left below the limit; where one was as the clock was at its end, it is there.
     pub fn pages(&self) -> &PageTable
         ensures value { result.now ≡ self.now.table }
         ensures represents { Represents O.meaning (sheets_of self.now.table) (IsPresentWith (past_of self.now)) }
         ensures heavy { RootsAreHeavy O.meaning self.now.table (past_of self.now) }
         ensures latches { LatchesAre self.now.table self.now.stages }
+        ensures drops { HaveCauses (past_of self.now) self.now.table }
     {
         &self.table
     }
@@ -237,6 +244,47 @@ impl<O: OpClass> Bare<O> {
         Ok(())
     }
 
+    /// The next section of an insert as planned, of which `State::insert_step` tells. `parted` is how
+    /// the class divided the leaves, where they are divided and are no nulls.
+    fn go_on(
+        &mut self,
+        seat: SeatNo,
+        plan: Plan<O>,
+        parted: Option<&Parted<O>>,
+    ) -> Result<InsertOut, StepRefused>
+        requires inserting { IsInserting (stage_at self.old seat) }
+        requires planned { PlannedIn O.meaning self.old.table (stage_at self.old seat) plan (option_copied parted) }
+        ensures ok { IfOk result (λ out. IsInsertOut self.old self.new seat out) }
+        ensures told { IfOk result (λ out. TellsSection O.meaning self.old self.new seat out) }
+        ensures latches { IfOk result (λ out. LatchesAfter self.new seat out) }
+        ensures others { OthersHold self.old.table self.new.table seat }
+        ensures within { ChangesHeld self.old.table self.new.table seat }
+        ensures grows { Grows self.old.table self.new.table }
+        ensures makes { IfOk result (λ _. MakesAtMostOne self.old.table self.new.table) }
+        ensures ends { IfOk result (λ out. (n : ℕ) → SeatEnds O.meaning self.old seat (suc n) → SeatThenEnds O.meaning self.new seat n out) }
+        ensures full { IsErrOf result StepRefused.IndexFull → IsHeavy O.meaning self.old seat × IsNearLimit self.old.table }
+        ensures clock { IsErrOf result StepRefused.ClockFull → IsHeavy O.meaning self.old seat × (self.old.table.clock + 1 ≡ 2 ^ 48) }
+        ensures full_where { IsErrOf result StepRefused.IndexFull → SeatFindsNoPage O.meaning self.old seat }
+        ensures clock_where { IsErrOf result StepRefused.ClockFull → SeatTicks O.meaning self.old seat }
+        ensures clock_first { SeatTicks O.meaning self.old seat → self.old.table.clock + 1 ≡ 2 ^ 48 → IsErrOf result StepRefused.ClockFull ⊎ IsErrOf result StepRefused.Memory }
+        ensures err { OnErr result (self.new ≡ self.old) }
+    {
+        let out = step_slot(
+            self.alloc,
+            &mut self.table,
+            &mut self.slots,
+            seat,
+            plan,
+            parted,
+        )?;
+        if has_ended(&out) {
+            let row = end_insert(&mut self.slots, seat);
+            self.rows.put(row);
+            self.journal.append(Event::Put { seat, row });
+        }
+        Ok(out)
+    }
+
     /// The next section of an insert. `Descended` where it comes to the root, or from an inner
     /// tuple to the child or the empty downlink of a node. `Restructured` where the leaves are
     /// divided without its own, where a node is put into the inner tuple at which it stands, and
@@ -267,18 +315,44 @@ impl<O: OpClass> Bare<O> {
         ensures clock_first { SeatTicks O.meaning self.old seat → self.old.table.clock + 1 ≡ 2 ^ 48 → IsErrOf result StepRefused.ClockFull ⊎ IsErrOf result StepRefused.Memory }
         ensures err { OnErr result (self.new ≡ self.old) }
     {
-        let out = step_slot(self.alloc, class, &mut self.table, &mut self.slots, seat)?;
-        if has_ended(&out) {
-            let row = end_insert(&mut self.slots, seat);
-            self.rows.put(row);
-            self.journal.append(Event::Put { seat, row });
+        let descent = descent_at(&self.slots, seat);
+        let (plan, parted) = plan_at(self.alloc, class, &self.table, descent)?;
+        self.go_on(seat, plan, parted.as_ref())
+    }
+
+    /// The next section of an insert as planned, which is refused as what the class answered.
+    fn apply(
+        &mut self,
+        seat: SeatNo,
+        plan: Plan<O>,
+        parted: Option<&Parted<O>>,
+    ) -> Result<InsertOut, ApplyRefused>
+        requires inserting { IsInserting (stage_at self.old seat) }
+        requires planned { PlannedIn O.meaning self.old.table (stage_at self.old seat) plan (option_copied parted) }
+        ensures ok { IfOk result (λ out. StepsInsert O.meaning self.old self.new seat out) }
+        ensures unchanged { IsErrOf result ApplyRefused.Changed → ⊥ }
+        ensures others { OthersHold self.old.table self.new.table seat }
+        ensures within { ChangesHeld self.old.table self.new.table seat }
+        ensures grows { Grows self.old.table self.new.table }
+        ensures full { IsErrOf result ApplyRefused.IndexFull → IsHeavy O.meaning self.old seat × IsNearLimit self.old.table }
+        ensures clock { IsErrOf result ApplyRefused.ClockFull → IsHeavy O.meaning self.old seat × (self.old.table.clock + 1 ≡ 2 ^ 48) }
+        ensures full_where { IsErrOf result ApplyRefused.IndexFull → SeatFindsNoPage O.meaning self.old seat }
+        ensures clock_where { IsErrOf result ApplyRefused.ClockFull → SeatTicks O.meaning self.old seat }
+        ensures clock_first { SeatTicks O.meaning self.old seat → self.old.table.clock + 1 ≡ 2 ^ 48 → IsErrOf result ApplyRefused.ClockFull ⊎ IsErrOf result ApplyRefused.Memory }
+        ensures err { OnErr result (self.new ≡ self.old) }
+    {
+        match self.go_on(seat, plan, parted) {
+            Ok(out) => Ok(out),
+            Err(StepRefused::IndexFull) => Err(ApplyRefused::IndexFull),
+            Err(StepRefused::ClockFull) => Err(ApplyRefused::ClockFull),
+            Err(StepRefused::Memory) => Err(ApplyRefused::Memory),
         }
-        Ok(out)
     }
 
     /// Looks at an open insert. `Choose` exactly where it stands at an inner tuple of the main tree,
     /// `Part` exactly where it divides leaves of the main tree: the class has a say there, gets a copy,
-    /// and nothing changes. Else the next section is done, as `State::insert_step` tells.
+    /// and nothing changes. Else the next section is done, as `State::insert_step` tells, and `IndexFull`
+    /// and `ClockFull` come only then.
     pub fn insert_look(&mut self, seat: SeatNo) -> Result<Look<O>, StepRefused>
         requires inserting { IsInserting (stage_at self.old seat) }
         ensures ok { IfOk result (λ look. LooksAt O.meaning self.old self.new seat look) }
@@ -290,9 +364,19 @@ impl<O: OpClass> Bare<O> {
         ensures full_where { IsErrOf result StepRefused.IndexFull → SeatFindsNoPage O.meaning self.old seat }
         ensures clock_where { IsErrOf result StepRefused.ClockFull → SeatTicks O.meaning self.old seat }
         ensures clock_first { (Asks self.old seat → ⊥) → SeatTicks O.meaning self.old seat → self.old.table.clock + 1 ≡ 2 ^ 48 → IsErrOf result StepRefused.ClockFull ⊎ IsErrOf result StepRefused.Memory }
+        ensures full_asks { IsErrOf result StepRefused.IndexFull → Asks self.old seat → ⊥ }
+        ensures clock_asks { IsErrOf result StepRefused.ClockFull → Asks self.old seat → ⊥ }
         ensures err { OnErr result (self.new ≡ self.old) }
     {
-        Err(StepRefused::Memory)
+        let descent = descent_at(&self.slots, seat);
+        match look_at(self.alloc, &self.table, descent)? {
+            Found::Choose(spotted) => Ok(Look::Choose(spotted)),
+            Found::Part(bunch) => Ok(Look::Part(bunch)),
+            Found::Plan(plan) => {
+                let unasked: Option<Parted<O>> = None;
+                Ok(Look::Stepped(self.go_on(seat, plan, unasked.as_ref())?))
+            }
+        }
     }
 
     /// The section of an insert at an inner tuple, by what the class chose for a copy of it. `Changed`
@@ -316,7 +400,13 @@ impl<O: OpClass> Bare<O> {
         ensures clock_first { IsSpotted self.old seat chosen.now → SeatTicks O.meaning self.old seat → self.old.table.clock + 1 ≡ 2 ^ 48 → IsErrOf result ApplyRefused.ClockFull ⊎ IsErrOf result ApplyRefused.Memory }
         ensures err { OnErr result (self.new ≡ self.old) }
     {
-        Err(ApplyRefused::Memory)
+        let descent = descent_at(&self.slots, seat);
+        if !is_spotted(self.alloc, &self.table, descent, chosen)? {
+            return Err(ApplyRefused::Changed);
+        }
+        let step = step_for(self.table.counter(), chosen)?;
+        let unasked: Option<Parted<O>> = None;
+        self.apply(seat, Plan::Inner(step), unasked.as_ref())
     }
 
     /// The section of an insert that divides leaves, by how the class divided a copy of their values.
@@ -340,7 +430,11 @@ impl<O: OpClass> Bare<O> {
         ensures clock_first { IsBunch self.old seat parted.now → SeatTicks O.meaning self.old seat → self.old.table.clock + 1 ≡ 2 ^ 48 → IsErrOf result ApplyRefused.ClockFull ⊎ IsErrOf result ApplyRefused.Memory }
         ensures err { OnErr result (self.new ≡ self.old) }
     {
-        Err(ApplyRefused::Memory)
+        let descent = descent_at(&self.slots, seat);
+        if !is_bunch(self.alloc, &self.table, descent, parted)? {
+            return Err(ApplyRefused::Changed);
+        }
+        self.apply(seat, Plan::Divide, Some(parted))
     }
 
     /// Deletes the row. True exactly where it is live; else nothing changes.
@@ -418,7 +512,9 @@ impl<O: OpClass> Bare<O> {
         ensures ok { IfOk result (λ out. CopiesItem O.meaning self.old self.new seat item out) }
         ensures err { OnErr result (self.new ≡ self.old) }
     {
-        Err(Memory)
+        let out = copy_slot(&self.table, &self.rows, &mut self.slots, seat, item)?;
+        self.table.set_touched(Touched::new());
+        Ok(out)
     }
 
     /// Takes in what the class answered for the copy of an item that is being sifted: the kept places
@@ -432,9 +528,12 @@ impl<O: OpClass> Bare<O> {
     ) -> Result<(), SiftRefused>
         requires reading { IsReading (stage_at self.old seat) }
         ensures ok { OnOk result (SiftsItem O.meaning self.old self.new seat item sifted.now) }
+        ensures changed { IsErrOf result SiftRefused.Changed ↔ (KeptIn (stage_at self.old seat) item sifted.now → ⊥) }
         ensures err { OnErr result (self.new ≡ self.old) }
     {
-        Err(SiftRefused::Memory)
+        sift_slot(&mut self.slots, seat, item, sifted)?;
+        self.table.set_touched(Touched::new());
+        Ok(())
     }
 
     /// Ends a scan that holds nothing, and gives its rows, ascending.

@@ -36,7 +36,7 @@ pub(crate) enum InnerStep<O: OpClass> {
 
 /// The node that is followed where the class answers this one: at an all-the-same tuple it is the
 /// one that the rotating counter names.
-fn named(turn: u8, view: &InnerView, node: u16) -> u16
+pub(crate) fn named(turn: u8, view: &InnerView, node: u16) -> u16
     ensures { result ≡ named turn view.now node }
 {
     if view.all_same { u16::from(turn) } else { node }
@@ -85,6 +85,27 @@ fn choose_for<O: OpClass>(
     }
 }
 
+/// What an insert does at an inner tuple of the nulls tree: it goes down the node that the rotating
+/// counter names. It takes no memory.
+pub(crate) fn by_counter<O: OpClass>(
+    alloc: Global,
+    table: &PageTable,
+    descent: &Descent<O>,
+) -> InnerStep<O>
+    requires can { MayStep O.meaning table.now descent.now }
+    requires inner { IsAtInner table.now descent.now.stand }
+    requires nulls { descent.now.recon ≡ None }
+    ensures { IsChosen {O = O} O.meaning table.now descent.now result }
+{
+    let _recon = descent.recon();
+    InnerStep::Node {
+        node: u16::from(table.counter()),
+        rest: Bytes::new(alloc),
+        by_turn: true,
+        below: None,
+    }
+}
+
 /// What an insert does at an inner tuple. The node that is followed at an all-the-same tuple, and in
 /// the nulls tree, is the one that the rotating counter names.
 pub(crate) fn choose<O: OpClass>(
@@ -98,12 +119,7 @@ pub(crate) fn choose<O: OpClass>(
     ensures { IfOk result (λ chosen. IsChosen {O = O} O.meaning table.now descent.now chosen) }
 {
     match descent.recon() {
-        None => Ok(InnerStep::Node {
-            node: u16::from(table.counter()),
-            rest: Bytes::new(alloc),
-            by_turn: true,
-            below: None,
-        }),
+        None => Ok(by_counter(alloc, table, descent)),
         Some(recon) => choose_for(alloc, class, table, descent, recon),
     }
 }

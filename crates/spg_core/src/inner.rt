@@ -6,7 +6,7 @@ ghost use Rattle.spg_core.specs.Telling.{Does};
 ghost use Rattle.spg_core.specs.Refusing.{Refuses};
 
 use crate::answer::InsertOut;
-use crate::choose::{InnerStep, choose};
+use crate::choose::InnerStep;
 use spg_base::{Bytes, SeatNo};
 use spg_descend::{Entered, follow};
 use spg_move::{add_node, split_tuple};
@@ -60,7 +60,7 @@ fn widen<O: OpClass>(
 }
 
 /// Does what was chosen at an inner tuple: it goes down a node, puts one in, or splits the tuple.
-fn apply<O: OpClass>(
+pub(crate) fn apply<O: OpClass>(
     alloc: Global,
     table: &mut PageTable,
     descent: &mut Descent<O>,
@@ -100,21 +100,4 @@ fn apply<O: OpClass>(
             Ok(InsertOut::Restructured)
         }
     }
-}
-
-/// What an insert does at an inner tuple: it asks the class, and does what was chosen.
-pub(crate) fn at_inner<O: OpClass>(
-    alloc: Global,
-    class: &O,
-    table: &mut PageTable,
-    descent: &mut Descent<O>,
-    seat: SeatNo,
-) -> Result<InsertOut, StepRefused>
-    requires can { MayStep O.meaning table.old descent.old }
-    requires inner { IsAtInner table.old descent.old.stand }
-    ensures does { IfOk result (λ out. Does O.meaning table.old table.new descent.old descent.new seat out) }
-    ensures refused { Refuses O.meaning table.old table.new descent.old descent.new seat result }
-{
-    let chosen = choose(alloc, class, table, descent)?;
-    apply(alloc, table, descent, seat, chosen)
 }

@@ -1,24 +1,27 @@
-ghost use Rattle.std.specs.Prelude.{◌≡◌, ℕ, Option, IfOk, IsErrOf};
+ghost use Rattle.std.specs.Prelude.{◌≡◌, ℕ, Option, option_copied, IfOk, IsErrOf};
 ghost use Rattle.spg_forest.specs.Shape.{Shape};
 ghost use Rattle.spg_tree.specs.Table.{sheets_of};
 ghost use Rattle.spg_tree.specs.declared.stand.Stand.TheVariants.{Start};
 ghost use Rattle.spg_tree.specs.declared.stand.StepRefused.TheVariants.{ClockFull};
 ghost use Rattle.spg_descend.specs.declared.rule.Rule.TheVariants as rules;
+ghost use Rattle.spg_split.specs.Parting.{IsPartedAt};
 ghost use Rattle.spg_seats.specs.Descending.{Stands, HoldsIts, ChangesHeld};
 ghost use Rattle.spg_seats.specs.Latching.{InsertHolds};
 ghost use Rattle.spg_core.specs.Stepping.{MayStep, IsStepOut, MakesAtMostOne};
 ghost use Rattle.spg_core.specs.Telling.{IsRuleFor, StepTells, Does};
 ghost use Rattle.spg_core.specs.Refusing.{Refuses};
+ghost use Rattle.spg_core.specs.Plans.{IsPlanned};
 ghost use Rattle.spg_core.specs.Ends.{TakesOne};
 ghost use Rattle.spg_core.specs.Latches.{HoldsAfter};
 
 use crate::answer::InsertOut;
-use crate::inner::at_inner;
+use crate::inner::apply;
 use crate::latches::{settle_latches, stand_block};
+use crate::plan::Plan;
 use spg_base::SeatNo;
-use spg_descend::{Entered, PutOut, Rule, enter_root, put_leaf, rule_at};
+use spg_descend::{Entered, PutOut, enter_root, put_leaf};
 use spg_move::move_chain;
-use spg_opclass::OpClass;
+use spg_opclass::{OpClass, Parted};
 use spg_split::{SplitOut, split_leaf};
 use spg_tree::{Descent, PageTable, StepRefused};
 use std::alloc::Global;
@@ -72,57 +75,64 @@ fn move_away<O: OpClass>(
     Ok(InsertOut::Put)
 }
 
-/// Divides the leaves where an insert stands, which have no room for its own leaf and may not move.
+/// Divides the leaves where an insert stands, which have no room for its own leaf and may not move, as
+/// the class divided a copy of their values.
 fn divide<O: OpClass>(
     alloc: Global,
-    class: &O,
     table: &mut PageTable,
     descent: &mut Descent<O>,
     seat: SeatNo,
+    parted: Option<&Parted<O>>,
 ) -> Result<InsertOut, StepRefused>
     requires can { MayStep O.meaning table.old descent.old }
     requires rule { IsRuleFor table.old descent.old rules.Divide }
+    requires parted { IsPartedAt table.old descent.old (option_copied parted) }
     ensures does { IfOk result (λ out. Does O.meaning table.old table.new descent.old descent.new seat out) }
     ensures refused { Refuses O.meaning table.old table.new descent.old descent.new seat result }
 {
-    match split_leaf(alloc, class, table, descent, seat)? {
+    match split_leaf(alloc, table, descent, seat, parted)? {
         SplitOut::Put => Ok(InsertOut::Put),
         SplitOut::LeftOut => Ok(InsertOut::Restructured),
     }
 }
 
-/// What an insert does where it stands, by the rule that applies there. Where it changed pages its
-/// latches are not settled yet.
+/// What an insert does where it stands, as planned. Where it changed pages its latches are not settled
+/// yet.
 fn section<O: OpClass>(
     alloc: Global,
-    class: &O,
     table: &mut PageTable,
     descent: &mut Descent<O>,
     seat: SeatNo,
+    plan: Plan<O>,
+    parted: Option<&Parted<O>>,
 ) -> Result<InsertOut, StepRefused>
     requires can { MayStep O.meaning table.old descent.old }
+    requires planned { IsPlanned O.meaning table.old descent.old plan (option_copied parted) }
     ensures does { IfOk result (λ out. Does O.meaning table.old table.new descent.old descent.new seat out) }
     ensures refused { Refuses O.meaning table.old table.new descent.old descent.new seat result }
 {
-    match rule_at(table, descent) {
-        Rule::Start => Ok(begin(table, descent, seat)),
-        Rule::Choose => at_inner(alloc, class, table, descent, seat),
-        Rule::Put => put(alloc, table, descent, seat),
-        Rule::Move => move_away(alloc, table, descent, seat),
-        Rule::Divide => divide(alloc, class, table, descent, seat),
+    match plan {
+        Plan::Begin => Ok(begin(table, descent, seat)),
+        Plan::Inner(chosen) => apply(alloc, table, descent, seat, chosen),
+        Plan::Put => put(alloc, table, descent, seat),
+        Plan::Move => move_away(alloc, table, descent, seat),
+        Plan::Divide => divide(alloc, table, descent, seat, parted),
     }
 }
 
-/// The next section of an open insert, which is one of those that may come yet. After a refusal table
-/// and insert are as they were.
+/// The next section of an open insert as planned, which is one of those that may come yet. `parted` is
+/// how the class divided the leaves, where they are divided and are no nulls. After a refusal table and
+/// insert are as they were.
 pub(crate) fn step<O: OpClass>(
     alloc: Global,
-    class: &O,
     table: &mut PageTable,
     descent: &mut Descent<O>,
     seat: SeatNo,
+    plan: Plan<O>,
+    parted: Option<&Parted<O>>,
 ) -> Result<InsertOut, StepRefused>
     requires can { MayStep O.meaning table.old descent.old }
+    requires planned { IsPlanned O.meaning table.old descent.old plan (option_copied parted) }
     ensures ok { IfOk result (λ out. IsStepOut O.meaning table.old table.new descent.old descent.new seat out) }
     ensures told { IfOk result (λ out. StepTells O.meaning table.old table.new descent.old descent.new seat out) }
     ensures latches { IfOk result (λ out. (rest : ℕ → Option ℕ) → InsertHolds table.old seat rest descent.old → HoldsAfter table.new seat rest descent.new out) }
@@ -132,7 +142,7 @@ pub(crate) fn step<O: OpClass>(
     ensures refused { Refuses O.meaning table.old table.new descent.old descent.new seat result }
 {
     let was = stand_block(descent.stand());
-    let out = section(alloc, class, table, descent, seat)?;
+    let out = section(alloc, table, descent, seat, plan, parted)?;
     let _count = table.page_count();
     settle_latches(table, descent, was, seat, &out);
     Ok(out)

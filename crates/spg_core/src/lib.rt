@@ -4,13 +4,16 @@
 mod answer;
 mod bare;
 mod choose;
+mod found;
 mod inner;
 mod insert;
 mod latches;
 mod laws;
 mod look;
 mod operations;
+mod plan;
 mod recorded;
+mod sifting;
 mod slot;
 mod stat;
 mod state;

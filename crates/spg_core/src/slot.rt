@@ -2,6 +2,7 @@ ghost use Rattle.std.specs.Prelude.{◌≡◌, ◌<◌, length, replicate, slice
 ghost use Rattle.spg_core.specs.declared.slot.Slot.TheVariants as kept;
 ghost use Rattle.spg_core.specs.Stage.{kind_of, given_up};
 ghost use Rattle.spg_core.specs.Slot.{stage_of};
+ghost use Rattle.spg_core.specs.Operations.{IsInsert, IsDescentOf};
 
 use crate::answer::OpenKind;
 use spg_base::{Memory, SeatNo};
@@ -44,6 +45,18 @@ pub fn slot_at<O: OpClass>(slots: &[Slot<O>], seat: SeatNo) -> &Slot<O>
     ensures { result.now ≡ slice_index_or slots.now seat kept.Free }
 {
     &slots[usize::from(seat.number())]
+}
+
+/// The insert in the seat's slot, on its way.
+pub fn descent_at<O: OpClass>(slots: &[Slot<O>], seat: SeatNo) -> &Descent<O>
+    requires seats { length slots.now ≡ 64 }
+    requires insert { IsInsert (slice_index_or slots.now seat kept.Free) }
+    ensures { IsDescentOf (slice_index_or slots.now seat kept.Free) result.now }
+{
+    match slot_at(slots, seat) {
+        Slot::Insert { descent, .. } => descent,
+        _ => unreachable!(),
+    }
 }
 
 /// Puts a slot in place of the seat's, which comes back.

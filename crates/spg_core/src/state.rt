@@ -12,6 +12,7 @@ ghost use Rattle.spg_rows.specs.History.{open_of};
 ghost use Rattle.spg_tree.specs.Table.{sheets_of};
 ghost use Rattle.spg_seats.specs.Slots.{StageFits, LatchesAre, kept_key};
 ghost use Rattle.spg_seats.specs.Descending.{ChangesHeld};
+ghost use Rattle.spg_seats.specs.Drops.{HaveCauses};
 ghost use Rattle.spg_core.specs.Stage.{free, IsInserting, IsSweeping, IsRead, IsStageOf, MayGiveUp, held_count, kind_of};
 ghost use Rattle.spg_core.specs.Seen.{stage_at, past_of, IsPresentWith};
 ghost use Rattle.spg_core.specs.Stepping.{IsNearLimit, Grows, MakesAtMostOne};
@@ -106,12 +107,14 @@ impl<O: OpClass> State<O> {
     /// The pages. They are well formed and hold just the rows that are present, each with its key. A
     /// root is an inner tuple only where the keys of its tree that were ever inserted take more than
     /// 8,160 bytes. A block is latched by a seat exactly where the seat's open insert stands on it or
-    /// has the tuple above on it.
+    /// has the tuple above on it. Where an insert was given up as the index was full, fewer than 4
+    /// blocks are left below the limit; where one was as the clock was at its end, it is there.
     pub fn pages(&self) -> &PageTable
         ensures value { result.now ≡ self.now.table }
         ensures represents { Represents O.meaning (sheets_of self.now.table) (IsPresentWith (past_of self.now)) }
         ensures heavy { RootsAreHeavy O.meaning self.now.table (past_of self.now) }
         ensures latches { LatchesAre self.now.table self.now.stages }
+        ensures drops { HaveCauses (past_of self.now) self.now.table }
     {
         self.bare.pages()
     }

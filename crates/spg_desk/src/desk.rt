@@ -43,6 +43,11 @@ impl<O: OpClass> Desk<O> {
         }
     }
 
+    /// The class of the keys.
+    pub fn class(&self) -> &O {
+        &self.class
+    }
+
     /// How many passes it may give, 1 to 64.
     pub fn seats(&self) -> u8
         ensures value { result ≡ desk_seats self.now }

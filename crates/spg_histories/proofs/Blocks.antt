@@ -1,10 +1,10 @@
 -- A run goes on by a block.
-use Rattle.std.proofs.Common.{◌≡◌, ◌⊎◌, inl, inr, ◌<◌, ◌≤◌, ◌+◌, ◌-◌, ◌*◌, ℕ, zero, suc, Bool, List, [], ◌∷◌, ◌++◌, length, take, drop, reverse, Option, refl, sym, ap, ◌∙◌, subst, arith, length-append, length-drop, take-append-drop}
+use Rattle.std.proofs.Common.{◌≡◌, ◌⊎◌, inl, inr, ◌<◌, ◌≤◌, ◌+◌, ◌-◌, ◌*◌, ℕ, zero, suc, Bool, List, [], ◌∷◌, ◌++◌, length, take, drop, reverse, Option, refl, sym, ap, ◌∙◌, subst, arith, length-append, take-append-drop}
 use Rattle.std.specs.Prelude.{slice_get, IsSomeAnd}
 use Rattle.std.specs.List.{AllByRecursion, AllZip}
 use Rattle.std.proofs.lemmas.Bool.{cases_lt, eq-eqb}
 use Rattle.std.proofs.lemmas.Bool.Decides.{eqb_tells}
-use Rattle.std.proofs.lemmas.List.{append_assoc, append-nil, drop-append-le, take-append-le, take_at, drop_at, take_all}
+use Rattle.std.proofs.lemmas.List.{append_assoc, append-nil, take_at, drop_at, take_all}
 use Rattle.spg_rows.specs.declared.event.Event.{Event}
 use Rattle.spg_rows.specs.History.{seat_of, own}
 use Rattle.spg_script.specs.declared.command.Command.{Command}
@@ -14,7 +14,7 @@ use Rattle.spg_report.specs.declared.record.Record.{Record}
 use Rattle.spg_histories.specs.Tasks.{Task, lane_tasks, lanes_tasks}
 use Rattle.spg_histories.specs.Run.{Does, past_at, between, IsBySeat, Did, Follows, AreInOrder, IsWithin, IsOwned, Entry, load_events, RunOf}
 use Rattle.spg_histories.specs.Blocks.{joined, BlockOf, Performed, Spans, spanned, LaneRan, LanesRan, AreRefused, SpansTold, RunsGrow}
-use Rattle.spg_calls.proofs.Journals.{between-grows, past_at-grows, by_seat-grows, own-append, own-all, drop_drop, new_by_seat}
+use Rattle.spg_calls.proofs.Journals.{between-grows, past_at-grows, by_seat-grows, new_by_seat, own-append, own-all, drop_drop}
 use Rattle.spg_histories.proofs.Lists.{get-drop, get-between, get-some}
 use Rattle.spg_histories.proofs.Owners.{load_long}
 

@@ -1,20 +1,19 @@
 -- Calls of a seat, one after another.
-use Rattle.std.proofs.Common.{◌≡◌, ◌<◌, ◌≤◌, ◌+◌, ◌-◌, ℕ, zero, suc, Bool, not, List, [], ◌∷◌, ◌++◌, length, take, drop, refl, sym, ap, ◌∙◌, subst, arith, length-append, length-drop, take-append-drop}
-use Rattle.std.specs.List.{AllByRecursion}
-use Rattle.std.proofs.lemmas.List.{append_assoc, append-nil, drop_at, take_all}
-use Rattle.spg_base.specs.declared.names.Span.{Span}
+use Rattle.std.proofs.Common.{◌≡◌, ◌≤◌, ◌+◌, ◌-◌, ℕ, suc, Bool, not, List, [], ◌∷◌, ◌++◌, length, drop, sym, ap, ◌∙◌, arith}
+use Rattle.std.proofs.lemmas.List.{append_assoc, append-nil}
 use Rattle.spg_rows.specs.declared.event.Event.{Event}
-use Rattle.spg_rows.specs.History.{seat_of, own}
+use Rattle.spg_rows.specs.History.{own}
+use Rattle.spg_calls.specs.Calls.{GrewTo}
+use Rattle.spg_calls.proofs.Journals.{past_at-grows}
+use Rattle.spg_calls.proofs.Calls.{own_drop, long_grew, grew_on, between_grew, up_to_grew, by_grew}
 use Rattle.spg_script.specs.declared.command.Command.{Command}
 use Rattle.spg_script.specs.declared.part.Part.{Part}
 use Rattle.spg_script.specs.Speech.{Speech}
 use Rattle.spg_report.specs.declared.record.Record.{Record}
 use Rattle.spg_histories.specs.Tasks.{Task, lane_tasks, lanes_tasks, parts_tasks}
-use Rattle.spg_histories.specs.Run.{IsBySeat, past_at, between}
+use Rattle.spg_histories.specs.Run.{past_at, between}
 use Rattle.spg_histories.specs.Blocks.{Spans, spanned, LaneRan}
-use Rattle.spg_histories.specs.Calls.{GrewTo, Watched, Called, span_at, CallsTo, CallsCompose}
-use Rattle.spg_calls.proofs.Journals.{past_at-grows}
-use Rattle.spg_calls.proofs.Calls.{own_drop, long_grew, grew_on, between_grew, up_to_grew, by_grew, call_one, call_watch, call_next}
+use Rattle.spg_histories.specs.Calls.{CallsTo, CallsCompose}
 
 tasks_push : (block : ℕ) (parts : List Part) (p : Part) → parts_tasks block (parts ++ p ∷ []) ≡ parts_tasks block parts ++ lanes_tasks (block + length parts) 0 (not p.together) p.lanes
 tasks_push block [] p = let same : block ≡ block + 0 = omega arith in append-nil (lanes_tasks block 0 (not p.together) p.lanes) ∙ ap (λ (n : ℕ). lanes_tasks n 0 (not p.together) p.lanes) same
@@ -24,8 +23,6 @@ tasks_push block (q ∷ parts) p =
     ∙ sym (append_assoc (lanes_tasks block 0 (not q.together) q.lanes) (parts_tasks (block + 1) parts) (lanes_tasks (block + suc (length parts)) 0 (not p.together) p.lanes))
 
 module _ {O Key Recon Cond : Type 0} where
-  -- ---- a lane
-
   module _ (speech : Speech Key Cond) where
     calls_grew : (block seat : ℕ) (alone : Bool) (cs : List Command) (rs : List Record) (seen journal : List (Event O Key Recon Cond)) → CallsTo speech seat seen (lane_tasks block seat alone cs) rs journal → GrewTo seen journal
     calls_grew block seat alone [] [] seen journal calls = calls.grew
@@ -72,4 +69,4 @@ module _ {O Key Recon Cond : Type 0} where
     calls_ran seen journal block seat alone cs rs calls = record { spans = calls_spans block seat alone cs rs seen journal calls; whole = calls_whole block seat alone cs rs seen journal calls }
 
 pub calls_compose : (O Key Recon Cond : Type 0) → CallsCompose O Key Recon Cond
-calls_compose O Key Recon Cond = record { one = call_one; watch = call_watch; next = call_next; lane = calls_ran; tasks = tasks_push }
+calls_compose O Key Recon Cond = record { lane = calls_ran; tasks = tasks_push }

@@ -1,5 +1,5 @@
 -- The causes of a run go on by one more command, and by lanes.
-use Rattle.std.proofs.Common.{◌≡◌, ◌*◌, ℕ, List, [], ◌∷◌, ◌++◌, length, sym, subst, arith}
+use Rattle.std.proofs.Common.{◌≡◌, ◌*◌, ℕ, List, [], ◌∷◌, ◌++◌, length, reverse, sym, subst, arith}
 use Rattle.std.specs.Prelude.{⊤}
 use Rattle.std.specs.List.{AllByRecursion, AllZip}
 use Rattle.spg_base.specs.declared.recorded.Origin.{Origin}
@@ -21,6 +21,7 @@ use Rattle.spg_histories.specs.Causes.{IsDue, IsDueIn, IsNearLimit, IsAtEnd, IsC
 use Rattle.spg_calls.proofs.Journals.{past_at-grows}
 use Rattle.spg_histories.proofs.Blocks.{zip_append, each_append, each_weaker}
 use Rattle.spg_histories.proofs.Telling.{no_stat}
+use Rattle.spg_histories.proofs.Due.{has_left, has_reverse, caused_each, due_in}
 
 -- ---- what the pages say
 
@@ -62,7 +63,7 @@ IsOfLane (outcome.Stat counts) = ⊥
 IsOfLane (outcome.Saved pages) = ⊥
 IsOfLane o = ⊤
 
-no_save_in : (A : Type 0) (c : Command) → IsLaneCommand c → OfSave A c → ⊥
+pub no_save_in : (A : Type 0) (c : Command) → IsLaneCommand c → OfSave A c → ⊥
 no_save_in A (asked.Insert row key) lane of = of
 no_save_in A (asked.Delete row) lane of = of
 no_save_in A (asked.Find query) lane of = of
@@ -121,13 +122,10 @@ module _ {O Key Recon Cond : Type 0} (m : Meaning Key Recon Cond) (speech : Spee
           due_grows low tasks records due.1 within.1,
         )
 
-    module _ (loaded : List (Entry Key)) (S S2 : Sheets) (tasks block : List Task) (records added : List Record) (run : RunOf speech loaded tasks old records) (causes : Causes m origin S old tasks records) (grew : GrewInto S S2) where
-      ends : AllByRecursion (λ (r : Record). IsCaused origin.limit S2 r.outcome) records
-      ends = each_weaker (λ (r : Record). IsCaused origin.limit S r.outcome) (λ (r : Record). IsCaused origin.limit S2 r.outcome) records (λ r is. caused_grows origin.limit S S2 grew r.outcome is) causes.ends
-
-      goes_on : AllZip (IsDueIn m origin (old ++ more)) block added → AllByRecursion (λ (r : Record). IsCaused origin.limit S2 r.outcome) added → AllByRecursion (λ (r : Record). PrintsPages S2 r.outcome) added → AreShown origin.limit added
-          → Causes m origin S2 (old ++ more) (tasks ++ block) (records ++ added)
-      goes_on due caused prints shown = record {
+    module _ (loaded : List (Entry Key)) (S S2 : Sheets) (tasks block : List Task) (records added : List Record) (run : RunOf speech loaded tasks old records) (causes : Causes m origin S old tasks records) where
+      goes_on : AllByRecursion (λ (r : Record). IsCaused origin.limit S2 r.outcome) records → AllZip (IsDueIn m origin (old ++ more)) block added → AllByRecursion (λ (r : Record). IsCaused origin.limit S2 r.outcome) added
+          → AllByRecursion (λ (r : Record). PrintsPages S2 r.outcome) added → AreShown origin.limit added → Causes m origin S2 (old ++ more) (tasks ++ block) (records ++ added)
+      goes_on ends due caused prints shown = record {
         due = zip_append (IsDueIn m origin (old ++ more)) tasks block records added (due_grows (2 * length loaded) tasks records causes.due run.within) due;
         ends = each_append (λ (r : Record). IsCaused origin.limit S2 r.outcome) records added ends caused;
         shown = shown_append origin.limit S2 records added causes.shown ends prints shown;
@@ -137,9 +135,13 @@ pub causes_grow : (O Key Recon Cond : Type 0) → CausesGrow O Key Recon Cond
 causes_grow O Key Recon Cond = record {
   begins = λ m origin S journal. record { due = tt; ends = tt; shown = tt };
   goes_on = λ m speech origin loaded old more S S2 tasks records t r run causes grew due caused prints.
-      goes_on m speech origin old more loaded S S2 tasks (t ∷ []) records (r ∷ []) run causes grew (due, tt) (caused, tt) (prints, tt) (none_later origin.limit r.outcome, tt);
-  lanes = λ m speech origin loaded old more S S2 tasks block records added run causes grew are each due caused.
+      let ends = each_weaker (λ (r : Record). IsCaused origin.limit S r.outcome) (λ (r : Record). IsCaused origin.limit S2 r.outcome) records (λ r is. caused_grows origin.limit S S2 grew r.outcome is) causes.ends in
+      goes_on m speech origin old more loaded S S2 tasks (t ∷ []) records (r ∷ []) run causes ends (due, tt) (caused, tt) (prints, tt) (none_later origin.limit r.outcome, tt);
+  lanes = λ m speech origin loaded old more S S2 tasks block records added run causes are each due tells.
       let lanes = of_lanes m speech origin (old ++ more) block added are each in
-      goes_on m speech origin old more loaded S S2 tasks block records added run causes grew due caused
+      let ends = caused_each speech origin.limit S2 (reverse (old ++ more)) tells old tasks records (λ e has. has_reverse e (old ++ more) (has_left e old more has)) run.each in
+      let caused = caused_each speech origin.limit S2 (reverse (old ++ more)) tells (old ++ more) block added (λ e has. has_reverse e (old ++ more) has) each in
+      goes_on m speech origin old more loaded S S2 tasks block records added run causes ends due caused
       (each_weaker (λ (r : Record). IsOfLane r.outcome) (λ (r : Record). PrintsPages S2 r.outcome) added (λ r is. lane_prints S2 r.outcome is) lanes) (lane_shown origin.limit added lanes);
+  due = λ m speech origin journal tasks records legal did full within. due_in speech m origin journal tasks records legal did full within;
 }

@@ -2,6 +2,7 @@ pub mod Lists
 pub mod Owners
 pub mod Blocks
 pub mod Telling
+pub mod Due
 pub mod Causes
 pub mod Ending
 pub mod Calls

@@ -23,6 +23,11 @@ module _ {X : Type 0} where
   pub get-between : (low high : ℕ) (xs : List X) (at : ℕ) → low ≤ at → at < high → slice_get (between low high xs) (at - low) ≡ slice_get xs at
   get-between low high xs at from to = get-take (high - low) (drop low xs) (at - low) (omega arith) ∙ (let same : low + (at - low) ≡ at = omega arith in get-drop low xs (at - low) ∙ ap (slice_get xs) same)
 
+  pub get-left : (xs ys : List X) (i : ℕ) → i < length xs → slice_get (xs ++ ys) i ≡ slice_get xs i
+  get-left [] ys i below = absurd (omega arith)
+  get-left (x ∷ xs) ys zero below = refl
+  get-left (x ∷ xs) ys (suc i) below = get-left xs ys i (omega arith)
+
   pub get-some : (xs : List X) (i : ℕ) → i < length xs → (x : X) × (slice_get xs i ≡ Some x)
   get-some [] i below = absurd (omega arith)
   get-some (x ∷ xs) zero below = (x, refl)

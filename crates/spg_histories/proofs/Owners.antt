@@ -29,8 +29,7 @@ use Rattle.spg_script.proofs.Tidy.{script_tidy}
 use Rattle.spg_histories.specs.Tasks.{Task, lane_tasks, lanes_tasks, parts_tasks, tasks_of}
 use Rattle.spg_histories.specs.Run.{Does, GivesUp, Inserts, Scans, Sweeps, past_at, between, IsBySeat, Did, IsOwned, Entry, load_events, RunOf}
 use Rattle.spg_histories.specs.Exact.{FitsTypes, RunFits, IsNamedEntry, TextSaysAll, ScriptSaysAll}
-use Rattle.spg_calls.proofs.Journals.{get-left}
-use Rattle.spg_histories.proofs.Lists.{get-between, at_each, each_at, same_at, map_at, map_long, own_at}
+use Rattle.spg_histories.proofs.Lists.{get-between, get-left, at_each, each_at, same_at, map_at, map_long, own_at}
 
 -- the cause of a drop, and the rows of a close, by the outcome of their command
 abbrev why_of : Outcome → Why

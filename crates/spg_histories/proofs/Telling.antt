@@ -186,7 +186,7 @@ module _ (O Key Recon Cond B : Type 0) (m : Meaning Key Recon Cond) (speech : Sp
   one_more given2 now2 t r step = subst (TellsAll O m speech reads (HoldsAt m (old ++ more)) (present_at (old ++ more)) was given2 now2) (sym (steps_append (Did speech old) [] tasks (t ∷ []) records (r ∷ []) run.each))
       (tells_goes_on O m speech reads (HoldsAt m (old ++ more)) (present_at (old ++ more)) was given given2 now now2 (steps_of tasks records) (record { task = t; done = r }) still_tells step)
 
-  lanes_more : (now2 : Sheets) (block : List Task) (added : List Record) → AreOfLanes block → AllZip (Did speech (old ++ more)) block added → (block ≡ [] → now2 ≡ now) → TellAll O m speech reads (old ++ more) was given now2 (tasks ++ block) (records ++ added)
+  pub lanes_more : (now2 : Sheets) (block : List Task) (added : List Record) → AreOfLanes block → AllZip (Did speech (old ++ more)) block added → (block ≡ [] → now2 ≡ now) → TellAll O m speech reads (old ++ more) was given now2 (tasks ++ block) (records ++ added)
   lanes_more now2 block added are each none = subst (TellsAll O m speech reads (HoldsAt m (old ++ more)) (present_at (old ++ more)) was given now2) (sym (steps_append (Did speech old) [] tasks block records added run.each))
       (lanes_tell m speech reads (HoldsAt m (old ++ more)) (present_at (old ++ more)) was given now now2 (old ++ more) (steps_of tasks records) block added none are each still_tells)
 

@@ -1,8 +1,7 @@
--- What a call of a seat does to a journal that other seats write too.
+-- The calls of a lane, one after another.
 use Rattle.std.specs.Prelude.{◌≡◌, ◌+◌, ◌++◌, ℕ, Bool, not, List, [], ◌∷◌, length}
 use Rattle.spg_rows.specs.declared.event.Event.{Event}
-pub use Rattle.spg_calls.specs.Calls.{GrewTo, Watched, Called, span_at}
-use Rattle.spg_calls.specs.Calls.{OneSection, WatchFollows, NextFollows}
+use Rattle.spg_calls.specs.Calls.{Watched, Called}
 use Rattle.spg_script.specs.declared.command.Command.{Command}
 use Rattle.spg_script.specs.declared.part.Part.{Part}
 use Rattle.spg_script.specs.Speech.{Speech}
@@ -20,9 +19,6 @@ CallsTo {O} {Key} {Recon} {Cond} speech seat seen (t ∷ tasks) (r ∷ records) 
     (later : List (Event O Key Recon Cond)) × (events : List (Event O Key Recon Cond)) × Called seat seen later r.span events × Does speech t (past_at r.span.from later) events r.outcome × CallsTo speech seat later tasks records journal
 
 pub record CallsCompose (O Key Recon Cond : Type 0) : Type 0 where
-  pub one : OneSection O Key Recon Cond
-  pub watch : WatchFollows O Key Recon Cond
-  pub next : NextFollows O Key Recon Cond
   -- the calls of a lane one after another, each over a longer journal
   pub lane : (speech : Speech Key Cond) (seen journal : List (Event O Key Recon Cond)) (block seat : ℕ) (alone : Bool) (commands : List Command) (records : List Record) → CallsTo speech seat seen (lane_tasks block seat alone commands) records journal
       → LaneRan speech (length seen) journal seat (lane_tasks block seat alone commands) records

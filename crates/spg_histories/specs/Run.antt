@@ -1,14 +1,15 @@
 -- When a journal and a list of records are a run of a script.
-use Rattle.std.specs.Prelude.{◌≡◌, ◌<◌, ◌≤◌, ◌⊎◌, ◌-◌, ◌*◌, ◌++◌, ℕ, false, List, [], ◌∷◌, length, map, take, drop, reverse, slice_get, Option, is_some, IsSomeAnd, Some, ⊤}
+use Rattle.std.specs.Prelude.{◌≡◌, ◌<◌, ◌≤◌, ◌⊎◌, ◌-◌, ◌*◌, ◌++◌, ℕ, false, List, [], ◌∷◌, length, map, Option, is_some, Some, ⊤}
 use Rattle.std.specs.List.{AllZip, AllByRecursion}
 use Rattle.spg_base.specs.Row.{RowAt}
 use Rattle.spg_opclass.specs.declared.query.Query.{Query}
 use Rattle.spg_rows.specs.declared.event.Event.{Event}
 use Rattle.spg_rows.specs.declared.event.Event.TheVariants.{OpenInsert, Put, Drop, Kill, OpenScan, CloseScan, OpenVacuum, Sweep, CloseVacuum, Leave}
 use Rattle.spg_rows.specs.declared.event.Why.TheVariants as cause
-use Rattle.spg_rows.specs.History.{History, vacuuming, open_of, seat_of, own}
+use Rattle.spg_rows.specs.History.{History, vacuuming, open_of, own}
 use Rattle.spg_rows.specs.Rows.{held_by, is_live}
 use Rattle.spg_rows.specs.Told.{IsUsed}
+pub use Rattle.spg_calls.specs.Calls.{between, past_at, IsBySeat}
 use Rattle.spg_script.specs.declared.any_key.AnyKey.{AnyKey}
 use Rattle.spg_script.specs.declared.any_query.AnyQuery.{AnyQuery}
 use Rattle.spg_script.specs.declared.command.Command.{Command}
@@ -17,7 +18,6 @@ use Rattle.spg_script.specs.Speech.{Speech, key_or_null_in, query_in}
 use Rattle.spg_report.specs.declared.outcome.Outcome.{Outcome}
 use Rattle.spg_report.specs.declared.outcome.Outcome.TheVariants as outcome
 use Rattle.spg_report.specs.declared.record.Record.{Record}
-pub use Rattle.spg_calls.specs.Calls.{between, past_at, IsBySeat}
 use Rattle.spg_histories.specs.Tasks.{Task}
 
 -- ---- kinds of commands

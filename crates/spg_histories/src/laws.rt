@@ -35,7 +35,7 @@ pub fn script_says_all<O: OpClass>()
     ensures { ScriptSaysAll O O.Key O.Recon O.Cond }
 {}
 
-/// Calls of a seat compose, and those of a lane are the lane's run.
+/// The calls of a lane, one after another, are the lane's run.
 pub fn calls_compose<O: OpClass>()
     ensures { CallsCompose O O.Key O.Recon O.Cond }
 {}

@@ -9,7 +9,7 @@ use crate::line::Line;
 use spg_base::{Bytes, Memory, Row, SeatNo};
 use spg_opclass::Query;
 use spg_rows::Event;
-use spg_script::Spoken;
+use spg_script::{Spoken, Tail};
 use std::alloc::Global;
 
 /// Adds the text of conditions: the first behind `where`, each further one behind `and`.
@@ -67,8 +67,10 @@ fn push_key<O: Spoken>(
 fn push_on_row(line: &mut Line, word: &[u8], row: Row) -> Result<(), Memory>
     ensures { OnOk result (line.new ≡ line.old ++ (word.now ++ row_text row)) }
 {
+    let mut text = Tail::new();
+    text.row(row);
     line.extend(word)?;
-    line.row(row)
+    line.extend(text.as_slice())
 }
 
 fn seat_of<O: Spoken>(event: &Event<O>) -> SeatNo
@@ -137,10 +139,12 @@ pub fn push_event<O: Spoken>(
 ) -> Result<(), Memory>
     ensures { OnOk result (line.new ≡ line.old ++ event_text O.speech at event.now) }
 {
-    line.number(at)?;
-    line.push(b' ')?;
-    line.number(u64::from(seat_of(event).number()))?;
-    line.push(b' ')?;
+    let mut place = Tail::new();
+    place.byte(b' ');
+    place.number(u64::from(seat_of(event).number()));
+    place.byte(b' ');
+    place.number(at);
+    line.extend(place.as_slice())?;
     push_deed(alloc, class, line, event)
 }
 

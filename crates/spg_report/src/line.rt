@@ -2,8 +2,8 @@ ghost use Rattle.std.specs.Prelude.{◌≡◌, ◌++◌, ◌∷◌, [], OnOk};
 ghost use Rattle.std.specs.Fmt.{decimal};
 ghost use Rattle.spg_base.specs.Text.{row_text};
 
-use itoa::Buffer;
 use spg_base::{Memory, Row};
+use spg_script::Tail;
 use std::alloc::Global;
 use std::marker::Model;
 
@@ -66,17 +66,18 @@ impl Line {
     pub fn number(&mut self, n: u64) -> Result<(), Memory>
         ensures { OnOk result (self.new ≡ self.old ++ decimal n) }
     {
-        let mut digits = Buffer::new();
-        self.extend(digits.format(n).as_bytes())
+        let mut text = Tail::new();
+        text.number(n);
+        self.extend(text.as_slice())
     }
 
     /// Adds a row at the end.
     pub fn row(&mut self, row: Row) -> Result<(), Memory>
         ensures { OnOk result (self.new ≡ self.old ++ row_text row) }
     {
-        self.number(u64::from(row.block()))?;
-        self.push(b'.')?;
-        self.number(u64::from(row.offset()))
+        let mut text = Tail::new();
+        text.row(row);
+        self.extend(text.as_slice())
     }
 
     /// Adds a word and a number.

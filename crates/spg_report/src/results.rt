@@ -5,6 +5,7 @@ use crate::line::Line;
 use crate::outcome::Outcome;
 use crate::record::Record;
 use spg_base::{Bytes, Memory, Row, Stat};
+use spg_script::Tail;
 use std::alloc::Global;
 
 fn push_rows(line: &mut Line, rows: &[Row]) -> Result<(), Memory>
@@ -69,12 +70,14 @@ fn push_outcome(line: &mut Line, outcome: &Outcome) -> Result<(), Memory>
 pub fn push_result(line: &mut Line, number: u64, done: &Record) -> Result<(), Memory>
     ensures { OnOk result (line.new ≡ line.old ++ result_text number done.now) }
 {
-    line.number(number)?;
-    line.push(b' ')?;
-    line.number(done.span.from)?;
-    line.push(b' ')?;
-    line.number(done.span.to)?;
-    line.push(b' ')?;
+    let mut front = Tail::new();
+    front.byte(b' ');
+    front.number(done.span.to);
+    front.byte(b' ');
+    front.number(done.span.from);
+    front.byte(b' ');
+    front.number(number);
+    line.extend(front.as_slice())?;
     push_outcome(line, &done.outcome)
 }
 

@@ -23,10 +23,10 @@ use Rattle.spg_script.specs.Line.{has_texts, word_of, SpellsKeyOrNull, SpellsCon
 use Rattle.spg_script.specs.Laws.{IsKeyOrNull, IsAnyCond, IsQuery, IsCommand}
 use Rattle.spg_script.specs.Script.{onto_first, lines_of, says_something, Saying, block_opens, lane_opens, block_ends, says, lane_sayings, block_sayings, sayings, Spells, AreSpoken, IsScript, AreCommands, IsTidy}
 
-abbrev AreBytes : List ℕ → Type 0
+abbrev pub AreBytes : List ℕ → Type 0
 AreBytes bytes = AllByRecursion (λ b. b < 256) bytes
 
-are_bytes : (bytes : List ℕ) → is_bytes bytes ≡ true → AreBytes bytes
+pub are_bytes : (bytes : List ℕ) → is_bytes bytes ≡ true → AreBytes bytes
 are_bytes [] is = tt
 are_bytes (b ∷ bytes) is = go (nat_lt b 256) refl is (are_bytes bytes)
   where
@@ -34,7 +34,7 @@ are_bytes (b ∷ bytes) is = go (nat_lt b 256) refl is (are_bytes bytes)
     go true e h rest = (ltb-true b 256 e, rest h)
     go false e h rest = (cc)
 
-bytes_are : (bytes : List ℕ) → AreBytes bytes → is_bytes bytes ≡ true
+pub bytes_are : (bytes : List ℕ) → AreBytes bytes → is_bytes bytes ≡ true
 bytes_are [] are = refl
 bytes_are (b ∷ bytes) are = rw (lt-ltb b 256 are.0, bytes_are bytes are.1) refl
 

@@ -11,3 +11,4 @@ pub mod Reader
 pub mod Speaking
 pub mod Steps
 pub mod Refusal
+pub mod Generated

@@ -26,7 +26,7 @@ pub struct Blocks {
 }
 
 /// The block of a command outside lanes.
-fn alone(alloc: Global, command: Command) -> Result<Part, Memory>
+pub fn alone(alloc: Global, command: Command) -> Result<Part, Memory>
     ensures { IfOk result (λ part. part ≡ alone_part command) }
 {
     let lane = List::from_vec(Vec::from_array(alloc, [command])?);

@@ -11,8 +11,10 @@ mod class_name;
 mod command;
 mod commands;
 mod conditions;
+mod generating;
 mod laws;
 mod lines;
+mod load;
 mod names;
 mod numbers;
 mod numerals;
@@ -25,6 +27,7 @@ mod refused;
 mod script;
 mod spelling;
 mod spoken;
+mod tail;
 mod texts;
 
 pub use any_cond::AnyCond;
@@ -32,13 +35,17 @@ pub use any_key::AnyKey;
 pub use any_query::AnyQuery;
 pub use class_name::ClassName;
 pub use command::Command;
+pub use generating::{MOST_LOAD_LANES, generate};
 pub use laws::{prints_read_back, readers_find, readers_go_on, scripts_are_exact};
+pub use load::{MOST_ROWS, MOST_SEED};
+pub use numbers::number;
 pub use parsing::parse;
 pub use part::Part;
 pub use printing::print;
 pub use refused::ScriptRefused;
 pub use script::Script;
 pub use spoken::Spoken;
+pub use tail::Tail;
 
 #[cfg(test)]
 mod tests;

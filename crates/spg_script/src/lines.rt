@@ -1,7 +1,19 @@
-ghost use Rattle.std.specs.Prelude.{◌≡◌, ◌<◌, ◌∷◌, length};
+ghost use Rattle.std.specs.Prelude.{◌≡◌, ◌<◌, ◌≤◌, ◌∷◌, length};
+ghost use Rattle.spg_script.specs.Reading.{len_before};
 ghost use Rattle.spg_script.specs.Script.{lines_of, says_something};
 
-use crate::bytes::len_before;
+use memchr::memchr;
+
+/// How many bytes stand before the first end of a line.
+fn line_len(bytes: &[u8]) -> usize
+    ensures value { result ≡ len_before 10 bytes.now }
+    ensures within { result ≤ length bytes.now }
+{
+    match memchr(b'\n', bytes) {
+        Some(at) => at,
+        None => bytes.len(),
+    }
+}
 
 /// The first line, and the bytes after its end.
 pub fn first_line(bytes: &[u8]) -> (&[u8], &[u8])
@@ -9,7 +21,7 @@ pub fn first_line(bytes: &[u8]) -> (&[u8], &[u8])
     ensures lines { lines_of bytes.now ≡ result.0.now ∷ lines_of result.1.now }
     ensures shorter { length result.1.now < length bytes.now }
 {
-    let at = len_before(bytes, b'\n');
+    let at = line_len(bytes);
     if at < bytes.len() {
         (&bytes[..at], &bytes[at + 1..])
     } else {

@@ -21,8 +21,9 @@ fn value(bytes: &[u8]) -> Option<u32>
     Some(value as u32)
 }
 
-/// The number that the bytes spell, where it is below 2^32. None where it has a leading zero.
-fn number(bytes: &[u8]) -> Option<u32>
+/// The number that the bytes spell in decimal digits, without a leading zero. None exactly where they
+/// spell none below 2^32.
+pub fn number(bytes: &[u8]) -> Option<u32>
     ensures { result ≡ number_of bytes.now }
 {
     match bytes {

@@ -1,5 +1,5 @@
-use crate::{AnyQuery, Command, Script, ScriptRefused, Spoken, parse, print};
-use spg_base::{Bytes, Memory};
+use crate::{AnyQuery, ClassName, Command, Script, ScriptRefused, Spoken, generate, parse, print};
+use spg_base::{Bytes, List, Memory};
 use spg_kd::Kd;
 use spg_quad::Quad;
 use spg_radix::Radix;
@@ -281,5 +281,56 @@ fn classes_speak(rt: HostRuntime) -> Result<(), Fail> {
     assert!(rt; spoken(alloc, &Radix, texts)?.as_slice() == of_texts);
     assert!(rt; spoken(alloc, &Quad, texts)?.is_empty());
     assert!(rt; spoken(alloc, &Radix, points)?.is_empty());
+    Ok(())
+}
+
+/// Small loads, with five rows in two lanes.
+const LOADS: [(ClassName, u32, &[u8]); 3] = [
+    (
+        ClassName::Quad,
+        7,
+        b"class quad\ntogether\nlane\ninsert 0.1 7,7\ninsert 0.3 81,189\ndelete 0.3\ninsert 0.5 155,371\nlane\ninsert 0.2 44,98\ninsert 0.4 118,280\nlane\nvacuum\nfind all\nvacuum\nfind all\nend\nvacuum\nfind all\nfind where left 100\nfind where below 500\n",
+    ),
+    (
+        ClassName::Kd,
+        999_970,
+        b"class kd\ntogether\nlane\ninsert 0.1 970,970\ninsert 0.3 44,152\ndelete 0.3\ninsert 0.5 118,334\nlane\ninsert 0.2 7,61\ninsert 0.4 81,243\nlane\nvacuum\nfind all\nvacuum\nfind all\nend\nvacuum\nfind all\nfind where left 100\nfind where below 500\n",
+    ),
+    (
+        ClassName::Radix,
+        0,
+        b"class radix\ntogether\nlane\ninsert 0.1 \"street 000 house 000\"\ninsert 0.3 \"street 074 house 182\"\ndelete 0.3\ninsert 0.5 \"street 148 house 364\"\nlane\ninsert 0.2 \"street 037 house 091\"\ninsert 0.4 \"street 111 house 273\"\nlane\nvacuum\nfind all\nvacuum\nfind all\nend\nvacuum\nfind all\nfind where starts \"street 0\"\nfind where ge \"street 500\"\n",
+    ),
+];
+
+#[test]
+fn generates_loads(rt: HostRuntime) -> Result<(), Fail> {
+    let alloc = rt.alloc();
+    for (class, seed, text) in &LOADS {
+        let script = generate(alloc, 5, *seed, 2, *class)?;
+        assert!(rt; print(alloc, &script)?.as_slice() == *text);
+    }
+    Ok(())
+}
+
+/// How many commands the lanes of a script's first block have.
+fn sizes(alloc: Global, script: &Script) -> Result<List<usize>, Memory> {
+    let mut sizes = List::new(alloc);
+    if let Some(load) = script.parts().first() {
+        for lane in load.lanes.as_slice() {
+            sizes.push(lane.len())?;
+        }
+    }
+    Ok(sizes)
+}
+
+#[test]
+fn generates_the_largest_load(rt: HostRuntime) -> Result<(), Fail> {
+    let alloc = rt.alloc();
+    let script = generate(alloc, 200_000, 999_999, 16, ClassName::Radix)?;
+    let sizes = sizes(alloc, &script)?;
+    assert!(rt; sizes.len() == 17);
+    assert!(rt; sizes.as_slice()[..3] == [16_666, 16_667, 16_667]);
+    assert!(rt; sizes.get(16).copied() == Some(4));
     Ok(())
 }

@@ -1,4 +1,5 @@
 ghost use Rattle.std.specs.Prelude.{◌≡◌, ◌<◌, ◌≤◌, ◌-◌, None, IfOk, IfSome, IfNone, length};
+ghost use Rattle.std.specs.List.{list_all};
 ghost use Rattle.spg_script.specs.Quoted.{hex_of, is_plain, escaped, first_byte};
 ghost use Rattle.spg_script.specs.Printing.{plain_before};
 ghost use Rattle.spg_script.specs.Reading.{ReadsOn, told, now_of, after_quote, text_of, quoted_of, whole_text_of};
@@ -9,6 +10,9 @@ use std::alloc::Global;
 
 /// The greatest number of bytes of a text.
 const LONGEST: usize = 3900;
+
+/// How many bytes are looked at together.
+const TOGETHER: usize = 16;
 
 /// The value of a hexadecimal digit of either case.
 fn hex(b: u8) -> Option<u8>
@@ -68,17 +72,32 @@ fn after_quote(bytes: &[u8]) -> Option<&[u8]>
     }
 }
 
+/// Whether each of the bytes may stand for itself. All are looked at, so that the processor may look
+/// at many at once.
+#[inline(always)]
+fn are_plain(bytes: &[u8]) -> bool
+    ensures { result ≡ list_all is_plain bytes.now }
+{
+    let mut plain = true;
+    for b in bytes {
+        plain &= is_plain(*b);
+    }
+    plain
+}
+
 /// How many bytes stand before the first that may not stand for itself.
 pub fn plain_before(bytes: &[u8]) -> usize
     ensures value { result ≡ plain_before bytes.now }
     ensures within { result ≤ length bytes.now }
 {
-    for (i, b) in bytes.iter().enumerate() {
-        if !is_plain(*b) {
-            return i;
-        }
+    let mut at = 0;
+    while bytes.len() - at >= TOGETHER && are_plain(&bytes[at..at + TOGETHER]) {
+        at += TOGETHER;
     }
-    bytes.len()
+    while at < bytes.len() && is_plain(bytes[at]) {
+        at += 1;
+    }
+    at
 }
 
 /// Adds the bytes up to the first that may not stand for itself, and gives what follows them. None

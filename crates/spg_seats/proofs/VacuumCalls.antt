@@ -44,6 +44,7 @@ use Rattle.spg_seats.specs.Descending.{HasInnerRoot, ChangesHeld}
 use Rattle.spg_seats.specs.Latching.{AreHeld, rest_of}
 use Rattle.spg_seats.specs.Slots.{Stage, free, descending, reading, sweeping, stage_in, stamp_of, IsVacuumOf, StageFits, stage_holds, kept_key, open_count, least, horizon_of, IsSafe, NoneSweeps, Fields, IsKept}
 use Rattle.spg_seats.specs.Opening.{opened_vacuum, sweeps, SameRows, ChangesRows, SweepsRows, EndsNewest, is_among}
+use Rattle.spg_seats.proofs.Drops.{causes_grow, causes_sweeps}
 use Rattle.spg_seats.proofs.Slots.{keeps}
 use Rattle.spg_seats.proofs.Opening.{sweeps_hold}
 use Rattle.spg_seats.proofs.Holding.{latches_law}
@@ -128,7 +129,7 @@ module _ {O Key Recon Cond : Type 0} (m : Meaning Key Recon Cond) where
     -- ---- a vacuum opens where no seat has one open
 
     pub kept_opens_vacuum : sheets_of s2.table ≡ sheets_of s.table → stage ≡ sweeping (opened_vacuum (length past) s.table.clock) → open_of seat past ≡ nothing → NoneSweeps s.stages → s2.journal ≡ s.journal ++ OpenVacuum seat ∷ [] → ChangesRows (OpenVacuum seat) past s s2 → IsKept m s2
-    kept_opens_vacuum same is none alone journal told = calls.kept_event m s s2 seat stage kept stages_are here held room limit origin (OpenVacuum seat) refl tt (none, none_open s kept alone) tt journal same told
+    kept_opens_vacuum same is none alone journal told = calls.kept_event m s s2 seat stage kept stages_are here held room limit origin (OpenVacuum seat) refl tt tt (none, none_open s kept alone) tt journal same told
         (subst (λ (x : Stage O Key Recon Cond). StageFits m s2.table (OpenVacuum seat ∷ past) seat x) (sym is) (
           past,
           itself_opens (OpenVacuum seat) past,
@@ -163,7 +164,7 @@ module _ {O Key Recon Cond : Type 0} (m : Meaning Key Recon Cond) where
           complete = λ r life of killed. (killed_swept before past).swept kept.right.legal (λ r T. none (is_target before past) kept.tells.holds.shape V.vacuum r ((targets_agree before past r kept.right.legal).1 T)) r life of killed;
           count = V.count;
         } in
-        calls.kept_event m s s2 seat stage kept stages_are here held room limit origin (CloseVacuum seat v.swept) refl tt (before, has)
+        calls.kept_event m s s2 seat stage kept stages_are here held room limit origin (CloseVacuum seat v.swept) refl tt tt (before, has)
         (λ before2 opens. let e : vacuuming before ≡ vacuuming before2 = sym has ∙ opens in let one : before ≡ before2 = cc e in subst (λ (b : History O Key Recon Cond). VacuumRight b past v.swept) one right)
         journal same (record { row = told.rows; targets = (told.targets, told.later); vacuums = ends_newest before has told.vacuums })
         (subst (λ (x : Stage O Key Recon Cond). StageFits m s2.table (CloseVacuum seat v.swept ∷ past) seat x) (sym ended) (itself_opens (CloseVacuum seat v.swept) past))
@@ -171,7 +172,7 @@ module _ {O Key Recon Cond : Type 0} (m : Meaning Key Recon Cond) where
     pub kept_leaves_vacuum : (v : Vacuum) → sheets_of s2.table ≡ sheets_of s.table → stage ≡ free → stage_in s.stages seat ≡ sweeping v → s2.journal ≡ s.journal ++ Leave seat ∷ [] → EndsNewest (length past) s s2 → IsKept m s2
     kept_leaves_vacuum v same ended was journal told =
         let (before, has, V) = fits_of v was in
-        calls.kept_event m s s2 seat stage kept stages_are here held room limit origin (Leave seat) refl tt (subst IsLeavable (sym has) tt) tt journal same
+        calls.kept_event m s s2 seat stage kept stages_are here held room limit origin (Leave seat) refl tt tt (subst IsLeavable (sym has) tt) tt journal same
         (record { row = told.rows; targets = (told.targets, told.later); vacuums = ends_newest before has told.vacuums })
         (subst (λ (x : Stage O Key Recon Cond). StageFits m s2.table (Leave seat ∷ past) seat x) (sym ended) (itself_opens (Leave seat) past))
 
@@ -280,6 +281,7 @@ module _ {O Key Recon Cond : Type 0} (m : Meaning Key Recon Cond) where
                 vacuums = told.vacuums ∙ kept.tells.vacuums ∙ sym (sweeps_vacuums seat past xs);
                 room = room;
                 limit = limit ∙ kept.tells.limit ∙ ap (λ o. o.limit) (sym origin);
+                drops = causes_sweeps past s2.table seat xs (causes_grow past s.table s2.table limit T.section.within.pages.0 T.section.within.clock.0 kept.tells.drops);
               };
             })
 

@@ -82,13 +82,13 @@ use Rattle.spg_split.proofs.ChainLaw.{IsChainDivision}
 
 module _ {Key Recon Cond : Type 0} (m : Meaning Key Recon Cond) (codes : CodeLaw m) (t : Table) (d : Descending Recon) (x p : Place) (i : ℕ) (H : Shape m (sheets_of t)) (st : d.stand ≡ At x) (pr : d.parent ≡ Some (p, i)) (A : IsAtChain t d)
     (K : (key : Option Key) × IsCarried m (sheets_of t) d key) (long : MayMove t d.stand (Live (carried d) 0) → ⊥) (tick : t.clock + 1 < 2 ^ 48)
-    (dv : Division) (D : IsDivided m d.recon (rests_of (standing.vs m codes t d x p i H st pr A K long)) dv) (same : is_none d.recon ≡ in_nulls d) (p2 : Parts) (P : ArePartsOf (rows_of (standing.vs m codes t d x p i H st pr A K long)) dv p2)
+    (dv : Division) (D : IsDivided m d.recon (rests_of (standing.vs m codes t d x p i H st pr A K)) dv) (same : is_none d.recon ≡ in_nulls d) (p2 : Parts) (P : ArePartsOf (rows_of (standing.vs m codes t d x p i H st pr A K)) dv p2)
     (seat : ℕ) (t2 : Table) (done : ChainOut) (W : IsDividedBelow t t2 x p i seat p2 done) where
   abbrev ls : List Leaf
-  ls = standing.ls m codes t d x p i H st pr A K long
+  ls = standing.ls m codes t d x p i H st pr A K
 
   abbrev vs : List Leaf
-  vs = standing.vs m codes t d x p i H st pr A K long
+  vs = standing.vs m codes t d x p i H st pr A K
 
   abbrev u : Table
   u = W.housed
@@ -145,7 +145,7 @@ module _ {Key Recon Cond : Type 0} (m : Meaning Key Recon Cond) (codes : CodeLaw
   es = picked_spots m S S1 HH.pages H
 
   nulls_are : (sheet_at S1 h.inner).nulls ≡ is_none d.recon
-  nulls_are = HH.inner_tree ∙ standing.x_nulls m codes t d x p i H st pr A K long ∙ sym same
+  nulls_are = HH.inner_tree ∙ standing.x_nulls m codes t d x p i H st pr A K ∙ sym same
 
   xsame : sheet_at S1 x.block ≡ sheet_at S x.block
   xsame = x_same t u x p i p2 W.left plan h MD R some W.is_left W.is_plan HH
@@ -154,11 +154,11 @@ module _ {Key Recon Cond : Type 0} (m : Meaning Key Recon Cond) (codes : CodeLaw
   psame = p_same t u x p i p2 W.left plan h MD R some W.is_left W.is_plan HH
 
   bucket : spots S1 x ≡ Bucket ls
-  bucket = ap (λ (U : Place → Spot). U x) es ∙ standing.bucket m codes t d x p i H st pr A K long
+  bucket = ap (λ (U : Place → Spot). U x) es ∙ standing.bucket m codes t d x p i H st pr A K
 
   number : leaf_number t d.stand ≡ length ls
   number = subst (λ (s : Stand). leaf_number t s ≡ length ls) (sym st)
-      (ap (λ (y : Place). length (leaves_of (spots S y))) (high_spot x MD.x_from) ∙ ap (λ (s : Spot). length (leaves_of s)) (standing.bucket m codes t d x p i H st pr A K long))
+      (ap (λ (y : Place). length (leaves_of (spots S y))) (high_spot x MD.x_from) ∙ ap (λ (s : Spot). length (leaves_of s)) (standing.bucket m codes t d x p i H st pr A K))
 
   -- of these leaves the tuples are put
   module _ (xs : List Leaf) (are : ws ≡ all_live (leaves_with (rows_of xs) dv.rests)) (xs_rests : length xs ≤ length dv.rests) (wp : Frame) (nsp : List (Option Place)) (ep : tuple_at t p ≡ Inner wp nsp) (ex : get_or nsp i None ≡ Some x) where
@@ -239,7 +239,7 @@ module _ {Key Recon Cond : Type 0} (m : Meaning Key Recon Cond) (codes : CodeLaw
     goes = D.goes vs refl
 
     fit : (key : Option Key) → IsCarried m S d key → FitAt (class_of m) (spots S1) (Some key) x d.recon
-    fit key C = subst (λ (F : Place → Spot). FitAt (class_of m) F (Some key) x d.recon) (sym es) (standing.way m codes t d x p i H st pr A K long key C)
+    fit key C = subst (λ (F : Place → Spot). FitAt (class_of m) F (Some key) x d.recon) (sym es) (standing.way m codes t d x p i H st pr A K key C)
 
     Bounded : ℕ → Type 0
     Bounded more = 1 + total but_first L 0 plan.cut + total but_first L plan.cut (n - plan.cut) ≤ (length ls - 1) + more
@@ -265,7 +265,7 @@ module _ {Key Recon Cond : Type 0} (m : Meaning Key Recon Cond) (codes : CodeLaw
     puts : xs ≡ vs → Bounded 1 → SplitsWith m t t2 d z
     puts eq le key C =
         let G : AreDivided (class_of m) d.recon ls (λ row. row ≡ d.row) w ds (M2 vs) =
-        divided_with (class_of m) d.recon w ds ls (carried d) dv.node_of dv.rests goes (standing.all_once m codes t d x p i H st pr A K long key C)
+        divided_with (class_of m) d.recon w ds ls (carried d) dv.node_of dv.rests goes (standing.all_once m codes t d x p i H st pr A K key C)
         (λ j l a. linked j l (subst (λ (F : ℕ → List Leaf). IsIn l (F j)) (sym lists_are) (subst (λ zs. IsIn l (list_of j zs dv.node_of dv.rests)) (sym eq) a))) in
         let G2 : AreDivided (class_of m) d.recon ls (λ row. row ≡ d.row) w ds L =
         subst (λ (F : ℕ → List Leaf). AreDivided (class_of m) d.recon ls (λ row. row ≡ d.row) w ds F) (sym (lists_are ∙ ap M2 eq)) G in
@@ -290,7 +290,7 @@ module _ {Key Recon Cond : Type 0} (m : Meaning Key Recon Cond) (codes : CodeLaw
     leaves eq more le =
         let (key, C) = K in
         let G : AreDivided (class_of m) d.recon ls (λ row. ⊥) w ds (M2 ls) =
-        divided_from (class_of m) d.recon w ds ls dv.node_of dv.rests (goes_without (class_of m) d.recon w ls (carried d) dv.node_of dv.rests goes) (standing.once m codes t d x p i H st pr A K long)
+        divided_from (class_of m) d.recon w ds ls dv.node_of dv.rests (goes_without (class_of m) d.recon w ls (carried d) dv.node_of dv.rests goes) (standing.once m codes t d x p i H st pr A K)
         (λ j l a. linked j l (subst (λ (F : ℕ → List Leaf). IsIn l (F j)) (sym lists_are) (subst (λ zs. IsIn l (list_of j zs dv.node_of dv.rests)) (sym eq) a))) in
         let G2 : AreDivided (class_of m) d.recon ls (λ row. ⊥) w ds L =
         subst (λ (F : ℕ → List Leaf). AreDivided (class_of m) d.recon ls (λ row. ⊥) w ds F) (sym (lists_are ∙ ap M2 eq)) G in
@@ -342,10 +342,10 @@ module _ {Key Recon Cond : Type 0} (m : Meaning Key Recon Cond) (codes : CodeLaw
     shrinking : xs ≡ ls → (more : ℕ) → Leaves m S (sheets_of t2) t2.touched (split_cost d.stand more) 0 (moved (tuple_place d.stand) z) → Bounded more → (node : Option ℕ) → IsOnlyNode (take (length p2.leaves - 1) p2.node_of) node → 8160 < weight p2.leaves →
         Shrinks m t t2 d (placed d (At z) d.parent)
     shrinking eq more X le node only big =
-        let lc = standing.leaf_count m codes t d x p i H st pr A K long dv D p2 P in let c = standing.count_vs m codes t d x p i H st pr A K long in
+        let lc = standing.leaf_count m codes t d x p i H st pr A K long dv D p2 P in let c = standing.count_vs m codes t d x p i H st pr A K in
         let k : length p2.leaves - 1 ≡ length ls = omega arith in
         let only2 : IsOnlyNode (take (length ls) dv.node_of) node = subst (λ ns. IsOnlyNode (take (length ls) ns) node) P.node_of (subst (λ j. IsOnlyNode (take j p2.node_of) node) k only) in
-        shrinks m t t2 d (placed d (At z) d.parent) (rests_of vs) dv (length ls) D (standing.rests_count m codes t d x p i H st pr A K long) (slice_last ls (carried d)) number ws (sym (length-leaves_in ws) ∙ xs_count ∙ ap length eq) (leads more X le)
+        shrinks m t t2 d (placed d (At z) d.parent) (rests_of vs) dv (length ls) D (standing.rests_count m codes t d x p i H st pr A K) (slice_last ls (carried d)) number ws (sym (length-leaves_in ws) ∙ xs_count ∙ ap length eq) (leads more X le)
         node (standing.many m codes t d x p i H st pr A K long dv D p2 P big) only2
 
     link_now : IsLedTo t2 d.parent z
@@ -362,7 +362,7 @@ module _ {Key Recon Cond : Type 0} (m : Meaning Key Recon Cond) (codes : CodeLaw
           fresh = λ y l a e. let (k, g) = entry_of m (sheets_of t2) y l X.section.shape a in no_entry m S d.row k C.fresh (subst (λ (r : RowAt). HasEntry m (spots S) r k) e ((X.entries l.row k).0 g));
           rest = C.rest;
           rebuilt = C.rebuilt;
-          way = subst (λ (y : Place). FitAt (class_of m) (spots (sheets_of t2)) (Some key) y d.recon) (moved_here x z x refl) (X.section.fits x d.recon (Some key) (standing.way m codes t d x p i H st pr A K long key C));
+          way = subst (λ (y : Place). FitAt (class_of m) (spots (sheets_of t2)) (Some key) y d.recon) (moved_here x z x refl) (X.section.fits x d.recon (Some key) (standing.way m codes t d x p i H st pr A K key C));
         }
 
     without : xs ≡ ls → (more : ℕ) → Bounded more → (node : Option ℕ) → IsOnlyNode (take (length p2.leaves - 1) p2.node_of) node → 8160 < weight p2.leaves → SplitsWithout m t t2 d (placed d (At z) d.parent) z more
@@ -427,7 +427,7 @@ module _ {Key Recon Cond : Type 0} (m : Meaning Key Recon Cond) (codes : CodeLaw
         let f = ap (λ j. total but_first L j (n - plan.cut)) e in omega arith
 
   count_old : length vs ≡ length ls + 1
-  count_old = standing.count_vs m codes t d x p i H st pr A K long
+  count_old = standing.count_vs m codes t d x p i H st pr A K
 
   rests_old : length dv.rests ≡ length vs
   rests_old = standing.rest_count m codes t d x p i H st pr A K long dv D p2 P
@@ -448,7 +448,7 @@ module _ {Key Recon Cond : Type 0} (m : Meaning Key Recon Cond) (codes : CodeLaw
   -- whichever way it was done
   chain_law : (z : Place) (way : Divided) → z ≡ done.at → IsWayOf p2 plan way → IsChainWay m t t2 d z way × IsTicked t t2
   chain_law z With ez all =
-      let (wp, nsp, ep, ex) = standing.above m codes t d x p i H st pr A K long in
+      let (wp, nsp, ep, ex) = standing.above m codes t d x p i H st pr A K in
       let are : ws ≡ all_live (leaves_with (rows_of vs) dv.rests) = ap (λ k. take k p2.leaves) all ∙ take-length p2.leaves ∙ P.leaves in
       let ro = rests_old in let wl : length ws ≡ length p2.leaves = length-take-le plan.count p2.leaves (omega arith) ∙ all in
       let (k, j, a, b, differ) = D.apart in
@@ -460,7 +460,7 @@ module _ {Key Recon Cond : Type 0} (m : Meaning Key Recon Cond) (codes : CodeLaw
     where
       go : (in_one : Bool) (found : Option ℕ) → IsOnlyNode (take (length p2.leaves - 1) p2.node_of) found → in_one ≡ is_some found → IsChainWay m t t2 d z (Without in_one) × IsTicked t t2
       go true found only e =
-          let (wp, nsp, ep, ex) = standing.above m codes t d x p i H st pr A K long in
+          let (wp, nsp, ep, ex) = standing.above m codes t d x p i H st pr A K in
           let are : ws ≡ all_live (leaves_with (rows_of ls) dv.rests) = put_old none ∙ standing.old_leaves m codes t d x p i H st pr A K long dv D p2 P in
           let ro = rests_old in let cv = count_old in let lc = leaf_old in let o = standing.one_there m codes t d x p i H st pr A K long in
           let wl = ap length (put_old none) in let tl = length-take-le (length p2.leaves - 1) p2.leaves (omega arith) in
@@ -468,7 +468,7 @@ module _ {Key Recon Cond : Type 0} (m : Meaning Key Recon Cond) (codes : CodeLaw
           (subst (λ (y : Place). SplitsWithout m t t2 d (risen (placed d (At y) d.parent)) y 1) (sym W.at ∙ sym ez) (without_risen ls are (omega arith) wp nsp ep ex refl 1 (bounded ls are (omega arith) wp nsp ep ex 1 1 one (omega arith)) found only (big none)), ticked ls are (omega arith) wp nsp ep ex)
       go false (Some k) only e = cc
       go false None only e =
-          let (wp, nsp, ep, ex) = standing.above m codes t d x p i H st pr A K long in
+          let (wp, nsp, ep, ex) = standing.above m codes t d x p i H st pr A K in
           let are : ws ≡ all_live (leaves_with (rows_of ls) dv.rests) = put_old none ∙ standing.old_leaves m codes t d x p i H st pr A K long dv D p2 P in
           let ro = rests_old in let cv = count_old in let lc = leaf_old in let nc = node_old in let o = standing.one_there m codes t d x p i H st pr A K long in
           let wl = ap length (put_old none) in let tl = length-take-le (length p2.leaves - 1) p2.leaves (omega arith) in

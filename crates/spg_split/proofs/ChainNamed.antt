@@ -43,7 +43,7 @@ use Rattle.spg_split.proofs.ChainStanding as standing
 
 module _ {Key Recon Cond : Type 0} (m : Meaning Key Recon Cond) (codes : CodeLaw m) (t : Table) (d : Descending Recon) (x p : Place) (i : ℕ) (H : Shape m (sheets_of t)) (st : d.stand ≡ At x) (pr : d.parent ≡ Some (p, i)) (A : IsAtChain t d)
     (K : (key : Option Key) × IsCarried m (sheets_of t) d key) (long : MayMove t d.stand (Live (carried d) 0) → ⊥) (tick : t.clock + 1 < 2 ^ 48)
-    (dv : Division) (D : IsDivided m d.recon (rests_of (standing.vs m codes t d x p i H st pr A K long)) dv) (same : is_none d.recon ≡ in_nulls d) (p2 : Parts) (P : ArePartsOf (rows_of (standing.vs m codes t d x p i H st pr A K long)) dv p2)
+    (dv : Division) (D : IsDivided m d.recon (rests_of (standing.vs m codes t d x p i H st pr A K)) dv) (same : is_none d.recon ≡ in_nulls d) (p2 : Parts) (P : ArePartsOf (rows_of (standing.vs m codes t d x p i H st pr A K)) dv p2)
     (seat : ℕ) (t2 : Table) (done : ChainOut) (W : IsDividedBelow t t2 x p i seat p2 done) where
   abbrev u : Table
   u = W.housed
@@ -88,7 +88,7 @@ module _ {Key Recon Cond : Type 0} (m : Meaning Key Recon Cond) (codes : CodeLaw
   T2 = table_below u x p i h.inner h.rest p2.inner L plan.cut n
 
   above : (v : Frame) × (ks : List (Option Place)) × (tuple_at t p ≡ Inner v ks) × (get_or ks i None ≡ Some x)
-  above = standing.above m codes t d x p i H st pr A K long
+  above = standing.above m codes t d x p i H st pr A K
 
   above_u : tuple_at u p ≡ Inner above.0 above.1
   above_u = ap (λ ts. tuple_on ts p.offset) (HH.tuples p.block) ∙ above.2

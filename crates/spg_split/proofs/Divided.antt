@@ -1,11 +1,12 @@
 -- What the class divides goes below the nodes of the new tuple.
 use Rattle.std.proofs.Common.{◌≡◌, ℕ, zero, suc, ◌+◌, ◌-◌, ◌≤◌, ◌<◌, ◌%◌, ℤ, pos, true, List, [], ◌∷◌, Option, Some, None, IsSome, All, length, take, get_or, option_map, slice_get, slice_index, replicate, refl, sym, ap, ◌∙◌, subst, inl, inr, arith}
 use Rattle.std.proofs.lemmas.List.{length-replicate, get_or-take, length-take-le}
-use Rattle.std.proofs.lemmas.List.Elements.{All-cons, All-get_or, All-from_get_or}
+use Rattle.std.proofs.lemmas.List.Elements.{All-cons, All-head, All-tail, All-get_or, All-from_get_or}
 use Rattle.std.proofs.lemmas.List.FromFn.{length-map-range_with_len, get_or-map-range_with_len}
 use Rattle.std.proofs.lemmas.Option.{slice_get_within, slice_get-get_or}
 use Rattle.std.specs.Prelude.{Result, Ok, Err, IfOk}
 use Rattle.spg_opclass.specs.Meaning.{Meaning, divided, eightfold}
+use Rattle.spg_opclass.specs.Copies.{AreKeys}
 use Rattle.spg_opclass.specs.Laws.{PickLaw, IsDivision, IsPart, InOneNode}
 use Rattle.spg_opclass.specs.declared.view.Picked.{Picked}
 use Rattle.spg_forest.specs.View.{Leaf}
@@ -26,6 +27,15 @@ gives None h = cc
 pub give_all : {Key Recon Cond : Type 0} (m : Meaning Key Recon Cond) (recon : Recon) (rests : List (List ℕ)) → GiveKeys m (Some recon) rests → All (λ r. IsSome (m.rebuild recon r)) rests
 give_all m recon [] h = All-from_get_or (λ r. IsSome (m.rebuild recon r)) [] [] (λ i h. absurd (omega arith))
 give_all m recon (q ∷ qs) (h, t) = All-cons (λ r. IsSome (m.rebuild recon r)) q qs (let (k, e) = gives (m.rebuild recon q) h in subst (λ o. IsSome o) (sym e) refl) (give_all m recon qs t)
+
+-- and the other way round
+some_mapped : {Key : Type 0} (o : Option Key) → IsSome o → IsSome (option_map Some o)
+some_mapped (Some key) h = refl
+some_mapped None h = cc
+
+pub keys_given : {Key Recon Cond : Type 0} (m : Meaning Key Recon Cond) (recon : Recon) (rests : List (List ℕ)) → AreKeys m recon rests → GiveKeys m (Some recon) rests
+keys_given m recon [] h = tt
+keys_given m recon (q ∷ qs) h = (some_mapped (m.rebuild recon q) (All-head (λ r. IsSome (m.rebuild recon r)) q qs h), keys_given m recon qs (All-tail (λ r. IsSome (m.rebuild recon r)) q qs h))
 
 pub give_keys : {Key Recon Cond : Type 0} (m : Meaning Key Recon Cond) (recon : Recon) (ls : List Leaf) → GiveKeys m (Some recon) (rests_of ls) → HaveKeys m recon ls
 give_keys m recon [] h l a = absurd a
@@ -191,6 +201,10 @@ nulls_are_divided {Key} {Recon} {Cond} m rests two = record {
     length-rests : (ls : List Leaf) → length (rests_of ls) ≡ length ls
     length-rests [] = refl
     length-rests (l ∷ ls) = ap suc (length-rests ls)
+
+-- so many of them, whatever rests they have
+pub nulls_divide : {Key Recon Cond : Type 0} (m : Meaning Key Recon Cond) (n : ℕ) → 2 ≤ n → (rests : List (List ℕ)) → length rests ≡ n → IsDivided m None rests (nulls_divided n)
+nulls_divide m n two rests e = subst (λ (k : ℕ). IsDivided m None rests (nulls_divided k)) e (nulls_are_divided m rests (omega arith))
 
 -- of an outcome that is a known one where there is one
 pub if_ok_same : {A E : Type 0} (r : Result A E) (x : A) (P : A → Type 0) → IfOk r (λ a. a ≡ x) → P x → IfOk r P

@@ -115,13 +115,13 @@ module _ {Key Recon Cond : Type 0} (m : Meaning Key Recon Cond) (codes : CodeLaw
     es = picked_spots m S S1 T.pages H
 
     low : root < 3
-    low = (at_root m codes t d root H st A K no_room).1
+    low = (at_root m codes t d root H st A K).1
 
     root_same : sheet_at S1 root ≡ sheet_at S root
     root_same = T.others root (λ e. let k = W.is_picked.from in let l = low in absurd (omega arith))
 
     nulls_are : (sheet_at S1 root).nulls ≡ is_none d.recon
-    nulls_are = ap (λ (s : Sheet). s.nulls) root_same ∙ (at_root m codes t d root H st A K no_room).3 ∙ sym same
+    nulls_are = ap (λ (s : Sheet). s.nulls) root_same ∙ (at_root m codes t d root H st A K).3 ∙ sym same
 
     R : AreReady p
     R = ready m codes t d root H st A K no_room dv D same p P
@@ -172,7 +172,7 @@ module _ {Key Recon Cond : Type 0} (m : Meaning Key Recon Cond) (codes : CodeLaw
     touched_is = ap (λ (z : Table). z.touched) W.after
 
     positive : 0 < root
-    positive = (at_root m codes t d root H st A K no_room).0
+    positive = (at_root m codes t d root H st A K).0
 
     some : 0 < n
     some = let a = D.some in let e = labels in omega arith
@@ -206,10 +206,10 @@ module _ {Key Recon Cond : Type 0} (m : Meaning Key Recon Cond) (codes : CodeLaw
     lists_are = fun_ext (λ j. ap (λ us. taken_by j us p.node_of) are ∙ ap (λ ns. taken_by j (all_live (leaves_with (rows_of xs) dv.rests)) ns) P.node_of ∙ taken_list j xs dv.node_of dv.rests xs_rests)
 
     bucket_is : spots S1 (place root 0) ≡ Bucket ls
-    bucket_is = ap (λ (U : Place → Spot). U (place root 0)) es ∙ (live_there m codes t d root H st A K no_room).1
+    bucket_is = ap (λ (U : Place → Spot). U (place root 0)) es ∙ (live_there m codes t d root H st A K).1
 
     root_fit : (key : Option Key) → IsCarried m S d key → FitAt (class_of m) (spots S1) (Some key) (place root 0) d.recon
-    root_fit key C = (place root 0, [], (refl, subst IsStanding (sym bucket_is) tt), (refl, sym (recon_is m codes t d root H st A K no_room key C)))
+    root_fit key C = (place root 0, [], (refl, subst IsStanding (sym bucket_is) tt), (refl, sym (recon_is m codes t d root H st A K key C)))
 
     goes : EachGoes (class_of m) d.recon w vs dv.node_of dv.rests
     goes = D.goes vs refl
@@ -221,7 +221,7 @@ module _ {Key Recon Cond : Type 0} (m : Meaning Key Recon Cond) (codes : CodeLaw
     puts : xs ≡ vs → Bounded 1 → PartsWith m t t2 d
     puts ex le key C =
         let G : AreDivided (class_of m) d.recon ls (λ row. row ≡ d.row) w ds (M vs) =
-        divided_with (class_of m) d.recon w ds ls (carried d) dv.node_of dv.rests goes (all_once m codes t d root H st A K no_room key C)
+        divided_with (class_of m) d.recon w ds ls (carried d) dv.node_of dv.rests goes (all_once m codes t d root H st A K key C)
         (λ j l a. linked j l (subst (λ (F : ℕ → List Leaf). IsIn l (F j)) (sym lists_are) (subst (λ zs. IsIn l (list_of j zs dv.node_of dv.rests)) (sym ex) a))) in
         let G2 : AreDivided (class_of m) d.recon ls (λ row. row ≡ d.row) w ds L =
         subst (λ (F : ℕ → List Leaf). AreDivided (class_of m) d.recon ls (λ row. row ≡ d.row) w ds F) (sym (lists_are ∙ ap M ex)) G in
@@ -246,7 +246,7 @@ module _ {Key Recon Cond : Type 0} (m : Meaning Key Recon Cond) (codes : CodeLaw
     leaves ex more le =
         let (key, C) = K in
         let G : AreDivided (class_of m) d.recon ls (λ row. ⊥) w ds (M ls) =
-        divided_from (class_of m) d.recon w ds ls dv.node_of dv.rests (goes_without (class_of m) d.recon w ls (carried d) dv.node_of dv.rests goes) (once m codes t d root H st A K no_room)
+        divided_from (class_of m) d.recon w ds ls dv.node_of dv.rests (goes_without (class_of m) d.recon w ls (carried d) dv.node_of dv.rests goes) (once m codes t d root H st A K)
         (λ j l a. linked j l (subst (λ (F : ℕ → List Leaf). IsIn l (F j)) (sym lists_are) (subst (λ zs. IsIn l (list_of j zs dv.node_of dv.rests)) (sym ex) a))) in
         let G2 : AreDivided (class_of m) d.recon ls (λ row. ⊥) w ds L =
         subst (λ (F : ℕ → List Leaf). AreDivided (class_of m) d.recon ls (λ row. ⊥) w ds F) (sym (lists_are ∙ ap M ex)) G in
@@ -307,7 +307,7 @@ module _ {Key Recon Cond : Type 0} (m : Meaning Key Recon Cond) (codes : CodeLaw
         let g = cond-false (nat_le 3 root) 0 (0 - 1) (lt-leb 3 root low) in
         let f = cond-true (nat_le 3 b) 0 (lives_on (placed (sheet_at S1 b).tuples L 0 n) - 1) (le-leb 3 b W.is_picked.from) in
         let f2 = cond-true (nat_le 3 b) 0 (lives_on (sheet_at S1 b).tuples - 1) (le-leb 3 b W.is_picked.from) in
-        let e : page_spread root (sheet_at S1 root).tuples ≡ page_spread root (all_live ls) = ap (λ (s : Sheet). page_spread root s.tuples) root_same ∙ ap (page_spread root) (live_there m codes t d root H st A K no_room).0 in
+        let e : page_spread root (sheet_at S1 root).tuples ≡ page_spread root (all_live ls) = ap (λ (s : Sheet). page_spread root s.tuples) root_same ∙ ap (page_spread root) (live_there m codes t d root H st A K).0 in
         let (u, v) = root_spread ls in
         let g2 = cond-false (nat_le 3 root) 0 (lives_on (all_live ls) - 1) (lt-leb 3 root low) in
         let z = placed_spread (sheet_at S1 b).tuples L 0 n in
@@ -343,14 +343,14 @@ module _ {Key Recon Cond : Type 0} (m : Meaning Key Recon Cond) (codes : CodeLaw
         }))
 
     number : leaf_number t d.stand ≡ length ls
-    number = subst (λ (s : Stand). leaf_number t s ≡ length ls) (sym st) (ap (λ (y : Place). length (leaves_of (spots S y))) (low_spot (place root 1) low) ∙ ap (λ (s : Spot). length (leaves_of s)) (live_there m codes t d root H st A K no_room).1)
+    number = subst (λ (s : Stand). leaf_number t s ≡ length ls) (sym st) (ap (λ (y : Place). length (leaves_of (spots S y))) (low_spot (place root 1) low) ∙ ap (λ (s : Spot). length (leaves_of s)) (live_there m codes t d root H st A K).1)
 
     shrinking : xs ≡ ls → (more : ℕ) → Leaves m S (sheets_of t2) t2.touched (split_cost d.stand more) 0 (λ x. x) → Bounded more → (node : Option ℕ) → IsOnlyNode (take (length p.leaves - 1) p.node_of) node → 8160 < weight p.leaves → Shrinks m t t2 d d
     shrinking ex more X le node only big =
-        let lc = leaf_count m codes t d root H st A K no_room dv D same p P in let c = count_vs m codes t d root H st A K no_room in
+        let lc = leaf_count m codes t d root H st A K no_room dv D same p P in let c = count_vs m codes t d root H st A K in
         let k : length p.leaves - 1 ≡ length ls = omega arith in
         let only2 : IsOnlyNode (take (length ls) dv.node_of) node = subst (λ ns. IsOnlyNode (take (length ls) ns) node) P.node_of (subst (λ i. IsOnlyNode (take i p.node_of) node) k only) in
-        shrinks m t t2 d d (rests_of vs) dv (length ls) D (rests_count m codes t d root H st A K no_room) (slice_last ls (carried d)) number ws (sym (length-leaves_in ws) ∙ xs_count ∙ ap length ex)
+        shrinks m t t2 d d (rests_of vs) dv (length ls) D (rests_count m codes t d root H st A K) (slice_last ls (carried d)) number ws (sym (length-leaves_in ws) ∙ xs_count ∙ ap length ex)
         (leads more X le) node (many m codes t d root H st A K no_room dv D same p P big) only2
 
     carries : (more : ℕ) → Leaves m S (sheets_of t2) t2.touched (split_cost d.stand more) 0 (λ x. x) → (key : Option Key) → IsCarried m S d key → IsCarried m (sheets_of t2) d key
@@ -360,7 +360,7 @@ module _ {Key Recon Cond : Type 0} (m : Meaning Key Recon Cond) (codes : CodeLaw
       fresh = λ x l a e. let (k, h) = entry_of m (sheets_of t2) x l X.section.shape a in no_entry m S d.row k C.fresh (subst (λ (r : RowAt). HasEntry m (spots S) r k) e ((X.entries l.row k).0 h));
       rest = C.rest;
       rebuilt = C.rebuilt;
-      way = subst (λ (s : Stand). WayFits m (sheets_of t2) s d.parent d.recon key) (sym st) (recon_is m codes t d root H st A K no_room key C);
+      way = subst (λ (s : Stand). WayFits m (sheets_of t2) s d.parent d.recon key) (sym st) (recon_is m codes t d root H st A K key C);
     }
 
     parts_without : xs ≡ ls → (more : ℕ) → Bounded more → (node : Option ℕ) → IsOnlyNode (take (length p.leaves - 1) p.node_of) node → 8160 < weight p.leaves → PartsWithout m t t2 d d more
@@ -398,7 +398,7 @@ module _ {Key Recon Cond : Type 0} (m : Meaning Key Recon Cond) (codes : CodeLaw
   are_old = old_leaves m codes t d root H st A K no_room dv D same p P
 
   count_old : length vs ≡ length ls + 1
-  count_old = count_vs m codes t d root H st A K no_room
+  count_old = count_vs m codes t d root H st A K
 
   length_old : length all_but_last ≡ length ls
   length_old = let a = leaf_count m codes t d root H st A K no_room dv D same p P in let c = count_old in let l = length-take-le (length p.leaves - 1) p.leaves (omega arith) in omega arith
@@ -427,7 +427,7 @@ module _ {Key Recon Cond : Type 0} (m : Meaning Key Recon Cond) (codes : CodeLaw
       let nc = node_count m codes t d root H st A K no_room dv D same p P in
       let lc = leaf_count m codes t d root H st A K no_room dv D same p P in
       let ne = ap length P.node_of in
-      let cv = count_vs m codes t d root H st A K no_room in
+      let cv = count_vs m codes t d root H st A K in
       let differ2 : slice_index p.node_of i ≡ slice_index p.node_of j → ⊥ = λ e. differ (sym (ap (λ ns. slice_index ns i) P.node_of) ∙ e ∙ ap (λ ns. slice_index ns j) P.node_of) in
       let two = bound_two seat t2 p.leaves vs few P.leaves (omega arith) W i j (omega arith) (omega arith) differ2 in
       (puts seat t2 p.leaves vs few P.leaves (omega arith) W refl (bounded seat t2 p.leaves vs few P.leaves (omega arith) W 2 1 two (omega arith)), calm seat t2 p.leaves vs few P.leaves (omega arith) W, makes seat t2 p.leaves W)

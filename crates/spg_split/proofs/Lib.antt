@@ -23,6 +23,7 @@ pub mod TwoPages
 pub mod ChainPages
 pub mod ChainLaw
 pub mod ChainStanding
+pub mod Parting
 pub mod ChainJoining
 pub mod BlocksTouched
 pub mod Outcome

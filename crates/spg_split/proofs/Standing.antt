@@ -12,7 +12,7 @@ use Rattle.spg_forest.specs.Pages.{place, tuple_on, all_live}
 use Rattle.spg_forest.specs.Links.{leaves_on}
 use Rattle.spg_forest.specs.Classes.{class_of, key_of, start_of}
 use Rattle.spg_forest.specs.Divisions.{rests_of}
-use Rattle.spg_forest.specs.Sheets.{Sheet, sheet_at, weight}
+use Rattle.spg_forest.specs.Sheets.{sheet_at, weight}
 use Rattle.spg_forest.specs.Shape.{Shape, spots, IsKindOf, IsTupleOf, IsRestOf}
 use Rattle.spg_forest.proofs.Edits.{page_is}
 use Rattle.spg_forest.proofs.Sections.{shape_shown, shape_tree}
@@ -27,8 +27,7 @@ use Rattle.spg_descend.specs.Carried.{carried, IsCarried, WayFits}
 use Rattle.spg_descend.specs.Puts.{IsAtLeaves, Fits}
 use Rattle.spg_split.specs.declared.division.Division.{Division}
 use Rattle.spg_split.specs.declared.parts.Parts.{Parts}
-use Rattle.spg_split.specs.declared.values.Values.{Values}
-use Rattle.spg_split.specs.Dividing.{AreAllLive, AreValues, GiveKeys, IsDivided, rows_of}
+use Rattle.spg_split.specs.Dividing.{AreAllLive, GiveKeys, IsDivided, rows_of}
 use Rattle.spg_split.specs.Placing.{leaves_with}
 use Rattle.spg_chain.specs.Listed.{leaves_in}
 use Rattle.spg_split.specs.Parts.{ArePartsOf, AreReady}
@@ -89,7 +88,7 @@ nulls_recon (Some s) None h = absurd h
 nulls_recon (Some s) (Some r) h = refl
 
 module _ {Key Recon Cond : Type 0} (m : Meaning Key Recon Cond) (codes : CodeLaw m) (t : Table) (d : Descending Recon) (root : ℕ) (H : Shape m (sheets_of t)) (st : d.stand ≡ Root root) (A : IsAtLeaves (sheets_of t) (in_nulls d) d.stand)
-    (K : (key : Option Key) × IsCarried m (sheets_of t) d key) (no_room : Fits t d.stand (Live (carried d) 0) → ⊥) where
+    (K : (key : Option Key) × IsCarried m (sheets_of t) d key) where
   abbrev pub ls : List Leaf
   ls = leaves_on (tuples_at t root)
 
@@ -124,18 +123,8 @@ module _ {Key Recon Cond : Type 0} (m : Meaning Key Recon Cond) (codes : CodeLaw
   pub carried_fits : leaf_size d.rest ≤ 8156
   carried_fits = let (key, C) = K in rest_fits m codes (in_nulls d) d.rest C.rest
 
-  pub one_there : 1 ≤ length ls
-  one_there = go ls (ap weight live_there.0)
-    where
-      go : (ks : List Leaf) → weight (tuples_at t root) ≡ weight (all_live ks) → 1 ≤ length ks
-      go [] e = absurd (no_room (subst (λ (s : Stand). Fits t s (Live (carried d) 0)) (sym st) (let f = carried_fits in let e2 : weight (tuples_at t root) ≡ 0 = e in omega arith)))
-      go (k ∷ ks) e = omega arith
-
   pub count_vs : length vs ≡ length ls + 1
   count_vs = length-append ls (carried d ∷ [])
-
-  pub several : 2 ≤ length (rests_of vs)
-  several = let a = one_there in let b = count_vs in let c = length-map vs (λ (l : Leaf). l.rest) in omega arith
 
   pub rests_count : length (rests_of vs) ≡ length ls + 1
   rests_count = length-map vs (λ (l : Leaf). l.rest) ∙ count_vs
@@ -146,60 +135,62 @@ module _ {Key Recon Cond : Type 0} (m : Meaning Key Recon Cond) (codes : CodeLaw
   pub all_once : (key : Option Key) → IsCarried m (sheets_of t) d key → NoRepeat vs
   all_once key C = no_repeat ls (carried d) once (λ l a e. C.fresh (place root 0) l (subst (λ (s : Spot). IsIn l (leaves_of s)) (sym live_there.1) a) e)
 
-  module _ (dv : Division) (D : IsDivided m d.recon (rests_of vs) dv) (same : is_none d.recon ≡ in_nulls d) (p : Parts) (P : ArePartsOf (rows_of vs) dv p) where
-    pub rest_count : length dv.rests ≡ length vs
-    rest_count = D.rest_each ∙ length-map vs (λ (l : Leaf). l.rest)
+  module _ (no_room : Fits t d.stand (Live (carried d) 0) → ⊥) where
+    pub one_there : 1 ≤ length ls
+    one_there = go ls (ap weight live_there.0)
+      where
+        go : (ks : List Leaf) → weight (tuples_at t root) ≡ weight (all_live ks) → 1 ≤ length ks
+        go [] e = absurd (no_room (subst (λ (s : Stand). Fits t s (Live (carried d) 0)) (sym st) (let f = carried_fits in let e2 : weight (tuples_at t root) ≡ 0 = e in omega arith)))
+        go (k ∷ ks) e = omega arith
 
-    pub row_count : length (rows_of vs) ≡ length vs
-    row_count = length-map vs (λ (l : Leaf). l.row)
+    pub several : 2 ≤ length (rests_of vs)
+    several = let a = one_there in let b = count_vs in let c = length-map vs (λ (l : Leaf). l.rest) in omega arith
 
-    pub leaf_count : length p.leaves ≡ length vs
-    leaf_count = ap length P.leaves ∙ length-all_live (leaves_with (rows_of vs) dv.rests) ∙ with_length (rows_of vs) dv.rests (rest_count ∙ sym row_count) ∙ row_count
+    module _ (dv : Division) (D : IsDivided m d.recon (rests_of vs) dv) (same : is_none d.recon ≡ in_nulls d) (p : Parts) (P : ArePartsOf (rows_of vs) dv p) where
+      pub rest_count : length dv.rests ≡ length vs
+      rest_count = D.rest_each ∙ length-map vs (λ (l : Leaf). l.rest)
 
-    pub node_count : length p.node_of ≡ length vs
-    node_count = ap length P.node_of ∙ D.node_each ∙ length-map vs (λ (l : Leaf). l.rest)
+      pub row_count : length (rows_of vs) ≡ length vs
+      row_count = length-map vs (λ (l : Leaf). l.row)
 
-    pub link_count : length p.links ≡ length dv.frame.labels
-    link_count = ap length P.links ∙ length-replicate (length dv.frame.labels) None
+      pub leaf_count : length p.leaves ≡ length vs
+      leaf_count = ap length P.leaves ∙ length-all_live (leaves_with (rows_of vs) dv.rests) ∙ with_length (rows_of vs) dv.rests (rest_count ∙ sym row_count) ∙ row_count
 
-    pub ready : AreReady p
-    ready = record {
-      few = let a = leaf_count in let b = count_vs in let c = least_weight ls in let e = ap weight live_there.0 in let f = (H.pages.each root).fits in omega arith;
-      each = leaf_count ∙ sym node_count;
-      leaves = P.leaves ∙ ap all_live (sym (leaves_in_live (leaves_with (rows_of vs) dv.rests)) ∙ ap leaves_in (sym P.leaves));
-      there = λ i h. let e = ap length P.node_of in let q : slice_index p.node_of i ≡ slice_index dv.node_of i = ap (λ ns. slice_index ns i) P.node_of in let b = D.there i (omega arith) in let l = link_count in omega arith;
-      inner = P.inner ∙ ap (λ k. Inner dv.frame (bare k)) (sym link_count) ∙ ap (λ (u : Tuple). Inner (frame_in u) (bare (length p.links))) (sym P.inner);
-      count = let a = link_count in let b = tuple_fits m codes (is_none d.recon) dv.frame D.tuple in omega arith;
-    }
+      pub node_count : length p.node_of ≡ length vs
+      node_count = ap length P.node_of ∙ D.node_each ∙ length-map vs (λ (l : Leaf). l.rest)
 
-    pub old_lighter : weight (all_live (leaves_with (rows_of ls) dv.rests)) ≤ 8160
-    old_lighter =
-        let a = lighter ls dv.rests (λ i l q e f. D.not_longer i l.rest q (slice_first ls (carried d) l i e) f) in
-        let e = ap weight live_there.0 in let f = (H.pages.each root).fits in omega arith
+      pub link_count : length p.links ≡ length dv.frame.labels
+      link_count = ap length P.links ∙ length-replicate (length dv.frame.labels) None
 
-    pub old_leaves : take (length p.leaves - 1) p.leaves ≡ all_live (leaves_with (rows_of ls) dv.rests)
-    old_leaves =
-        let e : length p.leaves - 1 ≡ length ls = let a = leaf_count in let b = count_vs in omega arith in
-        ap (λ k. take k p.leaves) e ∙ ap (take (length ls)) P.leaves ∙ without_last ls (carried d) dv.rests rest_count
+      pub ready : AreReady p
+      ready = record {
+        few = let a = leaf_count in let b = count_vs in let c = least_weight ls in let e = ap weight live_there.0 in let f = (H.pages.each root).fits in omega arith;
+        each = leaf_count ∙ sym node_count;
+        leaves = P.leaves ∙ ap all_live (sym (leaves_in_live (leaves_with (rows_of vs) dv.rests)) ∙ ap leaves_in (sym P.leaves));
+        there = λ i h. let e = ap length P.node_of in let q : slice_index p.node_of i ≡ slice_index dv.node_of i = ap (λ ns. slice_index ns i) P.node_of in let b = D.there i (omega arith) in let l = link_count in omega arith;
+        inner = P.inner ∙ ap (λ k. Inner dv.frame (bare k)) (sym link_count) ∙ ap (λ (u : Tuple). Inner (frame_in u) (bare (length p.links))) (sym P.inner);
+        count = let a = link_count in let b = tuple_fits m codes (is_none d.recon) dv.frame D.tuple in omega arith;
+      }
 
-    pub others_fit : weight (take (length p.leaves - 1) p.leaves) ≤ 8160
-    others_fit = rw old_leaves old_lighter
+      pub old_lighter : weight (all_live (leaves_with (rows_of ls) dv.rests)) ≤ 8160
+      old_lighter =
+          let a = lighter ls dv.rests (λ i l q e f. D.not_longer i l.rest q (slice_first ls (carried d) l i e) f) in
+          let e = ap weight live_there.0 in let f = (H.pages.each root).fits in omega arith
 
-    pub many : 8160 < weight p.leaves → 2 ≤ length ls
-    many big = ⊎_elim
-        (λ h. absurd (let n = with_length (rows_of vs) dv.rests (rest_count ∙ sym row_count) in let r = row_count in let c = count_vs in
-        let f = two_fit m codes (is_none d.recon) (rows_of vs) dv.rests (omega arith) D.well_formed in let e = ap weight P.leaves in omega arith))
-        (λ h. h) (cases_lt (length ls) 2)
+      pub old_leaves : take (length p.leaves - 1) p.leaves ≡ all_live (leaves_with (rows_of ls) dv.rests)
+      old_leaves =
+          let e : length p.leaves - 1 ≡ length ls = let a = leaf_count in let b = count_vs in omega arith in
+          ap (λ k. take k p.leaves) e ∙ ap (take (length ls)) P.leaves ∙ without_last ls (carried d) dv.rests rest_count
 
--- what was read and divided, as the code has it
-pub values_are : {Recon : Type 0} (t : Table) (root : ℕ) (d : Descending Recon) (s : Sheet) (v : Values) → s ≡ sheet_at (sheets_of t) root → AreValues v (leaves_on s.tuples ++ carried d ∷ []) → AreValues v (leaves_on (tuples_at t root) ++ carried d ∷ [])
-values_are t root d s v e a = subst (λ (z : Sheet). AreValues v (leaves_on z.tuples ++ carried d ∷ [])) e a
+      pub others_fit : weight (take (length p.leaves - 1) p.leaves) ≤ 8160
+      others_fit = rw old_leaves old_lighter
 
-pub divided_as : {Key Recon Cond : Type 0} (m : Meaning Key Recon Cond) (r r2 : Option Recon) (rests rests2 : List (List ℕ)) (dv : Division) → r ≡ r2 → rests ≡ rests2 → IsDivided m r rests dv → IsDivided m r2 rests2 dv
-divided_as m r r2 rests rests2 dv a b D = subst (λ z. IsDivided m z rests2 dv) a (subst (λ z. IsDivided m r z dv) b D)
+      pub many : 8160 < weight p.leaves → 2 ≤ length ls
+      many big = ⊎_elim
+          (λ h. absurd (let n = with_length (rows_of vs) dv.rests (rest_count ∙ sym row_count) in let r = row_count in let c = count_vs in
+          let f = two_fit m codes (is_none d.recon) (rows_of vs) dv.rests (omega arith) D.well_formed in let e = ap weight P.leaves in omega arith))
+          (λ h. h) (cases_lt (length ls) 2)
 
-pub keys_as : {Key Recon Cond : Type 0} (m : Meaning Key Recon Cond) (r r2 : Option Recon) (rests rests2 : List (List ℕ)) → r ≡ r2 → rests ≡ rests2 → GiveKeys m r2 rests2 → GiveKeys m r rests
-keys_as m r r2 rests rests2 a b D = subst (λ z. GiveKeys m z rests) (sym a) (subst (λ z. GiveKeys m r2 z) (sym b) D)
-
+-- what was divided, as the code has it
 pub parts_as : (rows rows2 : List RowAt) (dv : Division) (p : Parts) → rows ≡ rows2 → ArePartsOf rows dv p → ArePartsOf rows2 dv p
 parts_as rows rows2 dv p e P = subst (λ z. ArePartsOf z dv p) e P

@@ -13,7 +13,6 @@ use Rattle.spg_forest.specs.Links.{leaves_on}
 use Rattle.spg_forest.specs.Classes.{class_of, key_of}
 use Rattle.spg_forest.specs.Shape.{IsTupleOf, IsRestOf}
 use Rattle.spg_forest.specs.Divisions.{EachGoes, rests_of}
-use Rattle.spg_split.specs.declared.values.Values.{Values}
 use Rattle.spg_split.specs.declared.division.Division.{Division}
 
 -- on the page are leaf tuples alone, without links
@@ -22,11 +21,6 @@ AreAllLive ts = ts ≡ all_live (leaves_on ts)
 
 abbrev pub rows_of : List Leaf → List RowAt
 rows_of ls = map (λ (l : Leaf). l.row) ls
-
--- the rows and the rests of the leaves
-pub record AreValues (v : Values) (ls : List Leaf) : Type 0 where
-  pub rows : v.rows ≡ rows_of ls
-  pub rests : v.rests ≡ rests_of ls
 
 -- each rest gives a key at the rebuilt value
 abbrev pub GiveKeys : {Key Recon Cond : Type 0} → Meaning Key Recon Cond → Option Recon → List (List ℕ) → Type 0

@@ -12,6 +12,7 @@ pub mod Homes
 pub mod Divides
 pub mod Shrinks
 pub mod Causes
+pub mod Parting
 pub mod Fulls
 pub mod Tables
 pub mod Cases

@@ -1,4 +1,4 @@
-ghost use Rattle.std.specs.Prelude.{◌≡◌, ◌⊎◌, Option, IfOk, OnOk, OnErr, IsErrOf};
+ghost use Rattle.std.specs.Prelude.{◌≡◌, ◌⊎◌, Option, option_copied, IfOk, OnOk, OnErr, IsErrOf};
 ghost use Rattle.spg_forest.specs.Tuples.{Live};
 ghost use Rattle.spg_forest.specs.Shape.{Shape};
 ghost use Rattle.spg_forest.specs.Exact.{IsExact};
@@ -13,32 +13,34 @@ ghost use Rattle.spg_split.specs.Splits.{IsAtRoot, IsSplitOut, PartsWithout};
 ghost use Rattle.spg_split.specs.Fulls.{IsRootFull};
 ghost use Rattle.spg_split.specs.Ways.{IsSplitWay, Notes};
 ghost use Rattle.spg_split.specs.Tables.{RootTable};
+ghost use Rattle.spg_split.specs.Parting.{IsPartedAt};
 ghost use Rattle.spg_split.specs.Causes.{IsCause, IsCauseOf, RisesOnly, root_bytes, root_in_one};
 
 use crate::division::divide;
 use crate::parts::Parts;
 use crate::put::{Divided, put_division};
+use crate::rows::rows_at_root;
 use crate::split::SplitOut;
-use crate::values::values_at_root;
 use spg_base::{Block, SeatNo};
-use spg_opclass::OpClass;
+use spg_opclass::{OpClass, Parted};
 use spg_tree::{Descent, PageTable, Stand, StepRefused};
 use std::alloc::Global;
 
-/// Divides the leaves of the root leaf page at which an insert stands.
+/// Divides the leaves of the root leaf page at which an insert stands, as the class divided them.
 fn divide_leaves<O: OpClass>(
     alloc: Global,
-    class: &O,
     table: &mut PageTable,
     descent: &Descent<O>,
     root: Block,
     seat: SeatNo,
+    parted: Option<&Parted<O>>,
 ) -> Result<Divided, StepRefused>
     requires shape { Shape O.meaning (sheets_of table.old) }
     requires stands { descent.now.stand ≡ Root root }
     requires spot { IsAtLeaves (sheets_of table.old) (in_nulls descent.now) descent.now.stand }
     requires of_key { (key : Option O.Key) × IsCarried O.meaning (sheets_of table.old) descent.now key }
     requires no_room { Fits table.old descent.now.stand (Live (carried descent.now) 0) → ⊥ }
+    requires parted { IsPartedAt table.old descent.now (option_copied parted) }
     ensures ok { IfOk result (λ way. IsSplitWay O.meaning table.old table.new descent.now way) }
     ensures held { OnOk result (TouchesFree table.old table.new descent.now seat) }
     ensures table { OnOk result (RootTable O.meaning table.old table.new descent.now seat) }
@@ -50,9 +52,10 @@ fn divide_leaves<O: OpClass>(
     ensures clock { IsErrOf result ClockFull → ⊥ }
     ensures err { OnErr result (table.new ≡ table.old) }
 {
-    let values = values_at_root(alloc, table.page(root), descent)?;
-    let division = divide(alloc, class, descent.recon(), values.rests.as_slice())?;
-    let parts = Parts::of(alloc, values.rows.as_slice(), division)?;
+    let _recon = descent.recon();
+    let rows = rows_at_root(alloc, table.page(root), descent)?;
+    let division = divide(alloc, rows.len(), parted)?;
+    let parts = Parts::of(alloc, rows.as_slice(), division)?;
     put_division(alloc, table, root, parts, seat)
 }
 
@@ -70,20 +73,21 @@ fn note<O: OpClass>(descent: &mut Descent<O>, way: Divided) -> SplitOut
     }
 }
 
-/// Divides the leaves of the root leaf page at which an insert stands, and its own leaf, by the class, as
-/// `split_leaf` tells.
+/// Divides the leaves of the root leaf page at which an insert stands, and its own leaf, as `split_leaf`
+/// tells.
 pub(crate) fn divide_root<O: OpClass>(
     alloc: Global,
-    class: &O,
     table: &mut PageTable,
     descent: &mut Descent<O>,
     seat: SeatNo,
+    parted: Option<&Parted<O>>,
 ) -> Result<SplitOut, StepRefused>
     requires shape { Shape O.meaning (sheets_of table.old) }
     requires root { IsAtRoot descent.old.stand }
     requires spot { IsAtLeaves (sheets_of table.old) (in_nulls descent.old) descent.old.stand }
     requires of_key { (key : Option O.Key) × IsCarried O.meaning (sheets_of table.old) descent.old key }
     requires no_room { Fits table.old descent.old.stand (Live (carried descent.old) 0) → ⊥ }
+    requires parted { IsPartedAt table.old descent.old (option_copied parted) }
     ensures ok { IfOk result (λ out. IsSplitOut O.meaning table.old table.new descent.old descent.new out) }
     ensures held { OnOk result (TouchesFree table.old table.new descent.old seat) }
     ensures table { OnOk result (RootTable O.meaning table.old table.new descent.old seat) }
@@ -98,7 +102,7 @@ pub(crate) fn divide_root<O: OpClass>(
 {
     match descent.stand() {
         Stand::Root(root) => {
-            let way = divide_leaves(alloc, class, table, descent, root, seat)?;
+            let way = divide_leaves(alloc, table, descent, root, seat, parted)?;
             Ok(note(descent, way))
         }
         Stand::Start | Stand::At(_) | Stand::Empty => unreachable!(),

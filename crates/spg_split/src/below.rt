@@ -1,4 +1,4 @@
-ghost use Rattle.std.specs.Prelude.{◌≡◌, ◌⊎◌, ◌+◌, ◌^◌, ◌<◌, Option, Some as Just, IfOk, OnOk, OnErr, IsErrOf};
+ghost use Rattle.std.specs.Prelude.{◌≡◌, ◌⊎◌, ◌+◌, ◌^◌, ◌<◌, Option, Some as Just, option_copied, IfOk, OnOk, OnErr, IsErrOf};
 ghost use Rattle.spg_forest.specs.Tuples.{Live};
 ghost use Rattle.spg_forest.specs.Shape.{Shape};
 ghost use Rattle.spg_forest.specs.Exact.{IsExact};
@@ -16,28 +16,30 @@ ghost use Rattle.spg_split.specs.Ways.{IsChainWay, NotesChain, IsBelowParent};
 ghost use Rattle.spg_split.specs.Causes.{IsCause, IsCauseOf, RisesOnly, chain_bytes, chain_in_one};
 ghost use Rattle.spg_split.specs.Fulls.{IsChainFull};
 ghost use Rattle.spg_split.specs.Tables.{DividesBelow, ChainTable};
+ghost use Rattle.spg_split.specs.Parting.{IsPartedAt};
 
 use crate::chain::{ChainOut, put_chain};
 use crate::division::divide;
 use crate::parts::Parts;
 use crate::put::Divided;
+use crate::rows::rows_at_chain;
 use crate::split::SplitOut;
-use crate::values::values_at_chain;
 use spg_base::{Place, SeatNo};
-use spg_opclass::OpClass;
+use spg_opclass::{OpClass, Parted};
 use spg_tree::{Descent, PageTable, Stand, StepRefused};
 use std::alloc::Global;
 
-/// Divides the chain at a head, at which an insert stands, and the leaf of the insert.
+/// Divides the chain at a head, at which an insert stands, and the leaf of the insert, as the class
+/// divided them.
 fn divide_below<O: OpClass>(
     alloc: Global,
-    class: &O,
     table: &mut PageTable,
     descent: &Descent<O>,
     head: Place,
     parent: Place,
     node: u16,
     seat: SeatNo,
+    parted: Option<&Parted<O>>,
 ) -> Result<ChainOut, StepRefused>
     requires shape { Shape O.meaning (sheets_of table.old) }
     requires stands { descent.now.stand ≡ At head }
@@ -45,6 +47,7 @@ fn divide_below<O: OpClass>(
     requires spot { IsAtChain table.old descent.now }
     requires of_key { (key : Option O.Key) × IsCarried O.meaning (sheets_of table.old) descent.now key }
     requires long { MayMove table.old descent.now.stand (Live (carried descent.now) 0) → ⊥ }
+    requires parted { IsPartedAt table.old descent.now (option_copied parted) }
     requires tick { table.old.clock + 1 < 2 ^ 48 }
     ensures ok { IfOk result (λ done. IsChainWay O.meaning table.old table.new descent.now done.at done.way × IsTicked table.old table.new × MakesBelow table.old table.new descent.now.parent done.at) }
     ensures held { OnOk result (TouchesFree table.old table.new descent.now seat) }
@@ -58,9 +61,10 @@ fn divide_below<O: OpClass>(
     ensures err { OnErr result (table.new ≡ table.old) }
 {
     let Place { block, offset } = head;
-    let values = values_at_chain(alloc, table.page(block), offset, descent)?;
-    let division = divide(alloc, class, descent.recon(), values.rests.as_slice())?;
-    let parts = Parts::of(alloc, values.rows.as_slice(), division)?;
+    let _recon = descent.recon();
+    let rows = rows_at_chain(alloc, table.page(block), offset, descent)?;
+    let division = divide(alloc, rows.len(), parted)?;
+    let parts = Parts::of(alloc, rows.as_slice(), division)?;
     let head = Place { block, offset };
     put_chain(alloc, table, head, parent, node, parts, seat)
 }
@@ -85,20 +89,21 @@ fn note_chain<O: OpClass>(descent: &mut Descent<O>, done: ChainOut) -> SplitOut
     }
 }
 
-/// Divides the chain at which an insert stands below a root, and its own leaf, by the class, as
+/// Divides the chain at which an insert stands below a root, and its own leaf, as
 /// `split_leaf` tells.
 pub(crate) fn divide_chain<O: OpClass>(
     alloc: Global,
-    class: &O,
     table: &mut PageTable,
     descent: &mut Descent<O>,
     seat: SeatNo,
+    parted: Option<&Parted<O>>,
 ) -> Result<SplitOut, StepRefused>
     requires shape { Shape O.meaning (sheets_of table.old) }
     requires spot { IsAtChain table.old descent.old }
     requires of_key { (key : Option O.Key) × IsCarried O.meaning (sheets_of table.old) descent.old key }
     requires no_room { Fits table.old descent.old.stand (Live (carried descent.old) 0) → ⊥ }
     requires long { MayMove table.old descent.old.stand (Live (carried descent.old) 0) → ⊥ }
+    requires parted { IsPartedAt table.old descent.old (option_copied parted) }
     ensures ok { IfOk result (λ out. IsChainSplit O.meaning table.old table.new descent.old descent.new out) }
     ensures held { OnOk result (TouchesFree table.old table.new descent.old seat) }
     ensures stands { OnOk result (StandsFree table.old table.new descent.old descent.new seat) }
@@ -119,7 +124,7 @@ pub(crate) fn divide_chain<O: OpClass>(
     }
     match (descent.stand(), descent.parent()) {
         (Stand::At(head), Some((parent, node))) => {
-            let done = divide_below(alloc, class, table, descent, head, parent, node, seat)?;
+            let done = divide_below(alloc, table, descent, head, parent, node, seat, parted)?;
             Ok(note_chain(descent, done))
         }
         _ => unreachable!(),

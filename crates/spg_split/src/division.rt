@@ -1,12 +1,13 @@
-ghost use Rattle.std.specs.Prelude.{◌≡◌, ◌<◌, ◌≤◌, ℕ, [], length, map, replicate, option_copied, IfOk, slice_get, Some as Just};
+ghost use Rattle.std.specs.Prelude.{◌≡◌, ◌<◌, ◌≤◌, ℕ, [], length, map, replicate, option_copied, IfOk, IfSome, slice_get, Some as Just};
 ghost use Rattle.std.specs.Int.RustNames.{FitsSigned};
 ghost use Rattle.std.specs.Int.{w16};
 ghost use Rattle.spg_opclass.specs.Meaning.{eightfold};
-ghost use Rattle.spg_split.specs.Dividing.{IsDivided, GiveKeys, nulls_divided};
+ghost use Rattle.spg_split.specs.Dividing.{IsDivided, nulls_divided};
 ghost use Rattle.spg_split.specs.Nodes.{turns, IsOnlyNode};
+ghost use Rattle.spg_split.specs.Parting.{DividesBunch};
 
-use spg_base::{Bytes, Labels, List, Memory};
-use spg_opclass::{InnerView, OpClass};
+use spg_base::{Bytes, Labels, List, Memory, Same};
+use spg_opclass::{InnerView, OpClass, Parted, Picked};
 use std::alloc::Global;
 
 /// How values are divided: what the class sees of the new inner tuple, and for each value its node and
@@ -79,6 +80,19 @@ fn divide_nulls(alloc: Global, count: usize) -> Result<Division, Memory>
     })
 }
 
+/// A copy of how a class divided values.
+fn copy_picked(alloc: Global, picked: &Picked) -> Result<Picked, Memory>
+    ensures { IfOk result (λ copied. copied ≡ picked.now) }
+{
+    let node_of = Vec::from_slice(alloc, picked.node_of.as_slice())?;
+    Ok(Picked {
+        prefix: picked.prefix.copy()?,
+        labels: picked.labels.copy()?,
+        node_of: List::from_vec(node_of),
+        rests: picked.rests.copy()?,
+    })
+}
+
 /// The label of a node.
 fn label_at(labels: &Labels, node: u16) -> i16
     requires { node < length labels.now }
@@ -88,18 +102,18 @@ fn label_at(labels: &Labels, node: u16) -> i16
     labels.as_slice()[node as usize]
 }
 
-/// Divides values as the class says. Where it puts all in one node, they fill an all-the-same tuple.
+/// Divides so many values, at least 2, as the class did. Where it put all in one node, they fill an
+/// all-the-same tuple.
 fn divide_values<O: OpClass>(
     alloc: Global,
-    class: &O,
-    recon: &O::Recon,
-    rests: &[Bytes],
+    count: usize,
+    parted: &Parted<O>,
 ) -> Result<Division, Memory>
-    requires several { 2 ≤ length rests.now }
-    requires keys { GiveKeys O.meaning (Just recon.now) rests.now }
-    ensures { IfOk result (λ division. IsDivided O.meaning (Just recon.now) rests.now division) }
+    requires several { 2 ≤ count }
+    requires count { length parted.now.rests ≡ count }
+    ensures { IfOk result (λ division. IsDivided O.meaning (Just parted.now.recon) parted.now.rests division) }
 {
-    let picked = class.picksplit(alloc, recon, rests)?;
+    let picked = copy_picked(alloc, parted.picked())?;
     match only_node(picked.node_of.as_slice()) {
         None => Ok(Division {
             frame: InnerView {
@@ -114,26 +128,25 @@ fn divide_values<O: OpClass>(
             let label = label_at(&picked.labels, node);
             Ok(Division {
                 frame: all_the_same(alloc, picked.prefix, label)?,
-                node_of: nodes_in_turn(alloc, rests.len())?,
+                node_of: nodes_in_turn(alloc, count)?,
                 rests: picked.rests,
             })
         }
     }
 }
 
-/// Divides values, at least 2, which are nulls where there is no rebuilt value.
+/// Divides so many values, at least 2: nulls, or those that the class divided.
 pub(crate) fn divide<O: OpClass>(
     alloc: Global,
-    class: &O,
-    recon: Option<&O::Recon>,
-    rests: &[Bytes],
+    count: usize,
+    parted: Option<&Parted<O>>,
 ) -> Result<Division, Memory>
-    requires several { 2 ≤ length rests.now }
-    requires keys { GiveKeys O.meaning (option_copied recon) rests.now }
-    ensures { IfOk result (λ division. IsDivided O.meaning (option_copied recon.entry) rests.now division) }
+    requires several { 2 ≤ count }
+    requires count { IfSome (option_copied parted) (λ bunch. length bunch.rests ≡ count) }
+    ensures { IfOk result (λ division. DividesBunch O.meaning (option_copied parted.entry) count division) }
 {
-    match recon {
-        None => divide_nulls(alloc, rests.len()),
-        Some(recon) => divide_values(alloc, class, recon, rests),
+    match parted {
+        None => divide_nulls(alloc, count),
+        Some(parted) => divide_values(alloc, count, parted),
     }
 }

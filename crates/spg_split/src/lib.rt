@@ -1,9 +1,10 @@
-//! The division of leaves by the class of their keys (PostgreSQL 16 manual, chapter SP-GiST,
+//! The division of leaves as the class of their keys answers (PostgreSQL 16 manual, chapter SP-GiST,
 //! "picksplit").
 #![tactic(auto)]
 
 mod at_root;
 mod below;
+mod bunch;
 mod chain;
 mod division;
 mod homes;
@@ -12,8 +13,9 @@ mod placing;
 mod plan;
 mod put;
 mod root;
+mod rows;
 mod split;
-mod values;
 mod write;
 
+pub use bunch::bunch_at;
 pub use split::{SplitOut, split_leaf};

@@ -1,4 +1,4 @@
-ghost use Rattle.std.specs.Prelude.{◌≡◌, Option, ◌+◌, ◌^◌, IfOk, OnOk, OnErr, IsErrOf};
+ghost use Rattle.std.specs.Prelude.{◌≡◌, Option, option_copied, ◌+◌, ◌^◌, IfOk, OnOk, OnErr, IsErrOf};
 ghost use Rattle.spg_forest.specs.Tuples.{Live};
 ghost use Rattle.spg_forest.specs.Shape.{Shape};
 ghost use Rattle.spg_forest.specs.Exact.{IsExact};
@@ -11,11 +11,12 @@ ghost use Rattle.spg_descend.specs.Rules.{MayMove};
 ghost use Rattle.spg_descend.specs.Below.{IsTicked};
 ghost use Rattle.spg_split.specs.Splits.{IsAtRoot};
 ghost use Rattle.spg_split.specs.Cases.{IsSplitSpot, IsLeafSplit, LeafTable, IsLeafCause, RisesAtMost, IsLeafFull};
+ghost use Rattle.spg_split.specs.Parting.{IsPartedAt};
 
 use crate::at_root::divide_root;
 use crate::below::divide_chain;
 use spg_base::SeatNo;
-use spg_opclass::OpClass;
+use spg_opclass::{OpClass, Parted};
 use spg_tree::{Descent, PageTable, Stand, StepRefused};
 use std::alloc::Global;
 
@@ -29,15 +30,17 @@ pub enum SplitOut {
     LeftOut,
 }
 
-/// Divides the leaves where an insert stands, and its own leaf, by the class: those of a root leaf page,
-/// or those of a chain below a root that is too long to move.
+/// Divides the leaves where an insert stands, and its own leaf, as the class divided a copy of them:
+/// those of a root leaf page, or those of a chain below a root that is too long to move. `parted` has
+/// that copy, as `bunch_at` makes it, and what the class answered. It is None exactly in the nulls tree,
+/// whose values are all in one node.
 ///
 /// At a root the new inner tuple becomes the root's only tuple, and each list goes as a chain to one
 /// other leaf page. Below a root the new inner tuple goes on the page of the tuple above where it fits
 /// and that page is no root, else on a picked inner page of the next parity. The old head becomes a
 /// redirect to it with the clock's moment, the other tuples become placeholders, the downlink of the
 /// tuple above is set, and the clock is raised. Lists stay on the old page, in node order, while each
-/// fits there; the first that does not and all after it go to one other leaf page. Where the class puts
+/// fits there; the first that does not and all after it go to one other leaf page. Where the class put
 /// all in one node, the tuple is all-the-same: it has 8 nodes of that label, which are filled in turn.
 ///
 /// `LeftOut` comes exactly where the lists that must go elsewhere do not fit with the leaf on one page;
@@ -55,16 +58,17 @@ pub enum SplitOut {
 /// latched by no other seat. Latches and counter stay as they are.
 pub fn split_leaf<O: OpClass>(
     alloc: Global,
-    class: &O,
     table: &mut PageTable,
     descent: &mut Descent<O>,
     seat: SeatNo,
+    parted: Option<&Parted<O>>,
 ) -> Result<SplitOut, StepRefused>
     requires shape { Shape O.meaning (sheets_of table.old) }
     requires spot { IsSplitSpot table.old descent.old }
     requires of_key { (key : Option O.Key) × IsCarried O.meaning (sheets_of table.old) descent.old key }
     requires no_room { Fits table.old descent.old.stand (Live (carried descent.old) 0) → ⊥ }
     requires long { MayMove table.old descent.old.stand (Live (carried descent.old) 0) → ⊥ }
+    requires parted { IsPartedAt table.old descent.old (option_copied parted) }
     ensures ok { IfOk result (λ out. IsLeafSplit O.meaning table.old table.new descent.old descent.new out) }
     ensures held { OnOk result (TouchesFree table.old table.new descent.old seat) }
     ensures stands { OnOk result (StandsFree table.old table.new descent.old descent.new seat) }
@@ -81,8 +85,8 @@ pub fn split_leaf<O: OpClass>(
     ensures err_descent { OnErr result (descent.new ≡ descent.old) }
 {
     match descent.stand() {
-        Stand::Root(_) => divide_root(alloc, class, table, descent, seat),
-        Stand::At(_) => divide_chain(alloc, class, table, descent, seat),
+        Stand::Root(_) => divide_root(alloc, table, descent, seat, parted),
+        Stand::At(_) => divide_chain(alloc, table, descent, seat, parted),
         Stand::Start | Stand::Empty => unreachable!(),
     }
 }

@@ -1,4 +1,4 @@
-ghost use Rattle.std.specs.Prelude.{◌≡◌, IsTrue, Option, None as Nil, true, false, option_copied, IfOk, OnOk};
+ghost use Rattle.std.specs.Prelude.{◌≡◌, IsTrue, Option, None as Nil, true, false, IfOk, OnOk};
 ghost use Rattle.spg_forest.specs.Pages.{IsFresh};
 ghost use Rattle.spg_forest.specs.Shape.{Shape, spots};
 ghost use Rattle.spg_forest.specs.Sheets.{blank};
@@ -15,7 +15,7 @@ use spg_base::{Block, Bytes, List, Memory, Row, SeatNo, Stamp};
 use spg_core::State;
 use spg_descend::{Entered, Rule, enter_root, follow, open_descent, rule_at};
 use spg_move::move_chain;
-use spg_opclass::OpClass;
+use spg_opclass::{OpClass, start_at};
 use spg_page::{Page, PageKind};
 use spg_tree::{Descent, PageTable, StepRefused};
 use std::alloc::Global;
@@ -95,16 +95,17 @@ pub(crate) fn at_root<O: OpClass>(
     class: &O,
     table: &mut PageTable,
     row: Row,
-    key: Option<&O::Key>,
+    key: Option<O::Key>,
 ) -> Result<Descent<O>, Memory>
     requires shape { Shape O.meaning (sheets_of table.old) }
     requires fresh { IsFresh (spots (sheets_of table.old)) row }
     ensures shape { OnOk result (Shape O.meaning (sheets_of table.new)) }
     ensures stands { IfOk result (λ d. Stands table.new d) }
-    ensures carries { IfOk result (λ d. IsCarried O.meaning (sheets_of table.new) d (option_copied key.entry)) }
-    ensures opened { IfOk result (λ d. (in_nulls d ≡ in_nulls (opened_for O.meaning row (option_copied key.entry))) × (d.recon ≡ (opened_for O.meaning row (option_copied key.entry)).recon)) }
+    ensures carries { IfOk result (λ d. IsCarried O.meaning (sheets_of table.new) d key) }
+    ensures opened { IfOk result (λ d. (in_nulls d ≡ in_nulls (opened_for O.meaning row key)) × (d.recon ≡ (opened_for O.meaning row key).recon)) }
 {
-    let mut descent = open_descent(alloc, class, row, key)?;
+    let started = start_at(alloc, class, key)?;
+    let mut descent = open_descent(row, &started)?;
     match enter_root(table, &mut descent, SeatNo::first()) {
         Entered::In => Ok(descent),
         Entered::Busy { .. } => Err(Memory),
@@ -157,8 +158,7 @@ pub(crate) fn at_chain<O: OpClass>(
     ensures stands { IfOk result (λ d. Stands table.new d) }
     ensures carries { IfOk result (λ d. IsCarried O.meaning (sheets_of table.new) d Nil) }
 {
-    let key: Option<O::Key> = None;
-    let mut descent = at_root(alloc, class, table, row, key.as_ref())?;
+    let mut descent = at_root(alloc, class, table, row, None)?;
     go_down(alloc, table, &mut descent)?;
     Ok(descent)
 }

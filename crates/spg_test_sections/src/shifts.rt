@@ -73,7 +73,7 @@ fn tried<O: Texts>(
     requires fresh { IsFresh (spots (sheets_of table.old)) row }
 {
     let key = key_of::<O>(Bytes::copy(alloc, b"a\x0d")?)?;
-    let mut descent = at_root(alloc, class, table, row, Some(&key))?;
+    let mut descent = at_root(alloc, class, table, row, Some(key))?;
     follow_named(alloc, class, table, &mut descent)?;
     let old = copied(alloc, table)?;
     let before = (descent.stand(), descent.parent());

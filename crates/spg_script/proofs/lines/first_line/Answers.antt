@@ -12,11 +12,11 @@ first (b ∷ bytes) some = lines_of-first b bytes
 pub returns-then-at-bytes-clause-lines : goal.returns-then-at-bytes-clause-lines
 returns-then-at-bytes-clause-lines c =
     let bytes = c.args.bytes.now in
-    let at = c.len_before-at.result in
-    rw (take_rest bytes (at + 1), c.len_before-at.ensures.value) (first bytes c.requires)
+    let at = c.line_len-at.result in
+    rw (take_rest bytes (at + 1), c.line_len-at.ensures.value) (first bytes c.requires)
 
 pub returns-else-at-bytes-clause-lines : goal.returns-else-at-bytes-clause-lines
 returns-else-at-bytes-clause-lines c =
     let bytes = c.args.bytes.now in
-    let at = c.len_before-at.result in
-    first bytes c.requires ∙ rw (← c.len_before-at.ensures.value, take_rest bytes at, take_all at bytes (omega arith), drop_all at bytes (omega arith), drop_all (at + 1) bytes (omega arith)) refl
+    let at = c.line_len-at.result in
+    first bytes c.requires ∙ rw (← c.line_len-at.ensures.value, take_rest bytes at, take_all at bytes (omega arith), drop_all at bytes (omega arith), drop_all (at + 1) bytes (omega arith)) refl

@@ -1,6 +1,22 @@
-use Rattle.std.proofs.Common.{◌≡◌, ◌+◌, drop}
+use Rattle.std.proofs.Common.{◌≡◌, ◌+◌, ◌-◌, ◌≤◌, length, drop}
 use Rattle.spg_script.specs.Printing.{plain_before}
 use Rattle.spg_script.proofs.texts.plain_before.Given as goal
 
-abbrev pub invariant-loop-i : goal.invariant-loop-i
-invariant-loop-i l = l.i + plain_before (drop l.i l.bytes) ≡ plain_before l.bytes
+-- the bytes before this one are plain
+abbrev pub invariant-loop-at : goal.invariant-loop-at
+invariant-loop-at l = record {
+  counted : l.at + plain_before (drop l.at l.fn.bytes) ≡ plain_before l.fn.bytes;
+  within : l.at ≤ length l.fn.bytes;
+}
+
+abbrev pub decreases-loop-at : goal.decreases-loop-at
+decreases-loop-at l = length l.fn.bytes - l.at
+
+abbrev pub invariant-loop-at-2 : goal.invariant-loop-at-2
+invariant-loop-at-2 l = record {
+  counted : l.at + plain_before (drop l.at l.fn.bytes) ≡ plain_before l.fn.bytes;
+  within : l.at ≤ length l.fn.bytes;
+}
+
+abbrev pub decreases-loop-at-2 : goal.decreases-loop-at-2
+decreases-loop-at-2 l = length l.fn.bytes - l.at

@@ -1,5 +1,4 @@
-use Rattle.std.proofs.Common.{◌≡◌, subst, sym, ap, ◌∙◌}
-use Rattle.std.specs.Prelude.{option_copied}
+use Rattle.std.proofs.Common.{◌≡◌, Option, subst, sym, ap, ◌∙◌}
 use Rattle.spg_base.specs.Row.{RowAt}
 use Rattle.spg_forest.specs.Pages.{IsFresh}
 use Rattle.spg_forest.specs.Shape.{spots}
@@ -16,9 +15,10 @@ returns-in-In-clause-carries g c =
     let t = c.args.table.now in
     let d = c.in_ok-descent.descent in
     let row = c.args.row in
-    let key = option_copied c.args.key in
+    let key = c.args.key in
+    let ek : c.in_ok-started.started ≡ key = c.in_ok-started.ensures in
     let (unheld, et, ed) = c.in-In.ensures.entered in
-    let er : d.row ≡ row = ap (λ (z : Descending _). z.row) c.in_ok-descent.ensures.at_start ∙ opened_row m row key in
+    let er : d.row ≡ row = ap (λ (z : Descending _). z.row) c.in_ok-descent.ensures.at_start ∙ opened_row m row c.in_ok-started.started in
     let fresh : IsFresh (spots (sheets_of t)) d.row = subst (λ (r : RowAt). IsFresh (spots (sheets_of t)) r) (sym er) c.requires.fresh in
-    let at = c.in-In.ensures.carries (sheets_of t) key (c.in_ok-descent.ensures.carries (sheets_of t) fresh) in
+    let at = c.in-In.ensures.carries (sheets_of t) key (subst (λ (k : Option _). IsCarried m (sheets_of t) d k) ek (c.in_ok-descent.ensures.carries (sheets_of t) fresh)) in
     subst (λ (S : Sheets). IsCarried m S c.enter_root.new.descent key) (sym (ap sheets_of et)) (subst (λ (z : Descending _). IsCarried m (sheets_of t) z key) (sym ed) at)

@@ -4,15 +4,15 @@ use Rattle.spg_seats.specs.Latching.{AreHeld, HoldsNone, rest_of}
 use Rattle.spg_seats.specs.Slots.{stage_holds}
 use Rattle.spg_core.specs.declared.slot.Slot.{Slot}
 use Rattle.spg_core.specs.declared.slot.Slot.TheVariants.{Free}
-use Rattle.spg_core.specs.Stage.{free, given_up}
+use Rattle.spg_core.specs.Stage.{free, MayGiveUp, given_up}
 use Rattle.spg_core.specs.Slot.{stage_of, GivesBack, ended_with}
-use Rattle.spg_core.specs.Seen.{untouched}
+use Rattle.spg_core.specs.Seen.{Seen, stage_at, untouched}
 use Rattle.spg_core.specs.Sections.{IsReleased, HasNone, OthersHold}
 use Rattle.spg_core.specs.Operations.{CanRelease}
-use Rattle.spg_core.specs.Kept.{IsState}
+use Rattle.spg_core.specs.Kept.{seen_of, IsState}
 use Rattle.spg_core.proofs.Slots.{stage_set, stage_is, table_is, logged_is, not_free_open}
 use Rattle.spg_core.proofs.Steps.{with_all, seats, fits, held, room_left}
-use Rattle.spg_core.proofs.Opens.{can_release, gives_up, others_left, none_left_of, but_untouched}
+use Rattle.spg_core.proofs.Opens.{can_release, may_drop, gives_up, others_left, none_left_of, but_untouched}
 use Rattle.spg_core.proofs.bare.Bare.abandon.Given.{Over}
 use Rattle.spg_core.proofs.bare.Bare.abandon.Goals as goal
 use Rattle.spg_core.proofs.bare.Bare.abandon.Goals.{After-release_slot}
@@ -51,7 +51,8 @@ invariant_of-self g c =
     let ends = c.end_vacuum.ensures ∙ ap (λ (x : Slot _ _ _ _). ended_with x c.len.result s.vacuums) c.set_slot-slot.ensures.former ∙ ap (λ n. ended_with slot n s.vacuums) c.len.ensures in
     subst (λ (t : Table). IsState m (with_all m s t c.release_slot.new.rows c.set_slot-slot.new.slots c.append.new.self c.end_vacuum.new.vacuums s.targets s.later)) (sym (c.set_touched.ensures ∙ ap (λ ts. with_touched c.release_slot.new.table ts) c.new.ensures))
     (gives_up m s I seat c.release_slot.new.table c.release_slot.new.rows c.set_slot-slot.new.slots c.append.new.self c.end_vacuum.new.vacuums why c.set_slot-slot.ensures.items c.release_slot.ensures.pages
-    (none_left g ((goal.at.invariant_of-self g c).After-release_slot)) c.append.ensures.spare (not_free_open (stage_of slot) apart) events back ends)
+    (none_left g ((goal.at.invariant_of-self g c).After-release_slot)) c.append.ensures.spare (not_free_open (stage_of slot) apart)
+    (may_drop m s I seat s.table (stage_at (seen_of s) seat) why (subst (λ (v : Seen _ _ _ _). MayGiveUp v.table (stage_at v seat) why) (sym c.self.view_is) c.requires.why)) events back ends)
 
 pub returns : goal.returns
 returns g c =

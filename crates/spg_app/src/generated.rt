@@ -1,0 +1,86 @@
+ghost use Rattle.std.specs.Prelude.{◌≡◌};
+ghost use Rattle.spg_perform.specs.Session.{IsOfClass};
+ghost use Rattle.spg_app.specs.Ending.{outlets};
+ghost use Rattle.spg_app.specs.LoadWords.{IsLoad};
+ghost use Rattle.spg_app.specs.Loads.{EndsLoad, IsGen};
+
+use crate::end_state::{EndState, kd_ended, quad_ended, radix_ended};
+use crate::load::Load;
+use crate::session::status_after;
+use crate::summary::write_summary;
+use crate::words::USUAL_PAGES;
+use spg_core::State;
+use spg_histories::Status;
+use spg_io::{Images, Sink};
+use spg_kd::Kd;
+use spg_opclass::SharedClass;
+use spg_perform::{Gate, perform};
+use spg_quad::Quad;
+use spg_radix::Radix;
+use spg_script::{ClassName, Script, Spoken, generate};
+use std::sync::Wait;
+use std::thread::Threads;
+
+/// Does the commands of a generated script on a new state of the usual limit, then writes the summary
+/// of the run. There is no state where memory was wanting before the first command.
+fn run_load<
+    R: AllocGlobal + Threads + Wait + Sync,
+    O: Spoken + SharedClass,
+    K: Sink,
+    M: Images,
+    G: Gate,
+>(
+    rt: &R,
+    class: O,
+    script: &Script,
+    out: &mut K,
+    images: &mut M,
+    gate: &G,
+) -> (Status, Option<State<O>>)
+    requires of_class { IsOfClass O.speech script.now.class }
+    ensures { EndsLoad O.meaning O.speech O.code_number script.now
+        (outlets (K.contents out.old) (K.contents out.new) (K.faults out.old) (K.faults out.new)
+        (M.held images.old) (M.held images.new) (M.faults images.old) (M.faults images.new)) result.0 result.1 }
+{
+    let alloc = rt.alloc();
+    let Ok(state) = State::new(alloc, class, USUAL_PAGES) else {
+        return (Status::Memory, None);
+    };
+    match perform(rt, state, script, images, gate) {
+        Ok((state, records)) => {
+            let events = state.journal().as_slice();
+            let written = write_summary(alloc, events, records.as_slice(), out);
+            (status_after(written, records.as_slice()), Some(state))
+        }
+        Err(_) => (Status::Memory, None),
+    }
+}
+
+/// Makes the script of a load, does its commands and writes the summary of the run.
+pub fn run_generated<R: AllocGlobal + Threads + Wait + Sync, K: Sink, M: Images, G: Gate>(
+    rt: &R,
+    load: Load,
+    out: &mut K,
+    images: &mut M,
+    gate: &G,
+) -> (Status, Option<EndState>)
+    requires { IsLoad load }
+    ensures { IsGen load
+        (outlets (K.contents out.old) (K.contents out.new) (K.faults out.old) (K.faults out.new)
+        (M.held images.old) (M.held images.new) (M.faults images.old) (M.faults images.new)) result.0 result.1 }
+{
+    let Ok(script) = generate(
+        rt.alloc(),
+        load.count,
+        load.seed,
+        load.lanes as u8,
+        load.class,
+    ) else {
+        return (Status::Memory, None);
+    };
+    match load.class {
+        ClassName::Quad => quad_ended(run_load(rt, Quad, &script, out, images, gate)),
+        ClassName::Kd => kd_ended(run_load(rt, Kd, &script, out, images, gate)),
+        ClassName::Radix => radix_ended(run_load(rt, Radix, &script, out, images, gate)),
+    }
+}
