@@ -130,8 +130,7 @@ module _ {O Key Recon Cond : Type 0} (m : Meaning Key Recon Cond) where
   insert_both v w x first last row key end told tells =
       let number : w.number ≡ v.number = ap (λ (z : View (Event O Key Recon Cond)). z.number) told.same in
       let both = tells row key (insert_doing v w first row key told) in
-      let to : (joined first last).to ≡ last.to = joined_to w.number w.seen x.seen first last (ending w.number row end) [] both.0.called in
-      (
+      let to : (joined first last).to ≡ last.to = joined_to w.number w.seen x.seen first last (ending w.number row end) [] both.0.called in (
         told_add m v w x first last (OpenInsert v.number row key ∷ []) (ending v.number row end ∷ []) told (subst (λ (n : ℕ). Told m w x last (ending n row end ∷ [])) number both.0),
         subst (λ (n : ℕ). IsDue m key (past_at n x.seen) (Some end)) (sym to) both.1,
       )

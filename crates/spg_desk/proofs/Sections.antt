@@ -167,8 +167,7 @@ module _ {O Key Recon Cond : Type 0} where
   -- after a refusal that changed nothing
   pub gives_put_up : (old mid new : Seen O Key Recon Cond) (seat : ℕ) (row : RowAt) (key : Option Key) (cause : Why) → mid ≡ old → IsPutting row key (stage_at old seat) → GivesUp mid new seat cause → Adds old new (Drop seat row cause ∷ [])
   gives_put_up old mid new seat row key cause same is gave =
-      let is_mid : IsPutting row key (stage_at mid seat) = subst (λ (s : Seen O Key Recon Cond). IsPutting row key (stage_at s seat)) (sym same) is in
-      (
+      let is_mid : IsPutting row key (stage_at mid seat) = subst (λ (s : Seen O Key Recon Cond). IsPutting row key (stage_at s seat)) (sym same) is in (
         ap (λ (s : Seen O Key Recon Cond). s.journal) gave.is ∙ (ap (λ e. mid.journal ++ e ∷ []) (drops seat (stage_at mid seat) row key cause is_mid) ∙ ap (λ (s : Seen O Key Recon Cond). s.journal ++ Drop seat row cause ∷ []) same),
         ap (λ (s : Seen O Key Recon Cond). s.origin) gave.is ∙ ap (λ (s : Seen O Key Recon Cond). s.origin) same,
       )
@@ -193,8 +192,7 @@ module _ {O Key Recon Cond : Type 0} where
 
   leaves_up : (old mid new : Seen O Key Recon Cond) (seat : ℕ) (cause : Why) → mid ≡ old → (IsInserting (stage_at old seat) → ⊥) → GivesUp mid new seat cause → Adds old new (Leave seat ∷ [])
   leaves_up old mid new seat cause same never gave =
-      let none : IsInserting (stage_at mid seat) → ⊥ = λ is. never (subst (λ (s : Seen O Key Recon Cond). IsInserting (stage_at s seat)) same is) in
-      (
+      let none : IsInserting (stage_at mid seat) → ⊥ = λ is. never (subst (λ (s : Seen O Key Recon Cond). IsInserting (stage_at s seat)) same is) in (
         ap (λ (s : Seen O Key Recon Cond). s.journal) gave.is ∙ (ap (λ e. mid.journal ++ e ∷ []) (leaves seat (stage_at mid seat) cause none) ∙ ap (λ (s : Seen O Key Recon Cond). s.journal ++ Leave seat ∷ []) same),
         ap (λ (s : Seen O Key Recon Cond). s.origin) gave.is ∙ ap (λ (s : Seen O Key Recon Cond). s.origin) same,
       )
@@ -249,7 +247,7 @@ module _ {O Key Recon Cond : Type 0} where
       let same : lent.journal ≡ old.journal = sym (ap (λ (s : Seen O Key Recon Cond). s.journal) is) in
       let its : seat ≡ v.number = number ∙ ap (λ (z : View (Event O Key Recon Cond)). z.number) view in
       subst (λ (n : ℕ). Told m v w span (E n)) its
-          (section_told m v h w old new span (E seat) (view ∙ ap (λ l. record v { seen = l }) same) (subst (Watched v.number v.seen) same watched) adds told)
+      (section_told m v h w old new span (E seat) (view ∙ ap (λ l. record v { seen = l }) same) (subst (Watched v.number v.seen) same watched) adds told)
 
   -- what stands before a section's span is what its turn was lent
   pub lent_past : (h w : View (Event O Key Recon Cond)) (old new : Seen O Key Recon Cond) (events : List (Event O Key Recon Cond)) (span : Span) → h.seen ≡ old.journal → Adds old new events → w.seen ≡ new.journal → span ≡ span_at (length h.seen) (length w.seen) → past_at span.from w.seen ≡ past_of old

@@ -58,7 +58,7 @@ module _ {O Key Recon Cond : Type 0} where
       let more = grew.0 in
       let rest = drop (length v.mine) (own_since v) in
       let all : (v.mine ++ rest) ++ own v.number more ≡ v.mine =
-          ap (λ l. l ++ own v.number more) (sym (known_more v passed)) ∙ (sym (own_on v.number v.base v.seen more passed.based) ∙ (ap (λ l. own v.number (drop v.base l)) (sym grew.1) ∙ mine)) in
+      ap (λ l. l ++ own v.number more) (sym (known_more v passed)) ∙ (sym (own_on v.number v.base v.seen more passed.based) ∙ (ap (λ l. own v.number (drop v.base l)) (sym grew.1) ∙ mine)) in
       record {
         grew = grew;
         none = ap (λ l. own v.number (drop (length v.seen) l)) grew.1 ∙ (ap (own v.number) (drop_at v.seen more (length v.seen) refl) ∙ cancel v.mine rest (own v.number more) all);

@@ -30,7 +30,10 @@ fn spans_are_those_of_the_events(rt: HostRuntime) -> Result<(), Fail> {
     let pass = desk.join(pass, other);
     let (pass, found) = desk.find(&rt, pass, Query::All);
     match found {
-        FindAnswer::Found { rows: given, span: at } => {
+        FindAnswer::Found {
+            rows: given,
+            span: at,
+        } => {
             assert_eq!(rt; given.as_slice(), rows.as_slice());
             assert_eq!(rt; at, span(2, 4));
         }
