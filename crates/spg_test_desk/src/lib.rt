@@ -1,7 +1,0 @@
-//! Tests of an index that threads share.
-#![tactic(auto)]
-
-#[cfg(test)]
-mod calls;
-#[cfg(test)]
-mod threads;
