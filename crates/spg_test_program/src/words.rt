@@ -28,7 +28,7 @@ const REFUSED: [&[&str]; 27] = [
     &["run", "--limit", "5", "fast"],
     &["run", "--limit=5", "--limit=5"],
     &["--limit", "5", "run"],
-    &["gen", "3000", "7"],
+    &["gen", "3000"],
     &["check", "town"],
     &["run", "--from", "town"],
 ];
