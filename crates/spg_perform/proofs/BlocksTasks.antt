@@ -16,7 +16,7 @@ module _ {X : Type 0} where
   pub next_in : (xs ys : List X) (i : ℕ) (x : X) → xs ≡ ys → i < length xs → x ≡ get_or xs i x → IsNext ys i x
   next_in xs ys i x same within here = record { within = omega (arith, ap length same); here = here ∙ ap (λ (l : List X). get_or l i x) same }
 
-  up_to_next : (xs : List X) (i : ℕ) (x : X) → IsNext xs i x → take (i + 1) xs ≡ take i xs ++ x ∷ []
+  pub up_to_next : (xs : List X) (i : ℕ) (x : X) → IsNext xs i x → take (i + 1) xs ≡ take i xs ++ x ∷ []
   up_to_next xs i x next = take_more xs i x next.within ∙ ap (λ (y : X). take i xs ++ y ∷ []) (sym next.here)
 
 -- ---- in order

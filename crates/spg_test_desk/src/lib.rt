@@ -1,0 +1,7 @@
+//! Tests of an index that threads share.
+#![tactic(auto)]
+
+#[cfg(test)]
+mod calls;
+#[cfg(test)]
+mod threads;

@@ -1,0 +1,147 @@
+//! Threads that share an index.
+ghost use Rattle.std.specs.Prelude.{◌≡◌, All, IfSome};
+ghost use Rattle.spg_desk.specs.Passes.{desk_id, desk_of, view_of};
+
+use spg_base::{Memory, Point, Row};
+use spg_core::State;
+use spg_desk::{Desk, FindAnswer, InsertAnswer, KillAnswer, Pass, VacuumAnswer};
+use spg_opclass::Query;
+use spg_quad::Quad;
+use std::sync::Wait;
+use std::test::Fail;
+use std::thread;
+
+/// How many rows each lane inserts. It deletes every other one.
+const ROWS: u16 = 200;
+
+/// The lanes but the last insert, look and delete; the last one runs vacuums.
+const LANES: u8 = 5;
+
+/// A lane: its pass, its number, and how many rows it has inserted, deleted and swept.
+struct Lane {
+    pass: Option<Pass<Quad>>,
+    number: u8,
+    added: u64,
+    killed: u64,
+    swept: u64,
+}
+
+/// Inserts a row, looks for it, and deletes it where its number is odd.
+fn work<R: Wait>(rt: &R, desk: &Desk<Quad>, lane: &mut Lane, pass: Pass<Quad>, n: u16) -> Pass<Quad>
+    requires own { desk_of pass ≡ desk_id desk.now }
+    ensures own { desk_of result ≡ desk_of pass }
+{
+    let row = Row::at(u32::from(lane.number) + 1, n % ROWS + 1);
+    let key = Point {
+        x: i32::from(n) * 7 % 100,
+        y: i32::from(lane.number),
+    };
+    let (pass, answer) = desk.insert(rt, pass, row, Some(key));
+    if let InsertAnswer::Added(_) = &answer {
+        lane.added = lane.added.saturating_add(1);
+    }
+    let (pass, found) = if n % 50 == 0 {
+        desk.find(rt, pass, Query::All)
+    } else {
+        desk.find(rt, pass, Query::Null)
+    };
+    let _ = found;
+    if n % 2 == 0 {
+        return pass;
+    }
+    let (pass, answer) = desk.kill(rt, pass, row);
+    if let KillAnswer::Killed(_) = &answer {
+        lane.killed = lane.killed.saturating_add(1);
+    }
+    pass
+}
+
+/// Runs a vacuum.
+fn clean<R: Wait>(rt: &R, desk: &Desk<Quad>, lane: &mut Lane, pass: Pass<Quad>) -> Pass<Quad>
+    requires own { desk_of pass ≡ desk_id desk.now }
+    ensures own { desk_of result ≡ desk_of pass }
+{
+    let (pass, answer) = desk.vacuum(rt, pass);
+    if let VacuumAnswer::Vacuumed { swept, .. } = &answer {
+        lane.swept = lane.swept.saturating_add(*swept);
+    }
+    pass
+}
+
+/// All that a lane does.
+fn run<R: Wait>(rt: &R, desk: &Desk<Quad>, lane: &mut Lane)
+    requires { IfSome lane.old.pass (λ p. desk_of p ≡ desk_id desk.now) }
+    ensures { IfSome lane.new.pass (λ p. desk_of p ≡ desk_id desk.now) }
+{
+    let Some(mut pass) = lane.pass.take() else {
+        return;
+    };
+    if lane.number + 1 == LANES {
+        for _ in 0u8..20 {
+            pass = clean(rt, desk, lane, pass);
+        }
+    } else {
+        for n in 0..ROWS {
+            pass = work(rt, desk, lane, pass, n);
+        }
+    }
+    lane.pass = Some(pass);
+}
+
+/// Takes back the pass of each lane.
+fn gather(desk: &Desk<Quad>, first: Pass<Quad>, lanes: &mut [Lane]) -> Pass<Quad>
+    requires own { (desk_of first ≡ desk_id desk.now) × All (λ lane. IfSome lane.pass (λ p. desk_of p ≡ desk_id desk.now)) lanes.old }
+    requires first { (view_of first).number ≡ 0 }
+    ensures own { desk_of result ≡ desk_of first }
+    ensures first { (view_of result).number ≡ 0 }
+{
+    let mut first = first;
+    for k in 0..lanes.len() {
+        if let Some(pass) = lanes[k].pass.take() {
+            if pass.seat().number() > 0 {
+                first = desk.join(first, pass);
+            }
+        }
+    }
+    first
+}
+
+/// Four lanes insert, look and delete, and a fifth vacuums. All that they did is in the journal.
+#[test]
+fn lanes_share_an_index(rt: HostRuntime) -> Result<(), Fail> {
+    let alloc = rt.alloc();
+    let mut lanes: Vec<Lane> = Vec::with_capacity(alloc, usize::from(LANES))?;
+    let state = State::new(alloc, Quad, 65536)?;
+    let Ok((desk, mut first)) = Desk::new(alloc, state, LANES + 1) else {
+        return Err(Memory.into());
+    };
+    for number in 0..LANES {
+        let (left, other) = desk.split(first);
+        first = left;
+        lanes.push_reserved(Lane {
+            pass: Some(other),
+            number,
+            added: 0,
+            killed: 0,
+            swept: 0,
+        });
+    }
+    let each = |_: usize, lane: &mut Lane|
+        requires { IfSome lane.old.pass (λ p. desk_of p ≡ desk_id desk) }
+        ensures { IfSome lane.new.pass (λ p. desk_of p ≡ desk_id desk) }
+    { run(&rt, &desk, lane) };
+    thread::for_each_mut(&rt, lanes.as_mut_slice(), usize::from(LANES), &each);
+    let first = gather(&desk, first, lanes.as_mut_slice());
+    let (first, found) = desk.find(&rt, first, Query::All);
+    let (first, _) = desk.vacuum(&rt, first);
+    let given = match &found {
+        FindAnswer::Found { rows, .. } => rows.as_slice().len(),
+        FindAnswer::Memory(_) => 0,
+    };
+    let _ = desk.close(first);
+    let added: u64 = lanes.iter().map(|lane| lane.added).sum();
+    let killed: u64 = lanes.iter().map(|lane| lane.killed).sum();
+    assert_eq!(rt; (added, killed), (800, 400));
+    assert_eq!(rt; given, 400);
+    Ok(())
+}
