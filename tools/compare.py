@@ -287,4 +287,5 @@ def main():
     return 1 if compare(parser.parse_args()) else 0
 
 
-sys.exit(main())
+if __name__ == "__main__":
+    sys.exit(main())
