@@ -12,12 +12,13 @@ use std::test::Fail;
 use std::thread;
 
 /// How many rows each lane inserts. It deletes every other one.
-const ROWS: u16 = 200;
+const ROWS: u16 = 2000;
 
 /// The lanes but the last insert, look and delete; the last one runs vacuums.
 const LANES: u8 = 5;
 
 /// A lane: its pass, its number, and how many rows it has inserted, deleted and swept.
+#[derive(Drop)]
 struct Lane {
     pass: Option<Pass<Quad>>,
     number: u8,
@@ -40,7 +41,7 @@ fn work<R: Wait>(rt: &R, desk: &Desk<Quad>, lane: &mut Lane, pass: Pass<Quad>, n
     if let InsertAnswer::Added(_) = &answer {
         lane.added = lane.added.saturating_add(1);
     }
-    let (pass, found) = if n % 50 == 0 {
+    let (pass, found) = if n % 200 == 0 {
         desk.find(rt, pass, Query::All)
     } else {
         desk.find(rt, pass, Query::Null)
@@ -133,15 +134,24 @@ fn lanes_share_an_index(rt: HostRuntime) -> Result<(), Fail> {
     thread::for_each_mut(&rt, lanes.as_mut_slice(), usize::from(LANES), &each);
     let first = gather(&desk, first, lanes.as_mut_slice());
     let (first, found) = desk.find(&rt, first, Query::All);
-    let (first, _) = desk.vacuum(&rt, first);
+    let (first, last) = desk.vacuum(&rt, first);
+    let rest = match &last {
+        VacuumAnswer::Vacuumed { swept, .. } => *swept,
+        VacuumAnswer::Open { .. } | VacuumAnswer::Memory(_) => 0,
+    };
     let given = match &found {
         FindAnswer::Found { rows, .. } => rows.as_slice().len(),
         FindAnswer::Memory(_) => 0,
     };
-    let _ = desk.close(first);
+    let state = desk.close(first);
     let added: u64 = lanes.iter().map(|lane| lane.added).sum();
     let killed: u64 = lanes.iter().map(|lane| lane.killed).sum();
-    assert_eq!(rt; (added, killed), (800, 400));
-    assert_eq!(rt; given, 400);
+    let swept: u64 = lanes.iter().map(|lane| lane.swept).sum();
+    assert_eq!(rt; (added, killed), (8000, 4000));
+    assert_eq!(rt; swept.saturating_add(rest), 4000);
+    assert_eq!(rt; given, 4000);
+    // Two events for each insert, each find and each of 21 vacuums, one for each row deleted or swept.
+    let events = 2 * (8000 + 8001 + 21) + 4000 + 4000;
+    assert_eq!(rt; state.journal().len(), events);
     Ok(())
 }
