@@ -1,7 +1,8 @@
 //! Threads that share an index.
-ghost use Rattle.std.specs.Prelude.{◌≡◌, All, IfSome};
-ghost use Rattle.spg_desk.specs.Passes.{desk_id, desk_of, view_of};
+ghost use Rattle.std.specs.Prelude.{◌≡◌, IfSome};
+ghost use Rattle.spg_desk.specs.Passes.{desk_id, desk_of};
 
+use crate::lane::{Lane, gather};
 use spg_base::{Memory, Point, Row};
 use spg_core::State;
 use spg_desk::{Desk, FindAnswer, InsertAnswer, KillAnswer, Pass, VacuumAnswer};
@@ -17,10 +18,9 @@ const ROWS: u16 = 2000;
 /// The lanes but the last insert, look and delete; the last one runs vacuums.
 const LANES: u8 = 5;
 
-/// A lane: its pass, its number, and how many rows it has inserted, deleted and swept.
+/// A lane's number, and how many rows it has inserted, deleted and swept.
 #[derive(Drop)]
-struct Lane {
-    pass: Option<Pass<Quad>>,
+struct Work {
     number: u8,
     added: u64,
     killed: u64,
@@ -28,18 +28,24 @@ struct Lane {
 }
 
 /// Inserts a row, looks for it, and deletes it where its number is odd.
-fn work<R: Wait>(rt: &R, desk: &Desk<Quad>, lane: &mut Lane, pass: Pass<Quad>, n: u16) -> Pass<Quad>
+fn handle_row<R: Wait>(
+    rt: &R,
+    desk: &Desk<Quad>,
+    task: &mut Work,
+    pass: Pass<Quad>,
+    n: u16,
+) -> Pass<Quad>
     requires own { desk_of pass ≡ desk_id desk.now }
     ensures own { desk_of result ≡ desk_of pass }
 {
-    let row = Row::at(u32::from(lane.number) + 1, n % ROWS + 1);
+    let row = Row::at(u32::from(task.number) + 1, n % ROWS + 1);
     let key = Point {
         x: i32::from(n) * 7 % 100,
-        y: i32::from(lane.number),
+        y: i32::from(task.number),
     };
     let (pass, answer) = desk.insert(rt, pass, row, Some(key));
     if let InsertAnswer::Added(_) = &answer {
-        lane.added = lane.added.saturating_add(1);
+        task.added = task.added.saturating_add(1);
     }
     let (pass, found) = if n % 200 == 0 {
         desk.find(rt, pass, Query::All)
@@ -52,66 +58,48 @@ fn work<R: Wait>(rt: &R, desk: &Desk<Quad>, lane: &mut Lane, pass: Pass<Quad>, n
     }
     let (pass, answer) = desk.kill(rt, pass, row);
     if let KillAnswer::Killed(_) = &answer {
-        lane.killed = lane.killed.saturating_add(1);
+        task.killed = task.killed.saturating_add(1);
     }
     pass
 }
 
 /// Runs a vacuum.
-fn clean<R: Wait>(rt: &R, desk: &Desk<Quad>, lane: &mut Lane, pass: Pass<Quad>) -> Pass<Quad>
+fn clean<R: Wait>(rt: &R, desk: &Desk<Quad>, task: &mut Work, pass: Pass<Quad>) -> Pass<Quad>
     requires own { desk_of pass ≡ desk_id desk.now }
     ensures own { desk_of result ≡ desk_of pass }
 {
     let (pass, answer) = desk.vacuum(rt, pass);
     if let VacuumAnswer::Vacuumed { swept, .. } = &answer {
-        lane.swept = lane.swept.saturating_add(*swept);
+        task.swept = task.swept.saturating_add(*swept);
     }
     pass
 }
 
 /// All that a lane does.
-fn run<R: Wait>(rt: &R, desk: &Desk<Quad>, lane: &mut Lane)
+fn run<R: Wait>(rt: &R, desk: &Desk<Quad>, lane: &mut Lane<Quad, Work>)
     requires { IfSome lane.old.pass (λ p. desk_of p ≡ desk_id desk.now) }
     ensures { IfSome lane.new.pass (λ p. desk_of p ≡ desk_id desk.now) }
 {
     let Some(mut pass) = lane.pass.take() else {
         return;
     };
-    if lane.number + 1 == LANES {
+    if lane.task.number + 1 == LANES {
         for _ in 0u8..20 {
-            pass = clean(rt, desk, lane, pass);
+            pass = clean(rt, desk, &mut lane.task, pass);
         }
     } else {
         for n in 0..ROWS {
-            pass = work(rt, desk, lane, pass, n);
+            pass = handle_row(rt, desk, &mut lane.task, pass, n);
         }
     }
     lane.pass = Some(pass);
-}
-
-/// Takes back the pass of each lane.
-fn gather(desk: &Desk<Quad>, first: Pass<Quad>, lanes: &mut [Lane]) -> Pass<Quad>
-    requires own { (desk_of first ≡ desk_id desk.now) × All (λ lane. IfSome lane.pass (λ p. desk_of p ≡ desk_id desk.now)) lanes.old }
-    requires first { (view_of first).number ≡ 0 }
-    ensures own { desk_of result ≡ desk_of first }
-    ensures first { (view_of result).number ≡ 0 }
-{
-    let mut first = first;
-    for k in 0..lanes.len() {
-        if let Some(pass) = lanes[k].pass.take() {
-            if pass.seat().number() > 0 {
-                first = desk.join(first, pass);
-            }
-        }
-    }
-    first
 }
 
 /// Four lanes insert, look and delete, and a fifth vacuums. All that they did is in the journal.
 #[test]
 fn lanes_share_an_index(rt: HostRuntime) -> Result<(), Fail> {
     let alloc = rt.alloc();
-    let mut lanes: Vec<Lane> = Vec::with_capacity(alloc, usize::from(LANES))?;
+    let mut lanes: Vec<Lane<Quad, Work>> = Vec::with_capacity(alloc, usize::from(LANES))?;
     let state = State::new(alloc, Quad, 65536)?;
     let Ok((desk, mut first)) = Desk::new(alloc, state, LANES + 1) else {
         return Err(Memory.into());
@@ -121,13 +109,15 @@ fn lanes_share_an_index(rt: HostRuntime) -> Result<(), Fail> {
         first = left;
         lanes.push_reserved(Lane {
             pass: Some(other),
-            number,
-            added: 0,
-            killed: 0,
-            swept: 0,
+            task: Work {
+                number,
+                added: 0,
+                killed: 0,
+                swept: 0,
+            },
         });
     }
-    let each = |_: usize, lane: &mut Lane|
+    let each = |_: usize, lane: &mut Lane<Quad, Work>|
         requires { IfSome lane.old.pass (λ p. desk_of p ≡ desk_id desk) }
         ensures { IfSome lane.new.pass (λ p. desk_of p ≡ desk_id desk) }
     { run(&rt, &desk, lane) };
@@ -144,9 +134,9 @@ fn lanes_share_an_index(rt: HostRuntime) -> Result<(), Fail> {
         FindAnswer::Memory(_) => 0,
     };
     let state = desk.close(first);
-    let added: u64 = lanes.iter().map(|lane| lane.added).sum();
-    let killed: u64 = lanes.iter().map(|lane| lane.killed).sum();
-    let swept: u64 = lanes.iter().map(|lane| lane.swept).sum();
+    let added: u64 = lanes.iter().map(|lane| lane.task.added).sum();
+    let killed: u64 = lanes.iter().map(|lane| lane.task.killed).sum();
+    let swept: u64 = lanes.iter().map(|lane| lane.task.swept).sum();
     assert_eq!(rt; (added, killed), (8000, 4000));
     assert_eq!(rt; swept.saturating_add(rest), 4000);
     assert_eq!(rt; given, 4000);
