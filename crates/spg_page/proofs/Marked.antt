@@ -1,5 +1,5 @@
 -- Tuples with placeholders at the marked offsets.
-use Rattle.std.proofs.Common.{◌≡◌, ℕ, zero, suc, ◌+◌, ◌<◌, ◌≤◌, Bool, true, false, cond, List, [], ◌∷◌, ◌++◌, length, get_or, take, map, refl, sym, ap, ◌∙◌, arith}
+use Rattle.std.proofs.Common.{◌≡◌, ℕ, zero, suc, ◌+◌, ◌<◌, ◌≤◌, Bool, true, false, cond, List, [], ◌∷◌, ◌++◌, length, get_or, take, map, set, replicate, refl, sym, ap, ◌∙◌, arith}
 use Rattle.std.proofs.lemmas.List.{take_more, length-take-le, get_or-take}
 use Rattle.std.proofs.lemmas.List.Sums.{sum_by-cons, sum_by_push, sum_by-take-le}
 use Rattle.spg_page.specs.declared.tuple.Tuple.{Tuple}
@@ -95,3 +95,35 @@ pub blanked_pushed : (s now then : Stored) (ms : List Bool) (i : ℕ) (t : Tuple
 blanked_pushed s now then ms i t l is pushed here =
     pushed ∙ ap (λ (v : Stored). record v { tuples = v.tuples ++ t ∷ [] }) is
     ∙ ap (λ us. record s { tuples = us }) (ap (λ u. blanked Placeholder ms (take i s.tuples) ++ u ∷ []) here ∙ sym (blanked_step Placeholder ms s.tuples i Placeholder l))
+
+-- ---- one mark more
+
+unmarked : {T : Type 0} → (x : T) (n : ℕ) (ts : List T) → marked_as x (replicate n false) ts ≡ ts
+unmarked x zero ts = refl
+unmarked x (suc n) [] = refl
+unmarked x (suc n) (t ∷ ts) = ap (λ us. t ∷ us) (unmarked x n ts)
+
+-- where nothing is marked, the list stays
+pub blanked_unmarked : {T : Type 0} → (x : T) (n : ℕ) (ts : List T) → blanked x (replicate n false) ts ≡ ts
+blanked_unmarked x zero ts = refl
+blanked_unmarked x (suc n) ts = unmarked x n ts
+
+length-marked : {T : Type 0} → (x : T) (ms : List Bool) (ts : List T) → length (marked_as x ms ts) ≡ length ts
+length-marked x [] ts = refl
+length-marked x (m ∷ ms) [] = refl
+length-marked x (m ∷ ms) (t ∷ ts) = ap suc (length-marked x ms ts)
+
+pub length-blanked : {T : Type 0} → (x : T) (ms : List Bool) (ts : List T) → length (blanked x ms ts) ≡ length ts
+length-blanked x [] ts = refl
+length-blanked x (m ∷ ms) ts = length-marked x ms ts
+
+marked_set : {T : Type 0} → (x : T) (ms : List Bool) (ts : List T) (i : ℕ) → i < length ms → i < length ts → marked_as x (set ms i true) ts ≡ set (marked_as x ms ts) i x
+marked_set x [] ts i a b = absurd (omega arith)
+marked_set x (m ∷ ms) [] i a b = absurd (omega arith)
+marked_set x (m ∷ ms) (t ∷ ts) zero a b = refl
+marked_set x (m ∷ ms) (t ∷ ts) (suc i) a b = ap (λ us. cond m x t ∷ us) (marked_set x ms ts i (omega arith) (omega arith))
+
+-- an offset is marked
+pub blanked_set : {T : Type 0} → (x : T) (ms : List Bool) (ts : List T) (i : ℕ) → suc i < length ms → i < length ts → blanked x (set ms (suc i) true) ts ≡ set (blanked x ms ts) i x
+blanked_set x [] ts i a b = absurd (omega arith)
+blanked_set x (m ∷ ms) ts i a b = marked_set x ms ts i (omega arith) b
