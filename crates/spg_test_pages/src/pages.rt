@@ -71,6 +71,7 @@ enum Change {
     Remove(u16),
     SetNext(u16, u16),
     SetLink(u16, u32),
+    Blank(u16, u16),
     TrimEnd,
 }
 
@@ -172,11 +173,23 @@ fn change_page(alloc: Global, page: &mut Page, change: Change) -> Result<(), Mem
                 page.set_link(Offset(o), 0, Some(place(block)));
             }
         }
+        Change::Blank(first, second) => page.blank(&marks(first, second)),
         Change::TrimEnd => {
             page.trim_end();
         }
     }
     Ok(())
+}
+
+/// The marks of two offsets.
+fn marks(first: u16, second: u16) -> [bool; 409] {
+    let mut marked = [false; 409];
+    for o in [first, second] {
+        if (o as usize) < marked.len() {
+            marked[o as usize] = true;
+        }
+    }
+    marked
 }
 
 fn is_live(page: &Page, o: u16) -> bool
@@ -227,6 +240,10 @@ fn change_list(list: &mut Vec<Item>, change: Change) -> Result<(), Memory> {
             }
         }
         Change::SetLink(o, block) => put(list, o, Item::Inner(block)),
+        Change::Blank(first, second) => {
+            put(list, first, Item::Placeholder);
+            put(list, second, Item::Placeholder);
+        }
         Change::TrimEnd => {
             let mut kept = 0;
             for i in 0..list.len() {
@@ -327,6 +344,9 @@ fn changes_match_a_list(rt: HostRuntime) -> Result<(), Fail> {
         Change::Add(Item::Leaf(5, 200, 0)),
         Change::Replace(3, Item::Leaf(6, 3, 9)),
         Change::Remove(2),
+        Change::Add(Item::Dead),
+        Change::Blank(1, 3),
+        Change::Add(Item::Leaf(7, 40, 0)),
         Change::Add(Item::Dead),
         Change::Replace(2, Item::Inner(3)),
         Change::Replace(1, Item::Leaf(4, 1, 2)),
