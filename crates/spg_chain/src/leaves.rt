@@ -8,6 +8,7 @@ use spg_page::{LeafTuple, Tuple, TupleBytes};
 use std::alloc::Global;
 
 /// The leaf tuple of a row and a rest, of at most 8,156 bytes, without a link.
+#[inline(always)]
 pub fn leaf_tuple(alloc: Global, row: Row, rest: &[u8]) -> Result<TupleBytes, Memory>
     requires { leaf_size rest.now ≤ 8156 }
     ensures { IfOk result (λ leaf. leaf ≡ Live (record { row = row; rest = rest.now }) 0) }

@@ -246,6 +246,7 @@ impl<O: OpClass> Bare<O> {
 
     /// The next section of an insert as planned, of which `State::insert_step` tells. `parted` is how
     /// the class divided the leaves, where they are divided and are no nulls.
+    #[inline(always)]
     fn go_on(
         &mut self,
         seat: SeatNo,
@@ -298,6 +299,7 @@ impl<O: OpClass> Bare<O> {
     /// its start, and once its row is put, the seat has latched none. The latches of the other
     /// seats stay. No page is lost, and the clock does not go back. It makes one inner tuple at
     /// most, and takes one of the sections that may come yet.
+    #[inline(always)]
     pub(crate) fn insert_step(&mut self, class: &O, seat: SeatNo) -> Result<InsertOut, StepRefused>
         requires inserting { IsInserting (stage_at self.old seat) }
         ensures ok { IfOk result (λ out. IsInsertOut self.old self.new seat out) }

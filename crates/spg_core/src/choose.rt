@@ -43,6 +43,7 @@ pub(crate) fn named(turn: u8, view: &InnerView, node: u16) -> u16
 }
 
 /// What an insert of a key does at an inner tuple, as the class answers.
+#[inline(always)]
 fn choose_for<O: OpClass>(
     alloc: Global,
     class: &O,
@@ -108,6 +109,7 @@ pub(crate) fn by_counter<O: OpClass>(
 
 /// What an insert does at an inner tuple. The node that is followed at an all-the-same tuple, and in
 /// the nulls tree, is the one that the rotating counter names.
+#[inline(always)]
 pub(crate) fn choose<O: OpClass>(
     alloc: Global,
     class: &O,

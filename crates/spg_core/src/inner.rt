@@ -15,6 +15,7 @@ use spg_tree::{Descent, PageTable, StepRefused};
 use std::alloc::Global;
 
 /// Goes down a node of the inner tuple at which an insert is. It takes no memory.
+#[inline(always)]
 fn go_down<O: OpClass>(
     table: &mut PageTable,
     descent: &mut Descent<O>,
@@ -60,6 +61,7 @@ fn widen<O: OpClass>(
 }
 
 /// Does what was chosen at an inner tuple: it goes down a node, puts one in, or splits the tuple.
+#[inline(always)]
 pub(crate) fn apply<O: OpClass>(
     alloc: Global,
     table: &mut PageTable,

@@ -27,6 +27,7 @@ use spg_tree::{Descent, PageTable, StepRefused};
 use std::alloc::Global;
 
 /// Enters the root.
+#[inline(always)]
 fn begin<O: OpClass>(table: &mut PageTable, descent: &mut Descent<O>, seat: SeatNo) -> InsertOut
     requires shape { Shape O.meaning (sheets_of table.old) }
     requires start { descent.old.stand ≡ Start }
@@ -41,6 +42,7 @@ fn begin<O: OpClass>(table: &mut PageTable, descent: &mut Descent<O>, seat: Seat
 }
 
 /// Puts the leaf of an insert where it fits.
+#[inline(always)]
 fn put<O: OpClass>(
     alloc: Global,
     table: &mut PageTable,
@@ -98,6 +100,7 @@ fn divide<O: OpClass>(
 
 /// What an insert does where it stands, as planned. Where it changed pages its latches are not settled
 /// yet.
+#[inline(always)]
 fn section<O: OpClass>(
     alloc: Global,
     table: &mut PageTable,
@@ -123,6 +126,7 @@ fn section<O: OpClass>(
 /// The next section of an open insert as planned, which is one of those that may come yet. `parted` is
 /// how the class divided the leaves, where they are divided and are no nulls. After a refusal table and
 /// insert are as they were.
+#[inline(always)]
 pub(crate) fn step<O: OpClass>(
     alloc: Global,
     table: &mut PageTable,

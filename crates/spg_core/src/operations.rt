@@ -29,6 +29,7 @@ use spg_tree::{PageTable, StepRefused};
 use std::alloc::Global;
 
 /// The next section of the insert in the seat's slot, as planned.
+#[inline(always)]
 pub(crate) fn step_slot<O: OpClass>(
     alloc: Global,
     table: &mut PageTable,

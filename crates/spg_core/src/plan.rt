@@ -48,6 +48,7 @@ fn part<O: OpClass>(
 
 /// What an insert does in its next section, as the class answers. With it comes how the class divides
 /// the leaves, where they are divided and are no nulls.
+#[inline(always)]
 pub(crate) fn plan_at<O: OpClass>(
     alloc: Global,
     class: &O,
