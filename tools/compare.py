@@ -5,10 +5,11 @@
         [--no-vacuum] [--no-save] [--no-stat] [--no-blank]
 
 Both commands read a script from standard input, each in a folder of its own. They must write the same text, end with
-the same status, name the same bad line, and save the same images, byte by byte but for the free bytes of a page (those
-between its item pointers and its tuples), which may be anything; how many images differ there alone is told. A script
-on which they differ is left as NAME.differs. Small scripts have edges and bad lines; large ones have hundreds to thousands of inserts of one shape,
-with deletes, vacuums and finds between and behind them, and rows used again. The last four options leave lines out.
+the same status, name the same bad line, and save images of the same pages: the same header, and the same tuples in the
+order of their offsets. Where the tuples stand on a page, and its free bytes, may differ; how many images differ in that
+alone is told. A script on which they differ is left as NAME.differs. Small scripts have edges and bad lines; large ones
+have hundreds to thousands of inserts of one shape, with deletes, vacuums and finds between and behind them, and rows
+used again. The last four options leave lines out.
 """
 
 import argparse
@@ -207,28 +208,30 @@ def ran(words, text):
     return done.returncode, done.stdout, done.stderr.splitlines()[:1], images
 
 
-def without_free_bytes(image):
-    """The image with zeros in the free bytes of each page but the meta page."""
-    told = bytearray(image)
-    for page in range(PAGE, len(told) - PAGE + 1, PAGE):
-        items, upper = struct.unpack_from("<HH", told, page + 12)
-        begin, end = page + 24 + 4 * items, page + upper
-        if begin <= end <= page + PAGE:
-            told[begin:end] = bytes(end - begin)
-    return bytes(told)
+def as_tuples(page):
+    """A page as its header, its last eight bytes, and its tuples in the order of their offsets."""
+    items = min(struct.unpack_from("<H", page, 12)[0], (PAGE - 24) // 4)
+    pointers = [struct.unpack_from("<HH", page, 24 + 4 * item) for item in range(items)]
+    return page[:24], page[8184:], [page[begin : begin + size] for begin, size in pointers]
+
+
+def settled(image):
+    """An image as its pages: the meta page as it is, and each other page as its tuples."""
+    pages = [image[at : at + PAGE] for at in range(0, len(image), PAGE)]
+    return [page if at == 0 or len(page) < PAGE else as_tuples(page) for at, page in enumerate(pages)]
+
+
+def all_settled(images):
+    return {name: settled(image) for name, image in images.items()}
 
 
 def is_same(ours, other):
-    """Whether two runs are the same, free bytes of images left aside."""
-    return ours[:3] == other[:3] and settled(ours[3]) == settled(other[3])
+    """Whether two runs are the same, but for where the tuples stand on the pages of images."""
+    return ours[:3] == other[:3] and all_settled(ours[3]) == all_settled(other[3])
 
 
-def settled(images):
-    return {name: without_free_bytes(image) for name, image in images.items()}
-
-
-def apart_when_free(ours, other):
-    """How many images are the same but for their free bytes."""
+def apart_in_place(ours, other):
+    """How many images of the same tuples have other bytes."""
     return sum(name in ours and ours[name] != image for name, image in other.items())
 
 
@@ -239,10 +242,10 @@ def show(name, text, ours, other):
             print(f"  line {number}: {a[:200]!r} and {b[:200]!r}")
             break
     for image in sorted(ours[3].keys() | other[3].keys()):
-        a, b = settled(ours[3]).get(image), settled(other[3]).get(image)
+        a, b = (all_settled(images).get(image) for images in (ours[3], other[3]))
         if a != b:
-            at = next((i for i, (x, y) in enumerate(zip(a or b"", b or b"")) if x != y), None)
-            print(f"  image {image}: {a and len(a)} and {b and len(b)} bytes, first apart at {at}")
+            at = next((i for i, (x, y) in enumerate(zip(a or [], b or [])) if x != y), None)
+            print(f"  image {image}: {a and len(a)} and {b and len(b)} pages, first apart at page {at}")
     pathlib.Path(f"{name}.differs").write_bytes(text)
 
 
@@ -264,12 +267,12 @@ def compare(options):
         same = is_same(ours, other)
         if not same:
             show(f"{number:05}", text, ours, other)
-        return text.count(b"\n"), other[0] != 0, len(other[3]), same and apart_when_free(ours[3], other[3]), not same
+        return text.count(b"\n"), other[0] != 0, len(other[3]), same and apart_in_place(ours[3], other[3]), not same
 
     with ThreadPoolExecutor(options.jobs) as pool:
-        lines, refused, images, free, bad = map(sum, zip(*pool.map(one, range(options.count))))
+        lines, refused, images, placed, bad = map(sum, zip(*pool.map(one, range(options.count))))
     print(f"{options.count} scripts, {lines} lines, {refused} refused by the model, {bad} differ")
-    print(f"{images} images, {free} of them with other free bytes")
+    print(f"{images} images, {placed} of them with other free bytes, or tuples at other places")
     return bad
 
 

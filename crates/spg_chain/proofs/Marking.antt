@@ -1,5 +1,5 @@
 -- Placeholders at the offsets of a chain that are marked one by one.
-use Rattle.std.proofs.Common.{◌≡◌, ℕ, zero, suc, ◌+◌, ◌<◌, ◌≤◌, Bool, true, false, List, [], ◌∷◌, ◌++◌, length, get_or, set, map, nat_le, refl, sym, ap, ◌∙◌, arith}
+use Rattle.std.proofs.Common.{◌≡◌, ℕ, zero, suc, ◌<◌, Bool, true, List, [], ◌∷◌, ◌++◌, length, get_or, set, map, nat_le, refl, sym, ap, ◌∙◌, arith}
 use Rattle.std.proofs.lemmas.Bool.{cond-false, lt-leb}
 use Rattle.std.proofs.lemmas.List.{map-append}
 use Rattle.spg_forest.specs.Tuples.{Tuple, Live, Inner, Dead, Redirect, Placeholder}
@@ -8,7 +8,7 @@ use Rattle.spg_page.specs.Kinds.{IsOffset}
 use Rattle.spg_page.specs.Marks.{blanked}
 use Rattle.spg_page.proofs.Marked.{blanked_set, length-blanked}
 use Rattle.spg_chain.specs.declared.walk.ChainLeaf.{ChainLeaf}
-use Rattle.spg_chain.specs.Chains.{Member, members, member_at, member_of, offsets_of, chain_members}
+use Rattle.spg_chain.specs.Chains.{Member, members, member_of, offsets_of, chain_members}
 use Rattle.spg_chain.specs.Taken.{emptied}
 use Rattle.spg_chain.proofs.Members.{from_tuple}
 use Rattle.spg_chain.proofs.Taking.{live_within}
