@@ -1,5 +1,4 @@
 pub mod Lists
-pub mod Keys
 pub mod Alone
 pub mod Going
 pub mod Rows
@@ -24,10 +23,3 @@ pub mod LeadingCommand
 pub mod BlocksTasks
 pub mod BlocksLeading
 pub mod Beginning
-pub mod LaneCalls
-pub mod LaneTold
-pub mod LaneRuns
-pub mod Gathers
-pub mod Besides
-pub mod Refusing
-pub mod TogetherLeads

@@ -3,11 +3,3 @@
 
 #[cfg(test)]
 mod calls;
-#[cfg(test)]
-mod lane;
-#[cfg(test)]
-mod outside;
-#[cfg(test)]
-mod threads;
-#[cfg(test)]
-mod watched;
