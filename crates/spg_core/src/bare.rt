@@ -39,7 +39,7 @@ use spg_base::{Memory, Origin, Row, RowSet, Same, SeatNo, Stamp, Stat};
 use spg_descend::open_descent;
 use spg_opclass::{Chosen, OpClass, Parted, Query, Sifted, Started};
 use spg_rows::{Event, Journal, RowState, RowTable, Why};
-use spg_scan::{Closed, ReadOut, Scan, ScanCopy, SiftRefused};
+use spg_scan::{Closed, Liveness, ReadOut, Scan, ScanCopy, SiftRefused};
 use spg_tree::{PageTable, StepRefused, Touched};
 use spg_vacuum::Vacuum;
 use std::alloc::Global;
@@ -489,11 +489,15 @@ impl<O: OpClass> Bare<O> {
         ensures ok { IfOk result (λ out. ReadsItem O.meaning self.old self.new seat item out) }
         ensures err { OnErr result (self.new ≡ self.old) }
     {
+        let liveness = Liveness {
+            table: &self.rows,
+            all_live: self.targets.is_empty() && self.later.is_empty(),
+        };
         let out = read_slot(
             self.alloc,
             class,
             &self.table,
-            &self.rows,
+            &liveness,
             &mut self.slots,
             seat,
             item,
