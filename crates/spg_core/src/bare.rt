@@ -32,7 +32,7 @@ use crate::plan::{Plan, plan_at};
 use crate::sifting::{copy_slot, sift_slot};
 use crate::slot::{SEATS, Slot, descent_at, free_slots, give_up, kind, set_slot, slot_at};
 use crate::stat::stat_of;
-use crate::sweeping::{sweep_slot, tell_sweeps};
+use crate::sweeping::{are_empty, sweep_slot, tell_sweeps};
 use crate::vacuums::Vacuums;
 use crate::waiting::{scan_seat, vacuum_seat};
 use spg_base::{Memory, Origin, Row, RowSet, Same, SeatNo, Stamp, Stat};
@@ -491,7 +491,7 @@ impl<O: OpClass> Bare<O> {
     {
         let liveness = Liveness {
             table: &self.rows,
-            all_live: self.targets.is_empty() && self.later.is_empty(),
+            all_live: are_empty(&self.targets, &self.later),
         };
         let out = read_slot(
             self.alloc,
