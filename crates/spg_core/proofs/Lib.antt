@@ -29,3 +29,4 @@ pub mod Sweepers
 pub mod Vacuumed
 pub mod Runs
 pub mod Counting
+pub mod Sent
