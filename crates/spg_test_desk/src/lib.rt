@@ -1,5 +1,0 @@
-//! Tests of an index that threads share.
-#![tactic(auto)]
-
-#[cfg(test)]
-mod calls;
