@@ -15,10 +15,6 @@ mod held;
 #[cfg(test)]
 mod latches;
 #[cfg(test)]
-mod looks;
-#[cfg(test)]
 mod seats;
-#[cfg(test)]
-mod sifts;
 #[cfg(test)]
 mod vacuums;
