@@ -16,6 +16,11 @@ returns-then-block-clause-leads g c = λ number.
     subst (λ (t : Bool). LeadsOn m speech code (standing c.args.state held faults c.args.book.now.records) (standing c.together.result held faults c.together.new.book.records) (lanes_tasks number 0 (not t) c.args.block.now.lanes)) (sym c.if-block.true)
     (subst (λ (ls : List (List Command)). LeadsOn m speech code (standing c.args.state held faults c.args.book.now.records) (standing c.together.result held faults c.together.new.book.records) (lanes_tasks number 0 false ls)) c.as_slice.ensures (c.together.ensures.leads number held faults))
 
+pub together-requires-clause-can : goal.together-requires-clause-can
+together-requires-clause-can g c =
+    subst (λ (ls : List (List Command)). All (λ (lane : List Command). All (CanBeDone g.O.Spoken.speech false) lane) ls) (sym c.as_slice.ensures)
+    (subst (λ (t : Bool). All (λ (lane : List Command). All (CanBeDone g.O.Spoken.speech (not t)) lane) c.args.block.now.lanes) c.if-block.true c.requires.can.each)
+
 pub in_turn-requires-clause-can : goal.in_turn-requires-clause-can
 in_turn-requires-clause-can g c =
     subst (λ (t : Bool). All (λ (lane : List Command). All (CanBeDone g.O.Spoken.speech (not t)) lane) c.args.block.now.lanes) c.if-block.false c.requires.can.each

@@ -1,4 +1,7 @@
-use Rattle.std.proofs.Common.{arith}
+use Rattle.std.proofs.Common.{arith, List, sym, subst}
+use Rattle.std.proofs.lemmas.List.Elements.{All-get_or}
+use Rattle.spg_script.specs.declared.part.Part.{Part}
+use Rattle.spg_perform.specs.Acted.{CanBlock}
 use Rattle.spg_perform.specs.Session.{standing}
 use Rattle.spg_perform.proofs.BlocksTasks.{IsNext, parts_left}
 use Rattle.spg_perform.proofs.BlocksLeading.{parts_lead, parts_led}
@@ -8,6 +11,10 @@ pub part-state-requires-clause-room : goal.part-state-requires-clause-room
 part-state-requires-clause-room g c =
     let next : IsNext c.args.blocks.now c.loop-block.block-index c.block-item.result = record { within = c.loop-block-test.true; here = c.block-item.is } in
     omega (arith, parts_left c.args.blocks.now c.loop-block.block-index c.block-item.result next, c.loop-block.invariant.room)
+
+pub part-state-requires-clause-can : goal.part-state-requires-clause-can
+part-state-requires-clause-can g c =
+    subst (λ (p : Part). CanBlock g.O.Spoken.speech p) (sym c.block-item.is) (All-get_or (CanBlock g.O.Spoken.speech) c.args.blocks.now c.loop-block.block-index c.block-item.result c.loop-block-test.true c.requires.can)
 
 pub loop-block-preserved : goal.loop-block-preserved
 loop-block-preserved g c =

@@ -19,7 +19,7 @@ loop-k-preserved g c =
     let lane = get_or c.args.lanes.now k [] in
     let other = c.in-Some-take.other in
     let above : 0 < k = (let h = c.loop-k.auto.k in omega arith) in
-    let inside' : k < length before = omega (arith, c.loop-k-test.true, c.loop-k.auto.posts, length-set {A = Post _ _ _ _ g.O.laws}) in
+    let inside' : k < length before = omega (arith, c.loop-k-test.true, c.loop-k.auto.posts, length-set {A = Post _ _ _ _ g.O.OpClass}) in
     let inside : k < length posts = omega (arith, c.loop-k-test.true) in
     let there : (d : _) → (get_or before k d).pass ≡ Some other =
     λ d. ap (λ (p : _). p.pass) (get_or_default before k d c.index-posts-k.result inside' ∙ sym (i.rest k c.index-posts-k.result (omega arith))) ∙ (sym c.take-in-loop-k.ensures.value ∙ c.in-Some-take.is) in
@@ -27,7 +27,7 @@ loop-k-preserved g c =
     λ d. subst (λ p. Holds (IsOver m speech old k lane (get_or before k d).records.items) (desk_id c.args.desk.now) p) (there d) (c.requires.over k d above inside') in
     record {
       own = c.join-first.ensures.own ∙ i.own;
-      first = rw (length-set {A = Post _ _ _ _ g.O.laws})
+      first = rw (length-set {A = Post _ _ _ _ g.O.OpClass})
           (gathers m speech old c.args.before.now.value.origin (length posts) k c.args.lanes.now before (view_of c.loop-k.first) (view_of other) (view_of c.join-first.result) above i.first (λ d. (over d).1) (over c.index-posts-k.result).1.number c.join-first.ensures.view c.join-first.ensures.begins_first c.join-first.ensures.begins_other);
       same = same_set posts before k _ c.index-posts-k.result inside refl i.same;
       rest = λ j d above. get_or-set_other posts k j _ d (λ e. omega (arith, e, above)) ∙ i.rest j d (omega (arith, above));

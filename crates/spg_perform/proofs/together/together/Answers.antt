@@ -44,3 +44,8 @@ returns-in-Err-clause-leads g c = λ number held faults.
     c.refuse_all.ensures.records ∙ ap (λ at. records ++ refusals at (length (lanes_tasks 0 0 true c.args.lanes.now))) c.position.ensures.count in
     subst (λ (s : Seen g.row.O.Denot g.row.O-Key.Denot g.row.O-Recon.Denot g.row.O-Cond.Denot). LeadsOn m speech code (standing s held faults records) (standing before held faults noted) (lanes_tasks number 0 false c.args.lanes.now)) same
     (leads_refused m speech code before held faults records number c.args.lanes.now noted c.requires.can c.shows-in-Err.ensures.right c.shows-in-Err.ensures.drops closed are)
+
+pub returns-in-Err-clause-closed : goal.returns-in-Err-clause-closed
+returns-in-Err-clause-closed g c =
+    let same : c.in-Err.before ≡ c.args.state = (search rules) in
+    subst (λ (s : Seen g.row.O.Denot g.row.O-Key.Denot g.row.O-Recon.Denot g.row.O-Cond.Denot). AllClosed (past_of s)) (sym same) c.requires.closed
