@@ -1,8 +1,10 @@
 -- What a state keeps as a scan opens, reads and ends.
-use Rattle.std.proofs.Common.{◌≡◌, ◌<◌, ◌≤◌, ◌+◌, ◌++◌, ◌∷◌, [], ℕ, inl, true, false, List, length, get_or, map, Vec, set, refl, sym, ap, ◌∙◌, subst, arith}
+use Rattle.std.proofs.Common.{◌≡◌, ◌<◌, ◌≤◌, ◌+◌, ◌++◌, ◌∷◌, [], ◌||◌, ⊎_elim, ℕ, inl, true, false, List, length, get_or, map, Vec, set, refl, sym, ap, ◌∙◌, subst, arith}
 use Rattle.std.specs.declared.alloc.Global.{Global}
 use Rattle.std.proofs.lemmas.List.{length-set, length-reverse}
-use Rattle.spg_base.specs.Row.{RowAt}
+use Rattle.std.specs.BTreeSet.{contains, IsEmpty}
+use Rattle.std.proofs.lemmas.Bool.{true≢false}
+use Rattle.spg_base.specs.Row.{RowAt, row_cmp}
 use Rattle.spg_opclass.specs.Meaning.{Meaning}
 use Rattle.spg_opclass.specs.Laws.{KeptLaw, CodeLaw}
 use Rattle.spg_opclass.specs.declared.query.Query.{Query}
@@ -12,9 +14,14 @@ use Rattle.spg_forest.specs.Counts.{AreDistinct}
 use Rattle.spg_forest.specs.Sheets.{Sheets}
 use Rattle.spg_rows.specs.History.{Written, History}
 use Rattle.spg_rows.specs.Rows.{state_of}
+use Rattle.spg_rows.specs.Lives.{lives}
+use Rattle.spg_rows.specs.Targets.{is_killed}
+use Rattle.spg_rows.proofs.Histories.{sane_from_legal}
+use Rattle.spg_rows.proofs.Uses.{present_state}
 use Rattle.spg_scan.specs.Cover.{IsScanOf}
 use Rattle.spg_tree.specs.Table as pages
-use Rattle.spg_scan.specs.Scanning.{Scanning, IsClosing, opened, emptied}
+use Rattle.spg_scan.specs.Scanning.{Scanning, IsClosing, is_live, opened, emptied}
+use Rattle.spg_scan.specs.Parts.{EntriesLive}
 use Rattle.spg_scan.specs.Items.{held, copied_rows}
 use Rattle.spg_scan.proofs.Lists.{distinct_parts}
 use Rattle.spg_scan.specs.Reading.{IsReadOut}
@@ -69,6 +76,15 @@ module _ {O Key Recon Cond : Type 0} (m : Meaning Key Recon Cond) (s : Inside O 
       (steps.same_rows m s (untouched s.table) slots journal)
 
   -- ---- a scan reads
+
+  -- where no row is killed and not swept, each row that has an entry is live
+  pub entries_live : IsEmpty s.targets.rows → IsEmpty s.later.rows → EntriesLive m (pages.sheets_of s.table) s.rows
+  entries_live no_target none_later row key entry =
+      let past = steps.past m s I in
+      let present = (I.tells.holds.entries row key).0 entry in
+      let says = (sane_from_legal past I.right.legal).says row in
+      let not_killed : is_killed (state_of row past) ≡ false = sym (I.tells.kills.killed row) ∙ ap (λ (ks : List RowAt). steps.rows_in ks row || contains row_cmp s.later.rows row) no_target ∙ ap (λ (ks : List RowAt). steps.rows_in ks row) none_later in
+      ⊎_elim (λ e. ap is_live (I.tells.states row ∙ e)) (λ (at, e). absurd (true≢false (sym (ap is_killed e) ∙ not_killed))) (present_state (state_of row past) (lives row past) says present.0)
 
   pub can_read : (slot : Slot O Key Recon Cond) (item : ℕ) → StageFits m s.table (steps.past m s I) seat (stage_of slot) → item < held_count (stage_of slot) → CanRead m s.table slot item
   can_read Free item has h = absurd (omega arith)

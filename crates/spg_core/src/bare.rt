@@ -32,14 +32,14 @@ use crate::plan::{Plan, plan_at};
 use crate::sifting::{copy_slot, sift_slot};
 use crate::slot::{SEATS, Slot, descent_at, free_slots, give_up, kind, set_slot, slot_at};
 use crate::stat::stat_of;
-use crate::sweeping::{sweep_slot, tell_sweeps};
+use crate::sweeping::{are_empty, sweep_slot, tell_sweeps};
 use crate::vacuums::Vacuums;
 use crate::waiting::{scan_seat, vacuum_seat};
 use spg_base::{Memory, Origin, Row, RowSet, Same, SeatNo, Stamp, Stat};
 use spg_descend::open_descent;
 use spg_opclass::{Chosen, OpClass, Parted, Query, Sifted, Started};
 use spg_rows::{Event, Journal, RowState, RowTable, Why};
-use spg_scan::{Closed, ReadOut, Scan, ScanCopy, SiftRefused};
+use spg_scan::{Closed, Liveness, ReadOut, Scan, ScanCopy, SiftRefused};
 use spg_tree::{PageTable, StepRefused, Touched};
 use spg_vacuum::Vacuum;
 use std::alloc::Global;
@@ -491,11 +491,15 @@ impl<O: OpClass> Bare<O> {
         ensures ok { IfOk result (λ out. ReadsItem O.meaning self.old self.new seat item out) }
         ensures err { OnErr result (self.new ≡ self.old) }
     {
+        let liveness = Liveness {
+            table: &self.rows,
+            all_live: are_empty(&self.targets, &self.later),
+        };
         let out = read_slot(
             self.alloc,
             class,
             &self.table,
-            &self.rows,
+            &liveness,
             &mut self.slots,
             seat,
             item,

@@ -1,4 +1,4 @@
-ghost use Rattle.std.specs.Prelude.{◌≡◌, ◌⊎◌, ◌<◌, ◌+◌, ◌^◌, [], ℕ, Option, option_copied, length, slice_set, slice_index_or, IfOk, OnErr, IsErrOf, IfSome, ◌≤◌, vec_capacity};
+ghost use Rattle.std.specs.Prelude.{◌≡◌, true, ◌⊎◌, ◌<◌, ◌+◌, ◌^◌, [], ℕ, Option, option_copied, length, slice_set, slice_index_or, IfOk, OnErr, IsErrOf, IfSome, ◌≤◌, vec_capacity};
 ghost use Rattle.spg_forest.specs.Shape.{Shape};
 ghost use Rattle.spg_rows.specs.Table.{state_in};
 ghost use Rattle.spg_rows.specs.declared.table.RowState.TheVariants as row_state;
@@ -14,6 +14,7 @@ ghost use Rattle.spg_core.specs.Stepping.{IsNearLimit};
 ghost use Rattle.spg_core.specs.Sections.{FindsNoPageFor, TicksFor};
 ghost use Rattle.spg_core.specs.Plans.{PlannedIn};
 ghost use Rattle.spg_scan.specs.Scanning.{IsClosing, emptied};
+ghost use Rattle.spg_scan.specs.Parts.{EntriesLive};
 
 use crate::answer::InsertOut;
 use crate::insert::step;
@@ -24,7 +25,7 @@ use spg_base::{List, Memory, Row, Rows, SeatNo};
 use spg_descend::release_latches;
 use spg_opclass::{OpClass, Parted};
 use spg_rows::RowTable;
-use spg_scan::{Closed, ReadOut, Scan, Walk};
+use spg_scan::{Closed, Liveness, ReadOut, Scan, Walk};
 use spg_tree::{PageTable, StepRefused};
 use std::alloc::Global;
 
@@ -75,7 +76,7 @@ pub(crate) fn read_slot<O: OpClass>(
     alloc: Global,
     class: &O,
     table: &PageTable,
-    rows: &RowTable<O>,
+    liveness: &Liveness<O>,
     slots: &mut Vec<Slot<O>>,
     seat: SeatNo,
     item: usize,
@@ -83,11 +84,12 @@ pub(crate) fn read_slot<O: OpClass>(
     requires seats { length slots.old.items ≡ 64 }
     requires shape { Shape O.meaning (sheets_of table.now) }
     requires scan { CanRead O.meaning table.now (slice_index_or slots.old.items seat kept.Free) item }
-    ensures ok { IfOk result (λ out. ReadsSlot O.meaning table.now rows.now slots.old.items slots.new.items seat item out) }
+    requires live { liveness.now.all_live ≡ true → EntriesLive O.meaning (sheets_of table.now) liveness.now.table.now }
+    ensures ok { IfOk result (λ out. ReadsSlot O.meaning table.now liveness.now.table.now slots.old.items slots.new.items seat item out) }
     ensures err { OnErr result (slots.new.items ≡ slots.old.items) }
 {
     match &mut slots[usize::from(seat.number())] {
-        Slot::Scan(scan) => scan.read(alloc, class, table, rows, item, seat),
+        Slot::Scan(scan) => scan.read_told(alloc, class, table, liveness, item, seat),
         _ => unreachable!(),
     }
 }

@@ -1,6 +1,6 @@
 //! The sections of a vacuum, and how they are told.
-ghost use Rattle.std.specs.Prelude.{◌≡◌, ◌≤◌, ◌+◌, ◌++◌, length, slice_index_or, Contains, IfOk, OnErr};
-ghost use Rattle.std.specs.BTreeSet.{contains};
+ghost use Rattle.std.specs.Prelude.{◌≡◌, ◌≤◌, ◌+◌, ◌++◌, IsTrue, length, slice_index_or, Contains, IfOk, OnErr};
+ghost use Rattle.std.specs.BTreeSet.{contains, IsEmpty};
 ghost use Rattle.spg_base.specs.Row.{RowAt, row_cmp};
 ghost use Rattle.spg_forest.specs.Shape.{Shape};
 ghost use Rattle.spg_cover.specs.Vacuum.{Of};
@@ -21,6 +21,13 @@ use spg_rows::{Event, Journal, RowTable};
 use spg_tree::{PageTable, Touched};
 use spg_vacuum::{Done, Vacuum, Work};
 use std::alloc::Global;
+
+/// Whether neither set has a row.
+pub(crate) fn are_empty(targets: &RowSet, later: &RowSet) -> bool
+    ensures { IsTrue result → IsEmpty targets.now.rows × IsEmpty later.now.rows }
+{
+    targets.is_empty() && later.is_empty()
+}
 
 /// What a section of a vacuum did, the rows that it swept, and where the vacuum opened in the journal.
 #[derive(Drop)]

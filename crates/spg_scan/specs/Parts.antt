@@ -6,21 +6,30 @@ use Rattle.spg_opclass.specs.declared.query.Query.{Query}
 use Rattle.spg_opclass.specs.declared.query.Query.TheVariants.{All, Null, Where}
 use Rattle.spg_forest.specs.View.{Place, Leaf}
 use Rattle.spg_forest.specs.Spot.{Branch}
-use Rattle.spg_forest.specs.Classes.{key_of}
+use Rattle.spg_forest.specs.Classes.{key_of, HasEntry}
 use Rattle.spg_forest.specs.Tuples.{Tuple, Inner, Live, Dead, Redirect, Placeholder}
 use Rattle.spg_forest.specs.Pages.{tuple_on}
-use Rattle.spg_forest.specs.Sheets.{links}
+use Rattle.spg_forest.specs.Sheets.{Sheets, links}
+use Rattle.spg_forest.specs.Shape.{spots}
 use Rattle.spg_forest.specs.Walk.{met_at}
 use Rattle.spg_page.specs.Kinds.{IsOffset, IsLive}
 use Rattle.spg_page.specs.Reads.{frame_in}
 use Rattle.spg_rows.specs.Table as rows
 use Rattle.spg_scan.specs.Items.{Item, held, inner, leaves, IsItem, hold_all}
-use Rattle.spg_scan.specs.Scanning.{Scanning, IsAskedAt, taken_of, replaced}
+use Rattle.spg_scan.specs.Scanning.{Scanning, IsAskedAt, is_live, taken_of, replaced}
 use Rattle.spg_scan.specs.Reading.{followed_at}
 
 -- each leaf has a key with this rebuilt value
 abbrev pub HaveKeys : {Key Recon Cond : Type 0} → Meaning Key Recon Cond → Option Recon → List Leaf → Type 0
 HaveKeys m r ls = Each (λ (l : Leaf). IsSome (key_of m r l.rest)) ls
+
+-- the rows of these leaves are live, where all rows that have an entry are
+abbrev pub AreTold : {O Key Recon Cond : Type 0} → rows.Table O Key Recon Cond → Bool → List Leaf → Type 0
+AreTold table all_live ls = Each (λ (l : Leaf). all_live ≡ true → is_live (rows.state_in table l.row) ≡ true) ls
+
+-- each row that has an entry is live
+abbrev pub EntriesLive : {O Key Recon Cond : Type 0} → Meaning Key Recon Cond → Sheets → rows.Table O Key Recon Cond → Type 0
+EntriesLive {O} {Key} m S table = (row : RowAt) (key : Option Key) → HasEntry m (spots S) row key → is_live (rows.state_in table row) ≡ true
 
 -- only live leaf tuples stand on the page
 abbrev pub AreLive : List Tuple → Type 0

@@ -14,7 +14,7 @@ ghost use Rattle.spg_scan.specs.Reading.{live_leaves};
 ghost use Rattle.spg_scan.specs.Copying.{rests_of};
 ghost use Rattle.spg_scan.specs.Parts.{HaveKeys, AreLive};
 
-use crate::leaves::is_live;
+use crate::liveness::is_live;
 use crate::pending::Kept;
 use spg_base::{Bytes, List, Memory, Offset, Place, Row, Rows, Same};
 use spg_chain::walk_chain;

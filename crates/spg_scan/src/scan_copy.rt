@@ -9,6 +9,7 @@ ghost use Rattle.spg_scan.specs.Parts.{IsPlaceAt, HasPlace, IsMainAt, is_where};
 ghost use Rattle.spg_scan.specs.Copying.{kept_copy, IsCopyOf, IsCopying, IsCopyOut, IsPlaceOut};
 
 use crate::copying::{Copying, copy_chain, copy_inner, copy_page};
+use crate::liveness::Liveness;
 use crate::pending::{Pending, hand_out};
 use crate::scan::Scan;
 use crate::scan_walk::held_by_other;
@@ -173,7 +174,7 @@ impl<O: OpClass> Scan<O> {
         match self.copy_place(table, rows, item, place)? {
             Some(copying) => Ok(ScanCopy::Sift(self.keep(item, copying)?)),
             None => {
-                self.read_at(alloc, None, table, rows, item, place)?;
+                self.read_at(alloc, None, table, &Liveness::of(rows), item, place)?;
                 Ok(ScanCopy::Read)
             }
         }

@@ -1,10 +1,11 @@
 // A scan is a walk.
-ghost use Rattle.std.specs.Prelude.{◌≡◌, ◌<◌, length, IfOk, OnErr};
+ghost use Rattle.std.specs.Prelude.{◌≡◌, ◌<◌, true, length, IfOk, OnErr};
 ghost use Rattle.spg_forest.specs.Shape.{Shape};
 ghost use Rattle.spg_tree.specs.Table.{latch_at, sheets_of};
 ghost use Rattle.spg_scan.specs.Reading.{IsHeld, IsReadOut};
-ghost use Rattle.spg_scan.specs.Parts.{HasPlace, other_than};
+ghost use Rattle.spg_scan.specs.Parts.{HasPlace, EntriesLive, other_than};
 
+use crate::liveness::Liveness;
 use crate::scan::Scan;
 use crate::walk::{Closed, ReadOut, Walk};
 use spg_base::{Block, List, Memory, SeatNo};
@@ -31,15 +32,16 @@ impl<O: OpClass> Scan<O> {
         alloc: Global,
         class: &O,
         table: &PageTable,
-        rows: &RowTable<O>,
+        liveness: &Liveness<O>,
         item: usize,
         seat: SeatNo,
     ) -> Result<ReadOut, Memory>
         requires shape { Shape O.meaning (sheets_of table.now) }
         requires item { item < length self.old.items }
         requires held { IsHeld O.meaning (sheets_of table.now) self.old item }
+        requires live { liveness.now.all_live ≡ true → EntriesLive O.meaning (sheets_of table.now) liveness.now.table.now }
         requires place { HasPlace self.old.items item }
-        ensures ok { IfOk result (λ out. IsReadOut O.meaning table.now rows.now self.old self.new item seat out) }
+        ensures ok { IfOk result (λ out. IsReadOut O.meaning table.now liveness.now.table.now self.old self.new item seat out) }
         ensures err { OnErr result (self.new ≡ self.old) }
     {
         let place = self.place_at(item);
@@ -47,9 +49,36 @@ impl<O: OpClass> Scan<O> {
         match held_by_other(table, block, seat) {
             Some(by) => Ok(ReadOut::Latched { block, by }),
             None => {
-                self.read_at(alloc, Some(*class), table, rows, item, place)?;
+                self.read_at(alloc, Some(*class), table, liveness, item, place)?;
                 Ok(ReadOut::Read)
             }
+        }
+    }
+
+    /// Reads a held item, as `Walk::read` does. Where it is told that each row that has an entry is
+    /// live, it looks up none.
+    pub fn read_told(
+        &mut self,
+        alloc: Global,
+        class: &O,
+        table: &PageTable,
+        liveness: &Liveness<O>,
+        item: usize,
+        seat: SeatNo,
+    ) -> Result<ReadOut, Memory>
+        requires shape { Shape O.meaning (sheets_of table.now) }
+        requires item { item < length self.old.items }
+        requires held { IsHeld O.meaning (sheets_of table.now) self.old item }
+        requires live { liveness.now.all_live ≡ true → EntriesLive O.meaning (sheets_of table.now) liveness.now.table.now }
+        ensures ok { IfOk result (λ out. IsReadOut O.meaning table.now liveness.now.table.now self.old self.new item seat out) }
+        ensures err { OnErr result (self.new ≡ self.old) }
+    {
+        match self.copy_of(item)? {
+            Some(copied) => {
+                self.read_copy(alloc, class, item, copied)?;
+                Ok(ReadOut::Read)
+            }
+            None => self.read_held(alloc, class, table, liveness, item, seat),
         }
     }
 }
@@ -70,13 +99,7 @@ impl<O: OpClass> Walk<O> for Scan<O> {
         item: usize,
         seat: SeatNo,
     ) -> Result<ReadOut, Memory> {
-        match self.copy_of(item)? {
-            Some(copied) => {
-                self.read_copy(alloc, class, item, copied)?;
-                Ok(ReadOut::Read)
-            }
-            None => self.read_held(alloc, class, table, rows, item, seat),
-        }
+        self.read_told(alloc, class, table, &Liveness::of(rows), item, seat)
     }
 
     fn close(&mut self) -> Result<Closed, Memory> {

@@ -7,7 +7,7 @@ use Rattle.spg_core.specs.Sections.{ReadsFor}
 use Rattle.spg_core.specs.Kept.{IsState}
 use Rattle.spg_core.proofs.Slots.{stage_is, seen_as}
 use Rattle.spg_core.proofs.Steps.{with_fields, fits, kept_same}
-use Rattle.spg_core.proofs.Scans.{can_read, kept_reads, reads_seen}
+use Rattle.spg_core.proofs.Scans.{entries_live, can_read, kept_reads, reads_seen}
 use Rattle.spg_core.proofs.bare.Bare.scan_read.Goals as goal
 
 pub read_slot-requires-clause-scan : goal.read_slot-requires-clause-scan
@@ -16,6 +16,9 @@ read_slot-requires-clause-scan g c =
     let s = c.self.inside in
     let seat = c.args.seat in
     can_read m s c.self.invariant seat (get_or s.slots.items seat Free) c.args.item (fits m s c.self.invariant seat) (subst (λ st. c.args.item < held_count st) (stage_is s c.args.self.now c.self.view_is seat) c.requires.held)
+
+pub read_slot-requires-clause-live : goal.read_slot-requires-clause-live
+read_slot-requires-clause-live g c = λ on. let (a, b) = c.are_empty.ensures on in entries_live g.O.OpClass.meaning c.self.inside c.self.invariant c.args.seat a b
 
 pub invariant_of-self : goal.invariant_of-self
 invariant_of-self g c = kept_same g.O.OpClass.meaning c.self.inside c.self.invariant c.self.inside.table c.read_slot.new.slots refl c.in_err-out.ensures.err

@@ -1,5 +1,6 @@
 use Rattle.std.proofs.Common.{subst}
 use Rattle.spg_tree.specs.Table.{sheets_of}
+use Rattle.spg_scan.specs.Reading.{Reads}
 use Rattle.spg_scan.specs.Copying.{IsCopying}
 use Rattle.spg_scan.proofs.Outcomes.{made, plain, none_asked}
 use Rattle.spg_scan.proofs.scan.Scan.copy_at.Goals as goal
@@ -18,5 +19,5 @@ pub returns-in_ok-read_at-in-None-clause-ok : goal.returns-in_ok-read_at-in-None
 returns-in_ok-read_at-in-None-clause-ok g c = (
   plain c.args.self.now c.args.item g.O.OpClass.meaning (sheets_of c.args.table.now) c.args.rows.now c.read_at.new.self c.args.place c.requires.place
       (subst (λ z. IsCopying (sheets_of c.args.table.now) c.args.rows.now c.args.self.now c.args.item z) c.in-None.is c.in_ok-copying.ensures),
-  c.in_ok-read_at-in-None.ensures.ok,
+  subst (λ t. Reads g.O.OpClass.meaning (sheets_of c.args.table.now) t c.args.self.now c.read_at.new.self c.args.item) c.of.ensures.table c.in_ok-read_at-in-None.ensures.ok,
 )
