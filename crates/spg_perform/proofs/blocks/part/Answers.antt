@@ -17,7 +17,7 @@ returns-then-block-clause-leads g c = λ number.
     (subst (λ (ls : List (List Command)). LeadsOn m speech code (standing c.args.state held faults c.args.book.now.records) (standing c.together.result held faults c.together.new.book.records) (lanes_tasks number 0 false ls)) c.as_slice.ensures (c.together.ensures.leads number held faults))
 
 pub together-requires-clause-can : goal.together-requires-clause-can
-together-requires-clause-can g c =
+together-requires-clause-can g c κs within =
     subst (λ (ls : List (List Command)). All (λ (lane : List Command). All (CanBeDone g.O.Spoken.speech false) lane) ls) (sym c.as_slice.ensures)
     (subst (λ (t : Bool). All (λ (lane : List Command). All (CanBeDone g.O.Spoken.speech (not t)) lane) c.args.block.now.lanes) c.if-block.true c.requires.can.each)
 

@@ -13,7 +13,7 @@ part-state-requires-clause-room g c =
     omega (arith, parts_left c.args.blocks.now c.loop-block.block-index c.block-item.result next, c.loop-block.invariant.room)
 
 pub part-state-requires-clause-can : goal.part-state-requires-clause-can
-part-state-requires-clause-can g c =
+part-state-requires-clause-can g c κs within =
     subst (λ (p : Part). CanBlock g.O.Spoken.speech p) (sym c.block-item.is) (All-get_or (CanBlock g.O.Spoken.speech) c.args.blocks.now c.loop-block.block-index c.block-item.result c.loop-block-test.true c.requires.can)
 
 pub loop-block-preserved : goal.loop-block-preserved
