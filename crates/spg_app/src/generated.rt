@@ -13,30 +13,40 @@ use spg_core::State;
 use spg_histories::Status;
 use spg_io::{Images, Sink};
 use spg_kd::Kd;
-use spg_perform::perform;
+use spg_opclass::SharedClass;
+use spg_perform::{Gate, perform};
 use spg_quad::Quad;
 use spg_radix::Radix;
 use spg_script::{ClassName, Script, Spoken, generate};
-use std::alloc::Global;
+use std::sync::Wait;
+use std::thread::Threads;
 
 /// Does the commands of a generated script on a new state of the usual limit, then writes the summary
 /// of the run. There is no state where memory was wanting before the first command.
-fn run_load<O: Spoken, K: Sink, M: Images>(
-    alloc: Global,
+fn run_load<
+    R: AllocGlobal + Threads + Wait + Sync,
+    O: Spoken + SharedClass,
+    K: Sink,
+    M: Images,
+    G: Gate,
+>(
+    rt: &R,
     class: O,
     script: &Script,
     out: &mut K,
     images: &mut M,
+    gate: &G,
 ) -> (Status, Option<State<O>>)
     requires of_class { IsOfClass O.speech script.now.class }
     ensures { EndsLoad O.meaning O.speech O.code_number script.now
         (outlets (K.contents out.old) (K.contents out.new) (K.faults out.old) (K.faults out.new)
         (M.held images.old) (M.held images.new) (M.faults images.old) (M.faults images.new)) result.0 result.1 }
 {
+    let alloc = rt.alloc();
     let Ok(state) = State::new(alloc, class, USUAL_PAGES) else {
         return (Status::Memory, None);
     };
-    match perform(alloc, state, script, images) {
+    match perform(rt, state, script, images, gate) {
         Ok((state, records)) => {
             let events = state.journal().as_slice();
             let written = write_summary(alloc, events, records.as_slice(), out);
@@ -47,23 +57,30 @@ fn run_load<O: Spoken, K: Sink, M: Images>(
 }
 
 /// Makes the script of a load, does its commands and writes the summary of the run.
-pub fn run_generated<K: Sink, M: Images>(
-    alloc: Global,
+pub fn run_generated<R: AllocGlobal + Threads + Wait + Sync, K: Sink, M: Images, G: Gate>(
+    rt: &R,
     load: Load,
     out: &mut K,
     images: &mut M,
+    gate: &G,
 ) -> (Status, Option<EndState>)
     requires { IsLoad load }
     ensures { IsGen load
         (outlets (K.contents out.old) (K.contents out.new) (K.faults out.old) (K.faults out.new)
         (M.held images.old) (M.held images.new) (M.faults images.old) (M.faults images.new)) result.0 result.1 }
 {
-    let Ok(script) = generate(alloc, load.count, load.seed, load.lanes as u8, load.class) else {
+    let Ok(script) = generate(
+        rt.alloc(),
+        load.count,
+        load.seed,
+        load.lanes as u8,
+        load.class,
+    ) else {
         return (Status::Memory, None);
     };
     match load.class {
-        ClassName::Quad => quad_ended(run_load(alloc, Quad, &script, out, images)),
-        ClassName::Kd => kd_ended(run_load(alloc, Kd, &script, out, images)),
-        ClassName::Radix => radix_ended(run_load(alloc, Radix, &script, out, images)),
+        ClassName::Quad => quad_ended(run_load(rt, Quad, &script, out, images, gate)),
+        ClassName::Kd => kd_ended(run_load(rt, Kd, &script, out, images, gate)),
+        ClassName::Radix => radix_ended(run_load(rt, Radix, &script, out, images, gate)),
     }
 }

@@ -15,3 +15,4 @@ mod writing;
 pub use end_state::EndState;
 pub use program::run;
 pub use spg_histories::Status;
+pub use spg_perform::Gate;

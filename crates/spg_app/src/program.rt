@@ -15,10 +15,13 @@ use crate::words::limit_of;
 use spg_histories::Status;
 use spg_io::{Images, Sink, Source};
 use spg_kd::Kd;
+use spg_perform::Gate;
 use spg_quad::Quad;
 use spg_radix::Radix;
 use spg_script::{ClassName, Script, ScriptRefused, parse};
 use std::alloc::Global;
+use std::sync::Wait;
+use std::thread::Threads;
 
 /// The script of a source, or the answer where there is none.
 fn read_script<S: Source>(alloc: Global, source: &mut S) -> Result<Script, Status>
@@ -39,12 +42,13 @@ fn read_script<S: Source>(alloc: Global, source: &mut S) -> Result<Script, Statu
 }
 
 /// Reads a script, does its commands and writes the text of the run.
-fn run_script<S: Source, K: Sink, M: Images>(
-    alloc: Global,
+fn run_script<R: AllocGlobal + Threads + Wait + Sync, S: Source, K: Sink, M: Images, G: Gate>(
+    rt: &R,
     limit: u32,
     source: &mut S,
     out: &mut K,
     images: &mut M,
+    gate: &G,
 ) -> (Status, Option<EndState>)
     requires from { 4 ≤ limit }
     requires to { limit ≤ 131072 }
@@ -52,14 +56,14 @@ fn run_script<S: Source, K: Sink, M: Images>(
         (outlets (K.contents out.old) (K.contents out.new) (K.faults out.old) (K.faults out.new)
         (M.held images.old) (M.held images.new) (M.faults images.old) (M.faults images.new)) result.0 result.1 }
 {
-    let script = match read_script(alloc, source) {
+    let script = match read_script(rt.alloc(), source) {
         Ok(script) => script,
         Err(status) => return (status, None),
     };
     match script.class() {
-        ClassName::Quad => quad_ended(run_commands(alloc, Quad, limit, &script, out, images)),
-        ClassName::Kd => kd_ended(run_commands(alloc, Kd, limit, &script, out, images)),
-        ClassName::Radix => radix_ended(run_commands(alloc, Radix, limit, &script, out, images)),
+        ClassName::Quad => quad_ended(run_commands(rt, Quad, limit, &script, out, images, gate)),
+        ClassName::Kd => kd_ended(run_commands(rt, Kd, limit, &script, out, images, gate)),
+        ClassName::Radix => radix_ended(run_commands(rt, Radix, limit, &script, out, images, gate)),
     }
 }
 
@@ -67,18 +71,21 @@ fn run_script<S: Source, K: Sink, M: Images>(
 /// to the sink; what the script saves goes to the images. The words are `run`, `run --limit N` or
 /// `run --limit=N`, with N from 4 to 131,072 pages; without it N is 65,536. Or they are `gen COUNT SEED`
 /// with the options `--lanes N` and `--class C`: the script is the generated one, nothing is read, and
-/// the summary of the run is written. `Usage` comes exactly where they are none of these. `ReadFault` comes only where the source failed. `BadScript(n)` comes
+/// the summary of the run is written. `Usage` comes exactly where they are none of these. Lanes run
+/// beside each other, and each asks the gate before each of its commands. `ReadFault` comes only where
+/// the source failed. `BadScript(n)` comes
 /// exactly where the bytes are no script, and line `n`, counted from 1, is the first at which none can
 /// go on; `BadScript(0)` exactly where there are more than 67,108,864 bytes. Nothing is written then.
 /// Once the commands have begun the state after the last one is handed back, and the status is the
 /// first of these that applies: `WriteFault` where the sink failed, `Memory` where there was none for
 /// writing, `ImageFault` and `Memory` where a record says so, else `Done`.
-pub fn run<R: AllocGlobal, S: Source, K: Sink, M: Images>(
+pub fn run<R: AllocGlobal + Threads + Wait + Sync, S: Source, K: Sink, M: Images, G: Gate>(
     rt: &R,
     words: &[String],
     script: &mut S,
     out: &mut K,
     images: &mut M,
+    gate: &G,
 ) -> (Status, Option<EndState>)
     // Each answer, with its cause.
     ensures answer { IsAnswer (map string_bytes words.now) (streams (S.left script.old) (S.left script.new) (S.faults script.old) (S.faults script.new))
@@ -105,10 +112,10 @@ pub fn run<R: AllocGlobal, S: Source, K: Sink, M: Images>(
         → (result.0 ≡ Status.Done) ⊎ (result.0 ≡ Status.Memory) }
 {
     if let Some(limit) = limit_of(words) {
-        return run_script(rt.alloc(), limit, script, out, images);
+        return run_script(rt, limit, script, out, images, gate);
     }
     match load_of(words) {
-        Some(load) => run_generated(rt.alloc(), load, out, images),
+        Some(load) => run_generated(rt, load, out, images, gate),
         None => (Status::Usage, None),
     }
 }

@@ -7,10 +7,12 @@ use crate::writing::write_text;
 use spg_core::State;
 use spg_histories::Status;
 use spg_io::{Images, IoRefused, Sink};
-use spg_perform::perform;
+use spg_opclass::SharedClass;
+use spg_perform::{Gate, perform};
 use spg_report::{Outcome, Record};
 use spg_script::{Script, Spoken};
-use std::alloc::Global;
+use std::sync::Wait;
+use std::thread::Threads;
 
 fn is_fault(outcome: &Outcome) -> bool
     ensures { result ≡ is_fault outcome.now }
@@ -70,13 +72,20 @@ pub fn status_after(written: Result<(), IoRefused>, records: &[Record]) -> Statu
 /// Does the commands of a script on a new state of at most so many pages, then writes the text of the
 /// run. The state after the last command is handed back; there is none where memory was wanting before
 /// the first one.
-pub fn run_commands<O: Spoken, K: Sink, M: Images>(
-    alloc: Global,
+pub fn run_commands<
+    R: AllocGlobal + Threads + Wait + Sync,
+    O: Spoken + SharedClass,
+    K: Sink,
+    M: Images,
+    G: Gate,
+>(
+    rt: &R,
     class: O,
     limit: u32,
     script: &Script,
     out: &mut K,
     images: &mut M,
+    gate: &G,
 ) -> (Status, Option<State<O>>)
     requires of_class { IsOfClass O.speech script.now.class }
     requires from { 4 ≤ limit }
@@ -85,10 +94,11 @@ pub fn run_commands<O: Spoken, K: Sink, M: Images>(
         (outlets (K.contents out.old) (K.contents out.new) (K.faults out.old) (K.faults out.new)
         (M.held images.old) (M.held images.new) (M.faults images.old) (M.faults images.new)) result.0 result.1 }
 {
+    let alloc = rt.alloc();
     let Ok(state) = State::new(alloc, class, limit) else {
         return (Status::Memory, None);
     };
-    match perform(alloc, state, script, images) {
+    match perform(rt, state, script, images, gate) {
         Ok((state, records)) => {
             let events = state.journal().as_slice();
             let written = write_text(alloc, state.class(), events, records.as_slice(), out);

@@ -6,6 +6,7 @@ use Rattle.spg_script.specs.declared.part.Part.{Part}
 use Rattle.spg_histories.specs.Tasks.{Task, lane_tasks, lanes_tasks, parts_tasks}
 use Rattle.spg_histories.proofs.Calls.{calls_compose}
 use Rattle.spg_perform.specs.Acted.{task_of}
+use Rattle.spg_perform.proofs.Tasks.{lane_more, lanes_more, lane_length, lanes_length, parts_length}
 
 -- the item at an index
 pub record IsNext {X : Type 0} (xs : List X) (i : ℕ) (x : X) : Type 0 where
@@ -16,65 +17,27 @@ module _ {X : Type 0} where
   pub next_in : (xs ys : List X) (i : ℕ) (x : X) → xs ≡ ys → i < length xs → x ≡ get_or xs i x → IsNext ys i x
   next_in xs ys i x same within here = record { within = omega (arith, ap length same); here = here ∙ ap (λ (l : List X). get_or l i x) same }
 
-  up_to_next : (xs : List X) (i : ℕ) (x : X) → IsNext xs i x → take (i + 1) xs ≡ take i xs ++ x ∷ []
+  pub up_to_next : (xs : List X) (i : ℕ) (x : X) → IsNext xs i x → take (i + 1) xs ≡ take i xs ++ x ∷ []
   up_to_next xs i x next = take_more xs i x next.within ∙ ap (λ (y : X). take i xs ++ y ∷ []) (sym next.here)
 
 -- ---- in order
 
-lane_push : (block seat : ℕ) (alone : Bool) (commands : List Command) (c : Command) → lane_tasks block seat alone (commands ++ c ∷ []) ≡ lane_tasks block seat alone commands ++ task_of block seat alone c ∷ []
-lane_push block seat alone [] c = refl
-lane_push block seat alone (d ∷ commands) c = ap (λ (ts : List Task). task_of block seat alone d ∷ ts) (lane_push block seat alone commands c)
-
-lanes_push : (block seat : ℕ) (alone : Bool) (lanes : List (List Command)) (lane : List Command) → lanes_tasks block seat alone (lanes ++ lane ∷ []) ≡ lanes_tasks block seat alone lanes ++ lane_tasks block (seat + length lanes) alone lane
-lanes_push block seat alone [] lane = let same : seat ≡ seat + 0 = omega arith in append-nil (lane_tasks block seat alone lane) ∙ ap (λ (n : ℕ). lane_tasks block n alone lane) same
-lanes_push block seat alone (first ∷ lanes) lane =
-    let same : (seat + 1) + length lanes ≡ seat + suc (length lanes) = omega arith in
-    ap (λ (ts : List Task). lane_tasks block seat alone first ++ ts) (lanes_push block (seat + 1) alone lanes lane ∙ ap (λ (n : ℕ). lanes_tasks block (seat + 1) alone lanes ++ lane_tasks block n alone lane) same)
-    ∙ sym (append_assoc (lane_tasks block seat alone first) (lanes_tasks block (seat + 1) alone lanes) (lane_tasks block (seat + suc (length lanes)) alone lane))
-
 pub lane_next : (block seat : ℕ) (alone : Bool) (commands : List Command) (i : ℕ) (c : Command) → IsNext commands i c
     → lane_tasks block seat alone (take (i + 1) commands) ≡ lane_tasks block seat alone (take i commands) ++ task_of block seat alone c ∷ []
-lane_next block seat alone commands i c next = ap (lane_tasks block seat alone) (up_to_next commands i c next) ∙ lane_push block seat alone (take i commands) c
+lane_next block seat alone commands i c next = ap (lane_tasks block seat alone) (up_to_next commands i c next) ∙ lane_more block seat alone (take i commands) c
 
 pub lanes_next : (block : ℕ) (alone : Bool) (lanes : List (List Command)) (i : ℕ) (lane : List Command) → IsNext lanes i lane
     → lanes_tasks block 0 alone (take (i + 1) lanes) ≡ lanes_tasks block 0 alone (take i lanes) ++ lane_tasks block i alone lane
 lanes_next block alone lanes i lane next =
     let seat : 0 + length (take i lanes) ≡ i = omega (arith, length-take-le i lanes (omega (arith, next.within))) in
-    ap (lanes_tasks block 0 alone) (up_to_next lanes i lane next) ∙ lanes_push block 0 alone (take i lanes) lane ∙ ap (λ (n : ℕ). lanes_tasks block 0 alone (take i lanes) ++ lane_tasks block n alone lane) seat
+    ap (lanes_tasks block 0 alone) (up_to_next lanes i lane next) ∙ lanes_more block 0 alone (take i lanes) lane ∙ ap (λ (n : ℕ). lanes_tasks block 0 alone (take i lanes) ++ lane_tasks block n alone lane) seat
 
 pub parts_next : (parts : List Part) (i : ℕ) (p : Part) → IsNext parts i p → parts_tasks 0 (take (i + 1) parts) ≡ parts_tasks 0 (take i parts) ++ lanes_tasks i 0 (not p.together) p.lanes
 parts_next parts i p next =
     let number : 0 + length (take i parts) ≡ i = omega (arith, length-take-le i parts (omega (arith, next.within))) in
     ap (parts_tasks 0) (up_to_next parts i p next) ∙ (calls_compose (Unit {0}) (Unit {0}) (Unit {0}) (Unit {0})).tasks 0 (take i parts) p ∙ ap (λ (n : ℕ). parts_tasks 0 (take i parts) ++ lanes_tasks n 0 (not p.together) p.lanes) number
 
--- ---- how many there are, whatever their blocks and seats
-
-lane_long : (block seat : ℕ) (alone : Bool) (commands : List Command) → length (lane_tasks block seat alone commands) ≡ length commands
-lane_long block seat alone [] = refl
-lane_long block seat alone (c ∷ commands) = ap suc (lane_long block seat alone commands)
-
-lanes_long : (block seat : ℕ) (alone : Bool) (block2 seat2 : ℕ) (alone2 : Bool) (lanes : List (List Command)) → length (lanes_tasks block seat alone lanes) ≡ length (lanes_tasks block2 seat2 alone2 lanes)
-lanes_long block seat alone block2 seat2 alone2 [] = refl
-lanes_long block seat alone block2 seat2 alone2 (lane ∷ lanes) =
-    omega (
-      arith,
-      length-append (lane_tasks block seat alone lane) (lanes_tasks block (seat + 1) alone lanes),
-      length-append (lane_tasks block2 seat2 alone2 lane) (lanes_tasks block2 (seat2 + 1) alone2 lanes),
-      lane_long block seat alone lane,
-      lane_long block2 seat2 alone2 lane,
-      lanes_long block (seat + 1) alone block2 (seat2 + 1) alone2 lanes,
-    )
-
-parts_long : (block block2 : ℕ) (parts : List Part) → length (parts_tasks block parts) ≡ length (parts_tasks block2 parts)
-parts_long block block2 [] = refl
-parts_long block block2 (p ∷ parts) =
-    omega (
-      arith,
-      length-append (lanes_tasks block 0 (not p.together) p.lanes) (parts_tasks (block + 1) parts),
-      length-append (lanes_tasks block2 0 (not p.together) p.lanes) (parts_tasks (block2 + 1) parts),
-      lanes_long block 0 (not p.together) block2 0 (not p.together) p.lanes,
-      parts_long (block + 1) (block2 + 1) parts,
-    )
+-- ---- how many are left
 
 -- those of a lane, and of the lanes after it
 pub lanes_left : (lanes : List (List Command)) (i : ℕ) (lane : List Command) → IsNext lanes i lane
@@ -83,7 +46,7 @@ lanes_left lanes i lane next =
     let rest = drop (i + 1) lanes in
     at_drop_more (λ (l : List (List Command)). length (lanes_tasks 0 0 true l)) lanes i lane next.within ∙ ap (λ (l : List Command). length (lanes_tasks 0 0 true (l ∷ rest))) (sym next.here)
     ∙ length-append (lane_tasks 0 0 true lane) (lanes_tasks 0 1 true rest)
-    ∙ ap (λ (n : ℕ). n + length (lanes_tasks 0 1 true rest)) (lane_long 0 0 true lane) ∙ ap (λ (n : ℕ). length lane + n) (lanes_long 0 1 true 0 0 true rest)
+    ∙ ap (λ (n : ℕ). n + length (lanes_tasks 0 1 true rest)) (lane_length 0 0 true lane) ∙ ap (λ (n : ℕ). length lane + n) (lanes_length 0 1 true 0 0 true rest)
 
 -- those of a block, and of the blocks after it
 pub parts_left : (parts : List Part) (i : ℕ) (p : Part) → IsNext parts i p
@@ -92,4 +55,4 @@ parts_left parts i p next =
     let rest = drop (i + 1) parts in
     at_drop_more (λ (l : List Part). length (parts_tasks 0 l)) parts i p next.within ∙ ap (λ (q : Part). length (parts_tasks 0 (q ∷ rest))) (sym next.here)
     ∙ length-append (lanes_tasks 0 0 (not p.together) p.lanes) (parts_tasks 1 rest)
-    ∙ ap (λ (n : ℕ). n + length (parts_tasks 1 rest)) (lanes_long 0 0 (not p.together) 0 0 true p.lanes) ∙ ap (λ (n : ℕ). length (lanes_tasks 0 0 true p.lanes) + n) (parts_long 1 0 rest)
+    ∙ ap (λ (n : ℕ). n + length (parts_tasks 1 rest)) (lanes_length 0 0 (not p.together) 0 0 true p.lanes) ∙ ap (λ (n : ℕ). length (lanes_tasks 0 0 true p.lanes) + n) (parts_length 1 0 rest)

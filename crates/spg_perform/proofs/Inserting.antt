@@ -32,20 +32,10 @@ use Rattle.spg_histories.specs.Telling.{TellsOf, LeafIs}
 use Rattle.spg_histories.specs.Causes.{IsDue, IsCaused, GrewInto, PrintsPages}
 use Rattle.spg_perform.specs.Acted.{Acts, task_of}
 use Rattle.spg_perform.specs.Underway.{HasOutgrown}
+use Rattle.spg_perform.proofs.Keys.{same_null}
 use Rattle.spg_perform.proofs.Lists.{two_events}
 use Rattle.spg_perform.proofs.Rows.{unclaimed}
 use Rattle.spg_perform.proofs.Acting.{Spans, acts, rests, grew_as, grew_into, grew_then}
-
--- a null is the class's null
-some_key : {Key : Type 0} (found : Option Key) (k : Option Key) → option_map (λ x. Some x) found ≡ Some k → is_none k ≡ false
-some_key None k is = (cc)
-some_key (Some x) None is = (cc)
-some_key (Some x) (Some y) is = refl
-
-same_null : {Key Cond : Type 0} (speech : Speech Key Cond) (key : Option AnyKey) (k : Option Key) → key_or_null_in speech key ≡ Some k → is_none k ≡ is_none key
-same_null speech None None is = refl
-same_null speech None (Some x) is = (cc)
-same_null speech (Some key) k is = some_key (speech.key_in key) k is
 
 -- the clock's end, seen from later pages
 at_end : (t t2 : Table) → t2.clock ≡ t.clock → t.clock + 1 ≡ 2 ^ 48 → 2 ^ 48 ≤ t2.clock + 1

@@ -1,4 +1,5 @@
 pub mod Lists
+pub mod Keys
 pub mod Alone
 pub mod Going
 pub mod Rows
@@ -23,3 +24,10 @@ pub mod LeadingCommand
 pub mod BlocksTasks
 pub mod BlocksLeading
 pub mod Beginning
+pub mod LaneCalls
+pub mod LaneTold
+pub mod LaneRuns
+pub mod Gathers
+pub mod Besides
+pub mod Refusing
+pub mod TogetherLeads

@@ -3,3 +3,5 @@ pub mod Acted
 pub mod Saved
 pub mod Underway
 pub mod Noted
+pub mod Lanes
+pub mod Posts

@@ -1,4 +1,5 @@
-//! The commands of a script, done on the state one after another.
+//! The commands of a script, done on the state: those of lanes beside each other, all others one after
+//! another.
 #![tactic(auto)]
 
 mod asking;
@@ -6,13 +7,20 @@ mod blocks;
 mod book;
 mod command;
 mod count;
+mod dealing;
 mod delete;
 mod find;
+mod gate;
+mod gathering;
 mod insert;
+mod lane;
 mod position;
+mod post;
 mod save;
 mod script;
 mod stat;
+mod together;
 mod vacuum;
 
+pub use gate::Gate;
 pub use script::perform;

@@ -6,6 +6,10 @@ mod every_line;
 #[cfg(test)]
 mod faults;
 #[cfg(test)]
+mod lanes;
+#[cfg(test)]
+mod loads;
+#[cfg(test)]
 mod long_texts;
 #[cfg(test)]
 mod program;

@@ -1,8 +1,10 @@
-use spg_app::{Status, run};
+use spg_app::{Gate, Status, run};
 use spg_base::{Bytes, List};
 use spg_io::{FaultyImages, FaultySink, FaultySource};
 use std::alloc::{AllocError, Global};
+use std::sync::Wait;
 use std::test::Fail;
+use std::thread::Threads;
 
 /// The most bytes of a read.
 const MOST: usize = 40;
@@ -50,19 +52,37 @@ fn one_call<R: AllocGlobal>(rt: &R, call: u64) -> Result<List<u64>, Fail> {
     Ok(calls)
 }
 
+/// A gate at which no lane waits.
+pub(crate) struct Open;
+
+impl Gate for Open {
+    fn at<R: Wait>(&self, _rt: &R, _lane: u8, _command: u32) {}
+}
+
 /// Runs the program on a script.
-pub(crate) fn ran(
-    rt: &HostRuntime,
+pub(crate) fn ran<R: AllocGlobal + Threads + Wait + Sync>(
+    rt: &R,
     words: &[&str],
     script: &[u8],
     fails: Fails,
+) -> Result<Ended, Fail> {
+    ran_by(rt, words, script, fails, &Open)
+}
+
+/// Runs the program on a script whose lanes ask a gate.
+pub(crate) fn ran_by<R: AllocGlobal + Threads + Wait + Sync, G: Gate>(
+    rt: &R,
+    words: &[&str],
+    script: &[u8],
+    fails: Fails,
+    gate: &G,
 ) -> Result<Ended, Fail> {
     let script = Bytes::copy(rt.alloc(), script)?;
     let mut source = FaultySource::new(script, MOST, one_call(rt, fails.read)?);
     let mut sink = FaultySink::new(rt.alloc(), one_call(rt, fails.write)?);
     let mut images = FaultyImages::new(rt.alloc(), one_call(rt, fails.image)?);
     let words = owned(rt, words)?;
-    let (status, _state) = run(rt, &words, &mut source, &mut sink, &mut images);
+    let (status, _state) = run(rt, &words, &mut source, &mut sink, &mut images, gate);
     Ok(Ended {
         status,
         text: sink.taken().to_vec(rt.alloc())?,
@@ -81,7 +101,10 @@ pub(crate) fn joined(alloc: Global, lines: &[&str]) -> Result<String, AllocError
 }
 
 /// Runs the program on a script of these lines.
-pub(crate) fn ran_lines(rt: &HostRuntime, lines: &[&str]) -> Result<Ended, Fail> {
+pub(crate) fn ran_lines<R: AllocGlobal + Threads + Wait + Sync>(
+    rt: &R,
+    lines: &[&str],
+) -> Result<Ended, Fail> {
     let script = joined(rt.alloc(), lines)?;
     ran(rt, &run_word(), script.as_bytes(), no_fails())
 }

@@ -59,7 +59,7 @@ const RUNS: [(&[u8], &[u8]); 16] = [
         b"1 0 2 added\n2 2 4 found 1 1.1\njournal 4\n0 0 open insert 1.1 0,0\n1 0 put 1.1\n2 0 open scan all\n3 0 close scan 1\n",
     ),
     (
-        b"class quad\ninsert 1.1 1,1\ntogether\nlane\ninsert 1.2 2,2\nfind all\ninsert 1.2 0,0\nlane\ndelete 1.1\nfind null\nlane\nend\nfind all\n",
+        b"class quad\ninsert 1.1 1,1\ntogether\nlane\ninsert 1.2 2,2\nfind all\ninsert 1.2 0,0\nend\ntogether\nlane\nlane\ndelete 1.1\nfind null\nlane\nend\nfind all\n",
         b"1 0 2 added\n2 2 4 added\n3 4 6 found 2 1.1 1.2\n4 6 6 row used\n5 6 7 killed\n6 7 9 found 0\n7 9 11 found 1 walk 2 1.2\njournal 11\n0 0 open insert 1.1 1,1\n1 0 put 1.1\n2 0 open insert 1.2 2,2\n3 0 put 1.2\n4 0 open scan all\n5 0 close scan 2\n6 1 kill 1.1\n7 1 open scan null\n8 1 close scan 0\n9 0 open scan all\n10 0 close scan 1\n",
     ),
 ];

@@ -3,7 +3,7 @@ use spg_app::Status;
 use std::test::Fail;
 
 /// Words that are no line of the program.
-const REFUSED: [&[&str]; 27] = [
+const REFUSED: [&[&str]; 44] = [
     &[],
     &["run", "--limit", "3"],
     &["run", "--limit", "05"],
@@ -28,7 +28,24 @@ const REFUSED: [&[&str]; 27] = [
     &["run", "--limit", "5", "fast"],
     &["run", "--limit=5", "--limit=5"],
     &["--limit", "5", "run"],
+    &["gen"],
     &["gen", "3000"],
+    &["gen", "3000", "7", "1"],
+    &["gen", "200001", "7"],
+    &["gen", "3000", "1000000"],
+    &["gen", "03000", "7"],
+    &["gen", "3000", "-7"],
+    &["gen", "--", "3000", "7"],
+    &["gen", "3000", "7", "--lanes"],
+    &["gen", "3000", "7", "--lanes", "0"],
+    &["gen", "3000", "7", "--lanes=17"],
+    &["gen", "3000", "7", "--lanes=2", "--lanes=2"],
+    &["gen", "3000", "7", "--class"],
+    &["gen", "3000", "7", "--class", "range"],
+    &["gen", "3000", "7", "--class="],
+    &["gen", "3000", "7", "--class=kd", "--class", "kd"],
+    &["gen", "3000", "7", "--limit=5"],
+    &["--lanes=2", "gen", "3000", "7"],
     &["check", "town"],
     &["run", "--from", "town"],
 ];

@@ -1,32 +1,32 @@
-use Rattle.std.proofs.Common.{not, length, ap, arith}
-use Rattle.spg_perform.specs.Session.{standing}
-use Rattle.spg_perform.proofs.BlocksTasks.{IsNext, next_in, lanes_left}
-use Rattle.spg_perform.proofs.BlocksLeading.{lanes_lead, lanes_led}
+use Rattle.std.proofs.Common.{Bool, false, not, List, sym, subst}
+use Rattle.std.specs.Prelude.{All}
+use Rattle.spg_script.specs.declared.command.Command.{Command}
+use Rattle.spg_histories.specs.Tasks.{lanes_tasks}
+use Rattle.spg_perform.specs.Session.{LeadsOn, standing}
+use Rattle.spg_perform.specs.Acted.{CanBeDone}
 use Rattle.spg_perform.proofs.blocks.part.Goals as goal
 
-pub lane-requires-clause-room : goal.lane-requires-clause-room
-lane-requires-clause-room g c =
-    let lanes = c.args.block.now.lanes in
-    let next : IsNext lanes c.loop-number.number c.commands-item.result = next_in c.as_slice-commands-items.result.now lanes c.loop-number.number c.commands-item.result c.as_slice-commands-items.ensures c.loop-number-test.true c.commands-item.is in
-    omega (arith, lanes_left lanes c.loop-number.number c.commands-item.result next, ap length c.as_slice.ensures, c.loop-number.invariant.room, c.requires.room)
+pub returns-then-block-clause-leads : goal.returns-then-block-clause-leads
+returns-then-block-clause-leads g c = λ number.
+    let m = g.O.OpClass.meaning in
+    let speech = g.O.Spoken.speech in
+    let code = g.O.OpClass.code_number in
+    let held = g.M.Images.held c.args.images.now in
+    let faults = g.M.Images.faults c.args.images.now in
+    subst (λ (t : Bool). LeadsOn m speech code (standing c.args.state held faults c.args.book.now.records) (standing c.together.result held faults c.together.new.book.records) (lanes_tasks number 0 (not t) c.args.block.now.lanes)) (sym c.if-block.true)
+    (subst (λ (ls : List (List Command)). LeadsOn m speech code (standing c.args.state held faults c.args.book.now.records) (standing c.together.result held faults c.together.new.book.records) (lanes_tasks number 0 false ls)) c.as_slice.ensures (c.together.ensures.leads number held faults))
 
-pub loop-number-preserved : goal.loop-number-preserved
-loop-number-preserved g c =
-    let lanes = c.args.block.now.lanes in
-    let next : IsNext lanes c.loop-number.number c.commands-item.result = next_in c.as_slice-commands-items.result.now lanes c.loop-number.number c.commands-item.result c.as_slice-commands-items.ensures c.loop-number-test.true c.commands-item.is in
-    record {
-      leads = lanes_lead g.O.OpClass.meaning g.O.Spoken.speech g.O.OpClass.code_number
-          (standing c.args.state.now (g.M.Images.held c.args.images.now) (g.M.Images.faults c.args.images.now) c.args.book.now.records)
-          (standing c.loop-number.state (g.M.Images.held c.loop-number.images) (g.M.Images.faults c.loop-number.images) c.loop-number.book.records)
-          (standing c.lane.new.state (g.M.Images.held c.lane.new.images) (g.M.Images.faults c.lane.new.images) c.lane.new.book.records)
-          (not c.args.block.now.together) lanes c.loop-number.number c.in-Some.seat c.commands-item.result c.as_slice.result.now next c.in-Some.ensures.some c.as_slice.ensures c.loop-number.invariant.leads c.lane.ensures.leads;
-      closed = c.lane.ensures.closed;
-      room = omega (arith, lanes_left lanes c.loop-number.number c.commands-item.result next, ap length c.as_slice.ensures, c.loop-number.invariant.room, c.lane.ensures.room);
-    }
+pub together-requires-clause-can : goal.together-requires-clause-can
+together-requires-clause-can g c κs within =
+    subst (λ (ls : List (List Command)). All (λ (lane : List Command). All (CanBeDone g.O.Spoken.speech false) lane) ls) (sym c.as_slice.ensures)
+    (subst (λ (t : Bool). All (λ (lane : List Command). All (CanBeDone g.O.Spoken.speech (not t)) lane) c.args.block.now.lanes) c.if-block.true c.requires.can.each)
+
+pub in_turn-requires-clause-can : goal.in_turn-requires-clause-can
+in_turn-requires-clause-can g c =
+    subst (λ (t : Bool). All (λ (lane : List Command). All (CanBeDone g.O.Spoken.speech (not t)) lane) c.args.block.now.lanes) c.if-block.false c.requires.can.each
 
 pub returns-clause-leads : goal.returns-clause-leads
-returns-clause-leads g c =
-    lanes_led g.O.OpClass.meaning g.O.Spoken.speech g.O.OpClass.code_number
-    (standing c.args.state.now (g.M.Images.held c.args.images.now) (g.M.Images.faults c.args.images.now) c.args.book.now.records)
-    (standing c.loop-number.state (g.M.Images.held c.loop-number.images) (g.M.Images.faults c.loop-number.images) c.loop-number.book.records)
-    c.loop-number.number (not c.args.block.now.together) c.args.block.now.lanes (omega (arith, ap length c.as_slice-commands-items.ensures, c.loop-number-test.false)) c.loop-number.invariant.leads
+returns-clause-leads g c = λ number.
+    subst (λ (t : Bool). LeadsOn g.O.OpClass.meaning g.O.Spoken.speech g.O.OpClass.code_number
+    (standing c.args.state (g.M.Images.held c.args.images.now) (g.M.Images.faults c.args.images.now) c.args.book.now.records)
+    (standing c.in_turn.new.state (g.M.Images.held c.in_turn.new.images) (g.M.Images.faults c.in_turn.new.images) c.in_turn.new.book.records) (lanes_tasks number 0 (not t) c.args.block.now.lanes)) (sym c.if-block.false) (c.in_turn.ensures.leads number)

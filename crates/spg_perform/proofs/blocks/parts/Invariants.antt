@@ -7,7 +7,7 @@ use Rattle.spg_perform.proofs.blocks.parts.Given as goal
 abbrev pub invariant-loop-block : goal.invariant-loop-block
 invariant-loop-block g l = record {
   leads : LeadsOn g.O.OpClass.meaning g.O.Spoken.speech g.O.OpClass.code_number
-      (standing l.fn.state (g.M.Images.held l.fn.images) (g.M.Images.faults l.fn.images) l.fn.book.records)
+      (standing l.initial.state (g.M.Images.held l.fn.images) (g.M.Images.faults l.fn.images) l.fn.book.records)
       (standing l.state (g.M.Images.held l.images) (g.M.Images.faults l.images) l.book.records)
       (parts_tasks 0 (take l.block-index l.blocks));
   closed : AllClosed (past_of l.state);

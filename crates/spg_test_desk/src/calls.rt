@@ -1,0 +1,91 @@
+//! The calls of a desk, one after another.
+use spg_base::{Memory, Point, Row, Rows, Span};
+use spg_core::State;
+use spg_desk::{Desk, FindAnswer, InsertAnswer, KillAnswer, VacuumAnswer};
+use spg_opclass::Query;
+use spg_quad::Quad;
+use std::test::Fail;
+
+const ORIGIN: Point = Point { x: 0, y: 0 };
+
+fn span(from: u64, to: u64) -> Span {
+    Span { from, to }
+}
+
+/// Each call tells its span, and one without an event ends where it began. A row is found once it was
+/// inserted, and cannot be inserted again.
+#[test]
+fn spans_are_those_of_the_events(rt: HostRuntime) -> Result<(), Fail> {
+    let alloc = rt.alloc();
+    let row = Row::at(1, 1);
+    let mut rows = Rows::new(alloc);
+    rows.push(row)?;
+    let state = State::new(alloc, Quad, 65536)?;
+    let Ok((desk, pass)) = Desk::new(alloc, state, 1) else {
+        return Err(Memory.into());
+    };
+    let (pass, added) = desk.insert(&rt, pass, row, Some(ORIGIN));
+    let (pass, found) = desk.find(&rt, pass, Query::All);
+    let (pass, again) = desk.insert(&rt, pass, row, Some(ORIGIN));
+    let state = desk.close(pass);
+    assert_eq!(rt; added, InsertAnswer::Added(span(0, 2)));
+    let FindAnswer::Found {
+        rows: given,
+        span: at,
+    } = found
+    else {
+        return Err(Memory.into());
+    };
+    assert_eq!(rt; given.as_slice(), rows.as_slice());
+    assert_eq!(rt; at, span(2, 4));
+    assert_eq!(rt; again, InsertAnswer::RowUsed(span(4, 4)));
+    assert_eq!(rt; state.journal().len(), 4);
+    Ok(())
+}
+
+/// A deleted row is deleted once, and a vacuum sweeps it.
+#[test]
+fn a_deleted_row_is_swept(rt: HostRuntime) -> Result<(), Fail> {
+    let alloc = rt.alloc();
+    let row = Row::at(1, 1);
+    let state = State::new(alloc, Quad, 65536)?;
+    let Ok((desk, pass)) = Desk::new(alloc, state, 1) else {
+        return Err(Memory.into());
+    };
+    let (pass, _) = desk.insert(&rt, pass, row, Some(ORIGIN));
+    let (pass, killed) = desk.kill(&rt, pass, row);
+    let (pass, again) = desk.kill(&rt, pass, row);
+    let (pass, vacuumed) = desk.vacuum(&rt, pass);
+    let state = desk.close(pass);
+    assert_eq!(rt; killed, KillAnswer::Killed(span(2, 3)));
+    assert_eq!(rt; again, KillAnswer::NotLive(span(3, 3)));
+    let swept = VacuumAnswer::Vacuumed {
+        swept: 1,
+        span: span(3, 6),
+    };
+    assert_eq!(rt; vacuumed, swept);
+    assert_eq!(rt; state.journal().len(), 6);
+    Ok(())
+}
+
+/// Each pass has a seat of its own, and sees what the first pass has seen.
+#[test]
+fn passes_are_given_and_taken_back(rt: HostRuntime) -> Result<(), Fail> {
+    let alloc = rt.alloc();
+    let state = State::new(alloc, Quad, 65536)?;
+    let Ok((desk, first)) = Desk::new(alloc, state, 2) else {
+        return Err(Memory.into());
+    };
+    let (first, other) = desk.split(first);
+    let seats = (first.seat().number(), other.seat().number());
+    let given = (first.given(), first.back());
+    let (other, _) = desk.insert(&rt, other, Row::at(1, 1), Some(ORIGIN));
+    let first = desk.join(first, other);
+    let back = (first.back(), first.seen());
+    let state = desk.close(first);
+    assert_eq!(rt; seats, (0, 1));
+    assert_eq!(rt; given, (2, 0));
+    assert_eq!(rt; back, (1, 2));
+    assert_eq!(rt; state.journal().len(), 2);
+    Ok(())
+}

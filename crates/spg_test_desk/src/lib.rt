@@ -1,0 +1,13 @@
+//! Tests of an index that threads share.
+#![tactic(auto)]
+
+#[cfg(test)]
+mod calls;
+#[cfg(test)]
+mod lane;
+#[cfg(test)]
+mod outside;
+#[cfg(test)]
+mod threads;
+#[cfg(test)]
+mod watched;
