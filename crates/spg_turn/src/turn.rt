@@ -20,8 +20,8 @@ const FIRST_BELL: usize = 3;
 
 const WORDS: usize = 67;
 
-// How often who waits looks before it sleeps.
-const LOOKS: u8 = 2;
+// How often who waits looks before it sleeps. To wake who sleeps takes longer than tens of sections.
+const LOOKS: u8 = 250;
 
 /// A lock round a state, whose holders take turns. Contracts read it by `turn_id`, which lock it is,
 /// and `turn_seats`, how many passes it may give.
