@@ -1,10 +1,11 @@
 #!/usr/bin/env python3
 """Times lanes beside the same commands without lanes, outside the gate.
 
-Three tables, each by seconds of the clock and of the processor for a command, where the reading of the script and the
-printing of the text are in both: inserts in 1, 2, 4 and 16 lanes; nine finds of one key to an insert; and four lanes of
-inserts with and without a lane of vacuums beside them, over an index of which a third of the rows are deleted. Each time is
-the least of several runs, less that of the script before the block.
+Four tables, each by seconds of the clock and of the processor for a command, where the reading of the script and the
+printing of the text are in both: inserts in 1, 2, 4 and 16 lanes; nine finds of one key to an insert; four lanes of
+inserts with and without a lane of vacuums beside them, over an index of which a third of the rows are deleted; and the
+script of `gen COUNT 7` in 1, 2 and 4 lanes, beside the same commands without lanes. Each time is the least of several runs,
+less that of the script before the block.
 """
 
 import argparse
@@ -75,6 +76,36 @@ def beside_a_vacuum(options, index_class, values):
     assert text.count(b" vacuumed ") == 3, "a vacuum did not come to its end"
 
 
+def load_key(index_class, number):
+    """The key of an insert of a generated load, whose seed is 7."""
+    x, y = (37 * number + 7) % 1000, (91 * number + 7) % 1000
+    if index_class == "radix":
+        return b'"street %03d house %03d"' % (x, y)
+    return b"%d,%d" % (x, y)
+
+
+def load(index_class, count, lanes):
+    """The commands of the lanes of a generated load."""
+    dealt = [[] for _ in range(lanes)]
+    for number in range(count):
+        row = b"%d.%d" % (number // 100, number % 100 + 1)
+        dealt[number % lanes].append(b"insert " + row + b" " + load_key(index_class, number))
+        if number % 3 == 2:
+            dealt[number % lanes].append(b"delete " + row)
+    return dealt + [[b"vacuum", b"find all"] * 2]
+
+
+def loads(options, index_class):
+    """A generated load in lanes, and its commands in their order without lanes."""
+    head = [b"class " + index_class.encode()]
+    before, _ = run(options.program, head, options.repeats)
+    for lanes in [0, 1, 2, 4]:
+        dealt = load(index_class, options.count, max(lanes, 1))
+        body = block(dealt) if lanes else dealt[0] + dealt[1]
+        times, _ = run(options.program, head + body, options.repeats)
+        told(f"{index_class}: load, {lanes or 'no'} lanes", times, before, sum(map(len, dealt)))
+
+
 def main():
     parser = argparse.ArgumentParser(description=__doc__)
     parser.add_argument("--program", default="crates/spg_main/out/spg_main")
@@ -95,6 +126,7 @@ def main():
             mixed += [line] + [b"find where eq " + key for key in rng.choices(values[:half], k=9)]
         compare(options, f"{index_class}: 9 finds to an insert", lines[: 1 + half], mixed)
         beside_a_vacuum(options, index_class, values)
+        loads(options, index_class)
 
 
 if __name__ == "__main__":
