@@ -11,14 +11,14 @@ use Rattle.spg_app.proofs.LoadEnds.{class_of, gen_ended}
 use Rattle.spg_app.proofs.generated.run_generated.Goals as goal
 
 -- the made script is the generated one
-pub run_load-requires : goal.run_load-requires
-run_load-requires g c = record { of_class = subst (IsOfClass point_speech) (sym (ap (λ (s : Script). s.class) c.in-Ok.ensures ∙ class_of c.args.load ∙ c.in-Quad.is)) quad_is_of_class }
+pub run_load-requires-clause-of_class : goal.run_load-requires-clause-of_class
+run_load-requires-clause-of_class g c κs within = subst (IsOfClass point_speech) (sym (ap (λ (s : Script). s.class) c.in-Ok.ensures ∙ class_of c.args.load ∙ c.in-Quad.is)) quad_is_of_class
 
-pub run_load-requires-in-Kd : goal.run_load-requires-in-Kd
-run_load-requires-in-Kd g c = record { of_class = subst (IsOfClass point_speech) (sym (ap (λ (s : Script). s.class) c.in-Ok.ensures ∙ class_of c.args.load ∙ c.in-Kd.is)) kd_is_of_class }
+pub run_load-requires-in-Kd-clause-of_class : goal.run_load-requires-in-Kd-clause-of_class
+run_load-requires-in-Kd-clause-of_class g c κs within = subst (IsOfClass point_speech) (sym (ap (λ (s : Script). s.class) c.in-Ok.ensures ∙ class_of c.args.load ∙ c.in-Kd.is)) kd_is_of_class
 
-pub run_load-requires-in-Radix : goal.run_load-requires-in-Radix
-run_load-requires-in-Radix g c = record { of_class = subst (IsOfClass text_speech) (sym (ap (λ (s : Script). s.class) c.in-Ok.ensures ∙ class_of c.args.load ∙ c.in-Radix.is)) radix_is_of_class }
+pub run_load-requires-in-Radix-clause-of_class : goal.run_load-requires-in-Radix-clause-of_class
+run_load-requires-in-Radix-clause-of_class g c κs within = subst (IsOfClass text_speech) (sym (ap (λ (s : Script). s.class) c.in-Ok.ensures ∙ class_of c.args.load ∙ c.in-Radix.is)) radix_is_of_class
 
 pub returns-in-Quad : goal.returns-in-Quad
 returns-in-Quad g c = gen_ended quad_meaning point_speech 1 c.args.load _ _ (λ seen. state.Quad seen) (λ status seen ran. (c.in-Quad.is, ran)) c.run_load.result c.quad_ended.result c.in-Ok.ensures c.quad_ended.ensures c.run_load.ensures
