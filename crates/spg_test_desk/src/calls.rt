@@ -1,7 +1,7 @@
 //! The calls of a desk, one after another.
+use crate::step::{desk_of_class, find, insert, kill, vacuum};
 use spg_base::{Memory, Point, Row, Rows, Span};
-use spg_core::State;
-use spg_desk::{Desk, FindAnswer, InsertAnswer, KillAnswer, VacuumAnswer};
+use spg_desk::{FindAnswer, InsertAnswer, KillAnswer, VacuumAnswer};
 use spg_opclass::Query;
 use spg_quad::Quad;
 use std::test::Fail;
@@ -20,13 +20,10 @@ fn spans_are_those_of_the_events(rt: HostRuntime) -> Result<(), Fail> {
     let row = Row::at(1, 1);
     let mut rows = Rows::new(alloc);
     rows.push(row)?;
-    let state = State::new(alloc, Quad, 65536)?;
-    let Ok((desk, pass)) = Desk::new(alloc, state, 1) else {
-        return Err(Memory.into());
-    };
-    let (pass, added) = desk.insert(&rt, pass, row, Some(ORIGIN));
-    let (pass, found) = desk.find(&rt, pass, Query::All);
-    let (pass, again) = desk.insert(&rt, pass, row, Some(ORIGIN));
+    let (desk, pass) = desk_of_class(alloc, Quad, 1)?;
+    let (pass, added) = insert(&rt, &desk, pass, row, Some(ORIGIN));
+    let (pass, found) = find(&rt, &desk, pass, Query::All);
+    let (pass, again) = insert(&rt, &desk, pass, row, Some(ORIGIN));
     let state = desk.close(pass);
     assert_eq!(rt; added, InsertAnswer::Added(span(0, 2)));
     let FindAnswer::Found {
@@ -48,14 +45,11 @@ fn spans_are_those_of_the_events(rt: HostRuntime) -> Result<(), Fail> {
 fn a_deleted_row_is_swept(rt: HostRuntime) -> Result<(), Fail> {
     let alloc = rt.alloc();
     let row = Row::at(1, 1);
-    let state = State::new(alloc, Quad, 65536)?;
-    let Ok((desk, pass)) = Desk::new(alloc, state, 1) else {
-        return Err(Memory.into());
-    };
-    let (pass, _) = desk.insert(&rt, pass, row, Some(ORIGIN));
-    let (pass, killed) = desk.kill(&rt, pass, row);
-    let (pass, again) = desk.kill(&rt, pass, row);
-    let (pass, vacuumed) = desk.vacuum(&rt, pass);
+    let (desk, pass) = desk_of_class(alloc, Quad, 1)?;
+    let (pass, _) = insert(&rt, &desk, pass, row, Some(ORIGIN));
+    let (pass, killed) = kill(&rt, &desk, pass, row);
+    let (pass, again) = kill(&rt, &desk, pass, row);
+    let (pass, vacuumed) = vacuum(&rt, &desk, pass);
     let state = desk.close(pass);
     assert_eq!(rt; killed, KillAnswer::Killed(span(2, 3)));
     assert_eq!(rt; again, KillAnswer::NotLive(span(3, 3)));
@@ -72,14 +66,11 @@ fn a_deleted_row_is_swept(rt: HostRuntime) -> Result<(), Fail> {
 #[test]
 fn passes_are_given_and_taken_back(rt: HostRuntime) -> Result<(), Fail> {
     let alloc = rt.alloc();
-    let state = State::new(alloc, Quad, 65536)?;
-    let Ok((desk, first)) = Desk::new(alloc, state, 2) else {
-        return Err(Memory.into());
-    };
+    let (desk, first) = desk_of_class(alloc, Quad, 2)?;
     let (first, other) = desk.split(first);
     let seats = (first.seat().number(), other.seat().number());
     let given = (first.given(), first.back());
-    let (other, _) = desk.insert(&rt, other, Row::at(1, 1), Some(ORIGIN));
+    let (other, _) = insert(&rt, &desk, other, Row::at(1, 1), Some(ORIGIN));
     let first = desk.join(first, other);
     let back = (first.back(), first.seen());
     let state = desk.close(first);

@@ -8,6 +8,8 @@ mod lane;
 #[cfg(test)]
 mod outside;
 #[cfg(test)]
+mod step;
+#[cfg(test)]
 mod threads;
 #[cfg(test)]
 mod watched;

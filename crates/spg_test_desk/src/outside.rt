@@ -1,12 +1,12 @@
 //! While a desk asks the class for one thread, another thread goes on.
-ghost use Rattle.std.specs.Prelude.{◌≡◌, ◌<◌, ℕ, length, slice_index_or};
-ghost use Rattle.spg_desk.specs.Passes.{desk_id, desk_of, view_of};
-ghost use Rattle.spg_test_desk.specs.Out.{IsOut};
+ghost use Rattle.std.specs.Prelude.{◌≡◌, ◌≢◌, ◌<◌, ◌≤◌, ◌+◌, ℕ, length, slice_index_or};
+ghost use Rattle.spg_desk.specs.Passes.{desk_id, desk_seats, desk_of, view_of};
+ghost use Rattle.spg_test_desk.specs.Out.{IsOut, IsAsBefore};
 
 use crate::lane::{Lane, deal, gather};
+use crate::step::{desk_of_class, find, insert};
 use crate::watched::{Flags, Watched, is_set, set};
 use spg_base::{List, Memory, Point, PointCond, Row};
-use spg_core::State;
 use spg_desk::{Desk, FindAnswer, InsertAnswer, Pass};
 use spg_opclass::{OpClass, Query, SharedClass};
 use std::alloc::Global;
@@ -32,8 +32,7 @@ enum Task {
 fn fill<R: Wait, O: OpClass<Key = Point>>(rt: &R, desk: &Desk<O>, pass: Pass<O>) -> Pass<O>
     requires own { desk_of pass ≡ desk_id desk.now }
     ensures own { desk_of result ≡ desk_of pass }
-    ensures first { (view_of result).number ≡ (view_of pass).number }
-    ensures given { ((view_of result).given ≡ (view_of pass).given) × ((view_of result).back ≡ (view_of pass).back) }
+    ensures kept { IsAsBefore (view_of pass) (view_of result) }
 {
     let mut pass = pass;
     for i in 1..=POINTS {
@@ -41,7 +40,7 @@ fn fill<R: Wait, O: OpClass<Key = Point>>(rt: &R, desk: &Desk<O>, pass: Pass<O>)
             x: i32::from(i),
             y: 0,
         };
-        let (next, _) = desk.insert(rt, pass, Row::at(1, i), Some(point));
+        let (next, _) = insert(rt, desk, pass, Row::at(1, i), Some(point));
         pass = next;
     }
     pass
@@ -61,7 +60,7 @@ fn put<R: Wait, O: OpClass<Key = Point>>(
     if !is_set(&flags.asked) {
         return pass;
     }
-    let (pass, answer) = desk.insert(rt, pass, Row::at(9, 1), Some(Point { x: 300, y: 0 }));
+    let (pass, answer) = insert(rt, desk, pass, Row::at(9, 1), Some(Point { x: 300, y: 0 }));
     if let InsertAnswer::Added(_) = &answer {
         set(&flags.put);
     }
@@ -91,7 +90,7 @@ fn look<R: Wait + AllocGlobal, O: OpClass<Cond = PointCond>>(
     let Ok(conds) = last_point(rt.alloc()) else {
         return (pass, 0);
     };
-    let (pass, answer) = desk.find(rt, pass, Query::Where(conds));
+    let (pass, answer) = find(rt, desk, pass, Query::Where(conds));
     let found = match &answer {
         FindAnswer::Found { rows, .. } => rows.as_slice().len() as u64,
         FindAnswer::Memory(_) => 0,
@@ -145,12 +144,38 @@ fn run_all<
     thread::for_each_mut(rt, lanes, 2, &each);
 }
 
+/// How many rows the lanes have found.
+fn rows_found<O: OpClass>(lanes: &[Lane<O, Task>]) -> u64 {
+    let mut rows = 0u64;
+    for lane in lanes {
+        rows = rows.saturating_add(rows_of(&lane.task));
+    }
+    rows
+}
+
+/// Gives each lane a pass, runs the lanes beside each other, and takes the passes back.
+fn share<
+    R: AllocGlobal + Threads + Wait + Sync,
+    O: SharedClass + OpClass<Key = Point, Cond = PointCond>,
+>(rt: &R, desk: &Desk<O>, flags: &Flags, first: Pass<O>, lanes: &mut [Lane<O, Task>]) -> Pass<O>
+    requires own { desk_of first ≡ desk_id desk.now }
+    requires first { ((view_of first).number ≡ 0) × ((view_of first).given ≢ 0) }
+    requires room { (view_of first).given + length lanes.old ≤ desk_seats desk.now }
+    ensures own { desk_of result ≡ desk_of first }
+    ensures number { (view_of result).number ≡ 0 }
+    ensures given { (view_of result).given ≡ (view_of first).given + length lanes.old }
+    ensures back { (view_of result).back ≡ (view_of first).back + length lanes.old }
+{
+    let first = deal(desk, first, lanes);
+    run_all(rt, desk, flags, lanes);
+    gather(desk, first, lanes)
+}
+
 /// How many rows a scan finds while another lane puts a row.
 fn found_beside<R: AllocGlobal + Threads + Wait + Sync>(
     rt: &R,
-    flags: &Flags,
+    flags: &'static Flags,
 ) -> Result<u64, Memory> {
-    let alloc = rt.alloc();
     let mut lanes = [
         Lane {
             pass: None,
@@ -161,24 +186,19 @@ fn found_beside<R: AllocGlobal + Threads + Wait + Sync>(
             task: Task::Look { found: 0 },
         },
     ];
-    let state = State::new(alloc, Watched { flags }, 65536)?;
-    let Ok((desk, first)) = Desk::new(alloc, state, 3) else {
-        return Err(Memory);
-    };
+    let (desk, first) = desk_of_class(rt.alloc(), Watched { flags }, 3)?;
     let first = fill(rt, &desk, first);
-    let first = deal(&desk, first, &mut lanes);
-    run_all(rt, &desk, flags, &mut lanes);
-    let first = gather(&desk, first, &mut lanes);
+    let first = share(rt, &desk, flags, first, &mut lanes);
     let _ = desk.close(first);
-    Ok(lanes.iter().map(|lane| rows_of(&lane.task)).sum())
+    Ok(rows_found(&lanes))
 }
 
 /// A scan asks the class, which does not answer before another thread has put a row: so the scan does
 /// not keep the lock meanwhile.
 #[test]
 fn others_go_on_while_the_class_is_asked(rt: HostRuntime) -> Result<(), Fail> {
-    let flags = Flags::new();
-    let found = found_beside(&rt, &flags)?;
+    let flags = Flags::new(rt.alloc())?;
+    let found = found_beside(&rt, flags)?;
     assert_eq!(rt; found, 1);
     assert_eq!(rt; flags.put.load(Ordering::SeqCst), 1);
     assert_eq!(rt; flags.answered.load(Ordering::SeqCst), 1);

@@ -1,11 +1,11 @@
 //! Threads that share an index.
-ghost use Rattle.std.specs.Prelude.{◌≡◌, ◌<◌, ℕ, length, slice_index_or, vec_len, IfOk};
-ghost use Rattle.spg_desk.specs.Passes.{desk_id, desk_of, view_of};
+ghost use Rattle.std.specs.Prelude.{◌≡◌, ◌≢◌, ◌<◌, ◌≤◌, ◌+◌, ℕ, length, slice_index_or, vec_len, IfOk};
+ghost use Rattle.spg_desk.specs.Passes.{desk_id, desk_seats, desk_of, view_of};
 ghost use Rattle.spg_test_desk.specs.Out.{IsOut};
 
 use crate::lane::{Lane, deal, gather};
+use crate::step::{desk_of_class, find, insert, kill, vacuum};
 use spg_base::{Memory, Point, Row};
-use spg_core::State;
 use spg_desk::{Desk, FindAnswer, InsertAnswer, KillAnswer, Pass, VacuumAnswer};
 use spg_opclass::Query;
 use spg_quad::Quad;
@@ -30,6 +30,15 @@ struct Work {
     swept: u64,
 }
 
+/// What a lane looks for after its nth insert: all rows at times, mostly those of null.
+fn query_at(n: u16) -> Query<Quad> {
+    if n % 200 == 0 {
+        Query::All
+    } else {
+        Query::Null
+    }
+}
+
 /// Inserts a row, looks for it, and deletes it where its number is odd.
 fn handle_row<R: Wait>(
     rt: &R,
@@ -47,20 +56,15 @@ fn handle_row<R: Wait>(
         x: i32::from(n) * 7 % 100,
         y: i32::from(task.number),
     };
-    let (pass, answer) = desk.insert(rt, pass, row, Some(key));
+    let (pass, answer) = insert(rt, desk, pass, row, Some(key));
     if let InsertAnswer::Added(_) = &answer {
         task.added = task.added.saturating_add(1);
     }
-    let (pass, found) = if n % 200 == 0 {
-        desk.find(rt, pass, Query::All)
-    } else {
-        desk.find(rt, pass, Query::Null)
-    };
-    let _ = found;
+    let (pass, _) = find(rt, desk, pass, query_at(n));
     if n % 2 == 0 {
         return pass;
     }
-    let (pass, answer) = desk.kill(rt, pass, row);
+    let (pass, answer) = kill(rt, desk, pass, row);
     if let KillAnswer::Killed(_) = &answer {
         task.killed = task.killed.saturating_add(1);
     }
@@ -73,9 +77,35 @@ fn clean<R: Wait>(rt: &R, desk: &Desk<Quad>, task: &mut Work, pass: Pass<Quad>) 
     ensures own { desk_of result ≡ desk_of pass }
     ensures number { (view_of result).number ≡ (view_of pass).number }
 {
-    let (pass, answer) = desk.vacuum(rt, pass);
+    let (pass, answer) = vacuum(rt, desk, pass);
     if let VacuumAnswer::Vacuumed { swept, .. } = &answer {
         task.swept = task.swept.saturating_add(*swept);
+    }
+    pass
+}
+
+/// Runs some vacuums.
+fn clean_often<R: Wait>(rt: &R, desk: &Desk<Quad>, task: &mut Work, pass: Pass<Quad>) -> Pass<Quad>
+    requires own { desk_of pass ≡ desk_id desk.now }
+    ensures own { desk_of result ≡ desk_of pass }
+    ensures number { (view_of result).number ≡ (view_of pass).number }
+{
+    let mut pass = pass;
+    for _ in 0u8..20 {
+        pass = clean(rt, desk, task, pass);
+    }
+    pass
+}
+
+/// Handles each row of a lane.
+fn handle_rows<R: Wait>(rt: &R, desk: &Desk<Quad>, task: &mut Work, pass: Pass<Quad>) -> Pass<Quad>
+    requires own { desk_of pass ≡ desk_id desk.now }
+    ensures own { desk_of result ≡ desk_of pass }
+    ensures number { (view_of result).number ≡ (view_of pass).number }
+{
+    let mut pass = pass;
+    for n in 0..ROWS {
+        pass = handle_row(rt, desk, task, pass, n);
     }
     pass
 }
@@ -85,19 +115,14 @@ fn run<R: Wait>(rt: &R, desk: &Desk<Quad>, lane: &mut Lane<Quad, Work>)
     requires { IsOut (desk_id desk.now) lane.old.pass }
     ensures { IsOut (desk_id desk.now) lane.new.pass }
 {
-    let Some(mut pass) = lane.pass.take() else {
+    let Some(pass) = lane.pass.take() else {
         unreachable!()
     };
-    if lane.task.number + 1 == LANES {
-        for _ in 0u8..20 {
-            pass = clean(rt, desk, &mut lane.task, pass);
-        }
+    if lane.task.number == LANES - 1 {
+        lane.pass = Some(clean_often(rt, desk, &mut lane.task, pass));
     } else {
-        for n in 0..ROWS {
-            pass = handle_row(rt, desk, &mut lane.task, pass, n);
-        }
+        lane.pass = Some(handle_rows(rt, desk, &mut lane.task, pass));
     }
-    lane.pass = Some(pass);
 }
 
 /// A lane for each number, without a pass.
@@ -132,20 +157,46 @@ fn run_all<R: Threads + Wait + Sync>(rt: &R, desk: &Desk<Quad>, lanes: &mut [Lan
     thread::for_each_mut(rt, lanes, usize::from(LANES), &each);
 }
 
+/// Gives each lane a pass, runs the lanes beside each other, and takes the passes back.
+fn share<R: Threads + Wait + Sync>(
+    rt: &R,
+    desk: &Desk<Quad>,
+    first: Pass<Quad>,
+    lanes: &mut [Lane<Quad, Work>],
+) -> Pass<Quad>
+    requires own { desk_of first ≡ desk_id desk.now }
+    requires first { ((view_of first).number ≡ 0) × ((view_of first).given ≢ 0) }
+    requires room { (view_of first).given + length lanes.old ≤ desk_seats desk.now }
+    ensures own { desk_of result ≡ desk_of first }
+    ensures number { (view_of result).number ≡ 0 }
+    ensures given { (view_of result).given ≡ (view_of first).given + length lanes.old }
+    ensures back { (view_of result).back ≡ (view_of first).back + length lanes.old }
+{
+    let first = deal(desk, first, lanes);
+    run_all(rt, desk, lanes);
+    gather(desk, first, lanes)
+}
+
+/// How many rows the lanes have inserted, deleted and swept.
+fn totals(lanes: &[Lane<Quad, Work>]) -> (u64, u64, u64) {
+    let (mut added, mut killed, mut swept) = (0u64, 0u64, 0u64);
+    for lane in lanes {
+        added = added.saturating_add(lane.task.added);
+        killed = killed.saturating_add(lane.task.killed);
+        swept = swept.saturating_add(lane.task.swept);
+    }
+    (added, killed, swept)
+}
+
 /// Four lanes insert, look and delete, and a fifth vacuums. All that they did is in the journal.
 #[test]
 fn lanes_share_an_index(rt: HostRuntime) -> Result<(), Fail> {
     let alloc = rt.alloc();
     let mut lanes = lanes_of(alloc)?;
-    let state = State::new(alloc, Quad, 65536)?;
-    let Ok((desk, first)) = Desk::new(alloc, state, LANES + 1) else {
-        return Err(Memory.into());
-    };
-    let first = deal(&desk, first, lanes.as_mut_slice());
-    run_all(&rt, &desk, lanes.as_mut_slice());
-    let first = gather(&desk, first, lanes.as_mut_slice());
-    let (first, found) = desk.find(&rt, first, Query::All);
-    let (first, last) = desk.vacuum(&rt, first);
+    let (desk, first) = desk_of_class(alloc, Quad, LANES + 1)?;
+    let first = share(&rt, &desk, first, lanes.as_mut_slice());
+    let (first, found) = find(&rt, &desk, first, Query::All);
+    let (first, last) = vacuum(&rt, &desk, first);
     let state = desk.close(first);
     let rest = match &last {
         VacuumAnswer::Vacuumed { swept, .. } => *swept,
@@ -155,9 +206,7 @@ fn lanes_share_an_index(rt: HostRuntime) -> Result<(), Fail> {
         FindAnswer::Found { rows, .. } => rows.as_slice().len(),
         FindAnswer::Memory(_) => 0,
     };
-    let added: u64 = lanes.iter().map(|lane| lane.task.added).sum();
-    let killed: u64 = lanes.iter().map(|lane| lane.task.killed).sum();
-    let swept: u64 = lanes.iter().map(|lane| lane.task.swept).sum();
+    let (added, killed, swept) = totals(lanes.as_slice());
     assert_eq!(rt; (added, killed), (8000, 4000));
     assert_eq!(rt; swept.saturating_add(rest), 4000);
     assert_eq!(rt; given, 4000);

@@ -3,7 +3,7 @@ use smallvec::SmallVec;
 use spg_base::{Bytes, Memory, Point, PointCond};
 use spg_opclass::{Choice, InnerView, OpClass, Picked, SharedClass};
 use spg_quad::{Quad, QuadRecon};
-use std::alloc::Global;
+use std::alloc::{AllocError, Global};
 use std::sync::atomic::{AtomicU64, Ordering};
 use std::thread;
 
@@ -22,12 +22,14 @@ pub(crate) struct Flags {
 }
 
 impl Flags {
-    pub(crate) fn new() -> Flags {
-        Flags {
+    /// Flags that last as long as the process, since a class names no lifetime.
+    pub(crate) fn new(alloc: Global) -> Result<&'static Flags, AllocError> {
+        let flags = Flags {
             asked: AtomicU64::new(0),
             put: AtomicU64::new(0),
             answered: AtomicU64::new(0),
-        }
+        };
+        Ok(Box::leak(Box::new(alloc, flags)?))
     }
 }
 
@@ -48,13 +50,13 @@ pub(crate) fn set(flag: &AtomicU64) {
 
 /// The quad tree's class, which answers a scan only after a row was put.
 #[derive(Clone, Copy)]
-pub(crate) struct Watched<'a> {
-    pub(crate) flags: &'a Flags,
+pub(crate) struct Watched {
+    pub(crate) flags: &'static Flags,
 }
 
-impl<'a> SharedClass for Watched<'a> {}
+impl SharedClass for Watched {}
 
-impl<'a> OpClass for Watched<'a> {
+impl OpClass for Watched {
     ghost use Rattle.std.specs.Prelude.{false, refl};
     ghost use Rattle.spg_quad.specs.Quad.{quad_meaning};
     ghost use Rattle.spg_quad.specs.QuadLaws.{quad_matches, quad_adds, quad_splits, quad_picks, quad_keeps, quad_plain, quad_codes};
