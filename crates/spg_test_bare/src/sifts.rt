@@ -9,16 +9,10 @@ use std::alloc::Global;
 use std::test::Fail;
 
 /// The seat opens a scan of the rows at a point.
-fn open(
-    alloc: Global,
-    class: &Quad,
-    bare: &mut Bare<Quad>,
-    seat: SeatNo,
-    point: Point,
-) -> Result<(), Memory> {
+fn open(alloc: Global, bare: &mut Bare<Quad>, seat: SeatNo, point: Point) -> Result<(), Memory> {
     let mut conds = List::new(alloc);
     conds.push(PointCond::Eq(point))?;
-    let start = class.start(alloc)?;
+    let start = Quad.start(alloc)?;
     if let OpenKind::Nothing = bare.open_of(seat) {
         bare.open_scan(seat, Query::Where(conds), start)?;
     }
@@ -41,7 +35,6 @@ fn take_in(bare: &mut Bare<Quad>, seat: SeatNo, sifted: &Sifted<Quad>) -> Result
 /// The seat's scan goes on by a copy of its first item. None where the item is not copied.
 fn go_on(
     alloc: Global,
-    class: &Quad,
     bare: &mut Bare<Quad>,
     seat: SeatNo,
 ) -> Result<Option<Sifted<Quad>>, Memory> {
@@ -52,7 +45,7 @@ fn go_on(
     let ScanCopy::Sift(copied) = copy else {
         return Ok(None);
     };
-    let sifted = sift(alloc, class, copied)?;
+    let sifted = sift(alloc, &Quad, copied)?;
     if take_in(bare, seat, &sifted)? {
         return Ok(Some(sifted));
     }
@@ -67,29 +60,45 @@ fn close(bare: &mut Bare<Quad>, seat: SeatNo) -> Result<Option<Closed>, Memory> 
     }
 }
 
+/// The seat's scan goes on by three copies, each of its first item: the last one's answer.
+fn go_on_thrice(
+    alloc: Global,
+    bare: &mut Bare<Quad>,
+    seat: SeatNo,
+) -> Result<Option<Sifted<Quad>>, Memory> {
+    if go_on(alloc, bare, seat)?.is_none() || go_on(alloc, bare, seat)?.is_none() {
+        return Ok(None);
+    }
+    go_on(alloc, bare, seat)
+}
+
+/// Whether the seat's scan refuses an answer, and then holds nothing as before.
+fn refuses(bare: &mut Bare<Quad>, seat: SeatNo, sifted: &Sifted<Quad>) -> Result<bool, Memory> {
+    let events = bare.journal().len();
+    let taken = take_in(bare, seat, sifted)?;
+    let holds_none = bare.open_of(seat) == OpenKind::Scan { held: 0 };
+    Ok(!taken && holds_none && bare.journal().len() == events)
+}
+
+/// What a scan of the last point gives that goes on by copies. None where it does not come to its end
+/// by three, or takes in the last answer twice.
+fn scan(alloc: Global, seat: SeatNo) -> Result<Option<Closed>, Memory> {
+    let (_class, mut bare) = filled(alloc)?.part();
+    open(alloc, &mut bare, seat, Point { x: 292, y: 0 })?;
+    let Some(used) = go_on_thrice(alloc, &mut bare, seat)? else {
+        return Ok(None);
+    };
+    if refuses(&mut bare, seat, &used)? {
+        return close(&mut bare, seat);
+    }
+    Ok(None)
+}
+
 /// The copies are of the root, of the inner tuple below it and of the chain of 73 where the point
 /// stands. The last one was used then, and is no copy of anything that the scan holds.
 #[test]
 fn a_scan_goes_on_by_its_copies(rt: HostRuntime) -> Result<(), Fail> {
-    let alloc = rt.alloc();
-    let Some(seat) = SeatNo::new(1) else {
-        return Ok(());
-    };
-    let (class, bare) = filled(alloc)?.part();
-    let mut bare = bare;
-    open(alloc, &class, &mut bare, seat, Point { x: 292, y: 0 })?;
-    assert!(rt; go_on(alloc, &class, &mut bare, seat)?.is_some());
-    assert!(rt; go_on(alloc, &class, &mut bare, seat)?.is_some());
-    let Some(used) = go_on(alloc, &class, &mut bare, seat)? else {
-        assert!(rt; false);
-        return Ok(());
-    };
-    assert_eq!(rt; bare.open_of(seat), OpenKind::Scan { held: 0 });
-    let events = bare.journal().len();
-    assert!(rt; !take_in(&mut bare, seat, &used)?);
-    assert_eq!(rt; bare.open_of(seat), OpenKind::Scan { held: 0 });
-    assert_eq!(rt; bare.journal().len(), events);
-    let Some(closed) = close(&mut bare, seat)? else {
+    let Some(closed) = scan(rt.alloc(), SeatNo::first())? else {
         assert!(rt; false);
         return Ok(());
     };
