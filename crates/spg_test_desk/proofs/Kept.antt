@@ -1,5 +1,5 @@
 -- What a call of the desk leaves of a pass as before.
-use Rattle.std.proofs.Common.{◌≡◌, inl, inr, List, Option, ap}
+use Rattle.std.proofs.Common.{inl, inr, List, Option, ap}
 use Rattle.spg_base.specs.Row.{RowAt}
 use Rattle.spg_base.specs.declared.names.Span.{Span}
 use Rattle.spg_opclass.specs.Meaning.{Meaning}

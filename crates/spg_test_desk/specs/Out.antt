@@ -1,5 +1,5 @@
 -- Passes that are not the first of their desk, and what a call leaves of a pass.
-use Rattle.std.specs.Prelude.{◌≡◌, ◌≢◌, ℕ, Option, Some, None}
+use Rattle.std.specs.Prelude.{◌≡◌, ◌≢◌, Option, Some, None}
 use Rattle.atomic_table.specs.Seated.{TableId}
 use Rattle.spg_opclass.specs.declared.class.OpClass.{Ghosts}
 use Rattle.spg_turn.specs.declared.rule.View.{View}

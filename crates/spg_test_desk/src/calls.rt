@@ -13,17 +13,22 @@ fn span(from: u64, to: u64) -> Span {
 }
 
 /// Each call tells its span, and one without an event ends where it began. A row is found once it was
-/// inserted, and cannot be inserted again.
+/// inserted, cannot be inserted again, is deleted once, and is swept by a vacuum.
 #[test]
 fn spans_are_those_of_the_events(rt: HostRuntime) -> Result<(), Fail> {
     let alloc = rt.alloc();
     let row = Row::at(1, 1);
     let mut rows = Rows::new(alloc);
     rows.push(row)?;
-    let (desk, pass) = desk_of_class(alloc, Quad, 1)?;
+    let (desk, pass) = desk_of_class(alloc, Quad, 2)?;
     let (pass, added) = insert(&rt, &desk, pass, row, Some(ORIGIN));
+    let (pass, other) = desk.split(pass);
+    let pass = desk.join(pass, other);
     let (pass, found) = find(&rt, &desk, pass, Query::All);
     let (pass, again) = insert(&rt, &desk, pass, row, Some(ORIGIN));
+    let (pass, killed) = kill(&rt, &desk, pass, row);
+    let (pass, not_live) = kill(&rt, &desk, pass, row);
+    let (pass, vacuumed) = vacuum(&rt, &desk, pass);
     let state = desk.close(pass);
     assert_eq!(rt; added, InsertAnswer::Added(span(0, 2)));
     let FindAnswer::Found {
@@ -36,29 +41,14 @@ fn spans_are_those_of_the_events(rt: HostRuntime) -> Result<(), Fail> {
     assert_eq!(rt; given.as_slice(), rows.as_slice());
     assert_eq!(rt; at, span(2, 4));
     assert_eq!(rt; again, InsertAnswer::RowUsed(span(4, 4)));
-    assert_eq!(rt; state.journal().len(), 4);
-    Ok(())
-}
-
-/// A deleted row is deleted once, and a vacuum sweeps it.
-#[test]
-fn a_deleted_row_is_swept(rt: HostRuntime) -> Result<(), Fail> {
-    let alloc = rt.alloc();
-    let row = Row::at(1, 1);
-    let (desk, pass) = desk_of_class(alloc, Quad, 1)?;
-    let (pass, _) = insert(&rt, &desk, pass, row, Some(ORIGIN));
-    let (pass, killed) = kill(&rt, &desk, pass, row);
-    let (pass, again) = kill(&rt, &desk, pass, row);
-    let (pass, vacuumed) = vacuum(&rt, &desk, pass);
-    let state = desk.close(pass);
-    assert_eq!(rt; killed, KillAnswer::Killed(span(2, 3)));
-    assert_eq!(rt; again, KillAnswer::NotLive(span(3, 3)));
+    assert_eq!(rt; killed, KillAnswer::Killed(span(4, 5)));
+    assert_eq!(rt; not_live, KillAnswer::NotLive(span(5, 5)));
     let swept = VacuumAnswer::Vacuumed {
         swept: 1,
-        span: span(3, 6),
+        span: span(5, 8),
     };
     assert_eq!(rt; vacuumed, swept);
-    assert_eq!(rt; state.journal().len(), 6);
+    assert_eq!(rt; state.journal().len(), 8);
     Ok(())
 }
 

@@ -1,4 +1,4 @@
-use Rattle.std.proofs.Common.{◌≡◌, ◌+◌, ℕ, ◌≤◌, length, slice_index_or}
+use Rattle.std.proofs.Common.{◌≡◌, ◌+◌, ℕ, ◌≤◌, slice_index_or}
 use Rattle.spg_desk.specs.Passes.{desk_id, desk_of, view_of}
 use Rattle.spg_test_desk.proofs.lane.gather.Given as goal
 

@@ -1,4 +1,4 @@
-use Rattle.std.proofs.Common.{◌≡◌, ◌≢◌}
+use Rattle.std.proofs.Common.{◌≡◌}
 use Rattle.spg_desk.specs.Passes.{desk_id, desk_of, view_of}
 use Rattle.spg_test_desk.specs.Out.{IsAsBefore}
 use Rattle.spg_test_desk.proofs.outside.fill.Given as goal
