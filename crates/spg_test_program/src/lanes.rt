@@ -228,7 +228,7 @@ fn a_market_day(rt: HostRuntime) -> Result<(), Fail> {
     let text = text_of(&rt, &ended)?;
     // The row that was taken down may still be held by the helper who looks.
     let held = ending(text, " row held by 2");
-    assert_eq!(rt; ending(text, " added") + held, 8);
+    assert_eq!(rt; ending(text, " added").saturating_add(held), 8);
     assert_eq!(rt; ending(text, " killed"), 2);
     assert_eq!(rt; holding(text, " vacuumed "), 2);
     assert_eq!(rt; holding(text, " found 3 2.1 2.2 2.3"), 1);
