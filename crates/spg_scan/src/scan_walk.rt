@@ -11,6 +11,7 @@ use crate::walk::{Closed, ReadOut, Walk};
 use spg_base::{Block, List, Memory, SeatNo};
 use spg_opclass::OpClass;
 use spg_rows::RowTable;
+use spg_sort::sort_rows;
 use spg_tree::PageTable;
 use std::alloc::Global;
 
@@ -105,7 +106,7 @@ impl<O: OpClass> Walk<O> for Scan<O> {
     fn close(&mut self) -> Result<Closed, Memory> {
         let alloc = *self.rows.allocator();
         let mut rows = std::mem::replace(&mut self.rows, Vec::new(alloc));
-        rows.sort_unstable();
+        sort_rows(&mut rows);
         Ok(Closed {
             rows: List::from_vec(rows),
             met: self.met,
