@@ -11,7 +11,9 @@ use spg_rows::{RowState, RowTable};
 /// is looked up.
 #[derive(Drop)]
 pub struct Liveness<'a, O: OpClass> {
+    /// The states of the rows.
     pub table: &'a RowTable<O>,
+    /// Whether each row that has an entry is live.
     pub all_live: bool,
 }
 

@@ -1,6 +1,7 @@
 // What a scan still has to do, item by item.
-ghost use Rattle.std.specs.Prelude.{◌≡◌, ◌↔◌, IsTrue, Some as Just, IfOk};
-ghost use Rattle.spg_scan.specs.Held.{kept_as};
+ghost use Rattle.std.specs.Prelude.{◌≡◌, ◌↔◌, Option, IsTrue, Some as Just, IfOk};
+ghost use Rattle.spg_scan.specs.Held.{kept_as, item_of};
+ghost use Rattle.spg_scan.specs.Items.{held};
 ghost use Rattle.spg_scan.specs.Copying.{conds_of, kept_copy};
 
 use spg_base::{List, Memory, Place, Same};
@@ -86,5 +87,16 @@ pub(crate) fn is_copy_of<O: OpClass>(query: &Query<O>, kept: &Kept<O>, copied: &
             own.same(leaves) && are_conds(query, conds)
         }
         _ => false,
+    }
+}
+
+/// The rebuilt value of an item that is a place.
+pub(crate) fn recon_of<O: OpClass>(item: &Pending<O>) -> &Option<O::Recon>
+    requires { (x : Place) × (r : Option O.Recon) × (item_of item.now ≡ held x r) }
+    ensures { (x : Place) → (r : Option O.Recon) → item_of item.now ≡ held x r → result.now ≡ r }
+{
+    match item {
+        Pending::Held(held) => &held.recon,
+        Pending::Kept(_) => unreachable!(),
     }
 }

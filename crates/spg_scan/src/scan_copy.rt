@@ -10,10 +10,10 @@ ghost use Rattle.spg_scan.specs.Copying.{kept_copy, IsCopyOf, IsCopying, IsCopyO
 
 use crate::copying::{Copying, copy_chain, copy_inner, copy_page};
 use crate::liveness::Liveness;
-use crate::pending::{Pending, hand_out};
+use crate::pending::{Pending, hand_out, recon_of};
 use crate::scan::Scan;
 use crate::scan_walk::held_by_other;
-use crate::steps::{recon_of, starts_inner};
+use crate::steps::starts_inner;
 use spg_base::{Block, Memory, Offset, Place, SeatNo};
 use spg_opclass::{Copied, OpClass, Query};
 use spg_page::TupleKind;

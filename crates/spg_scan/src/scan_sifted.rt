@@ -7,9 +7,9 @@ ghost use Rattle.spg_scan.specs.Copying.{HasKept, TakesIn};
 ghost use Rattle.spg_scan.specs.Parts.{linked, rows_asked};
 ghost use Rattle.spg_scan.specs.declared.scan_sifted.SiftRefused.TheVariants as refused;
 
+use crate::in_place::put_in_place;
 use crate::pending::{Held, Pending, is_copy_of};
 use crate::scan::Scan;
-use crate::steps::put_in_place;
 use spg_base::{List, Memory, Place, Row, Same};
 use spg_opclass::{Copied, OpClass, Query, Sifted, sift};
 use std::alloc::Global;

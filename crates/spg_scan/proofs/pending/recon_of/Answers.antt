@@ -2,7 +2,7 @@ use Rattle.std.proofs.Common.{◌≡◌, ◌∙◌, sym, ap}
 use Rattle.spg_scan.specs.Held.{item_of}
 use Rattle.spg_scan.specs.Items.{held}
 use Rattle.spg_scan.proofs.Replacing.{no_place}
-use Rattle.spg_scan.proofs.steps.recon_of.Goals as goal
+use Rattle.spg_scan.proofs.pending.recon_of.Goals as goal
 
 pub returns : goal.returns
 returns g c = λ x r e.
