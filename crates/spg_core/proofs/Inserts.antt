@@ -1,5 +1,5 @@
 -- What a section of an insert leaves of a state.
-use Rattle.std.proofs.Common.{◌≡◌, ◌<◌, ◌+◌, ℕ, suc, Bool, true, false, List, [], ◌∷◌, ◌++◌, length, get_or, set, Option, Vec, refl, sym, ap, ◌∙◌, subst, get_or-set_same, length-set, map}
+use Rattle.std.proofs.Common.{◌≡◌, ◌<◌, ◌+◌, ℕ, suc, Bool, true, false, List, [], ◌∷◌, ◌++◌, length, get_or, set, Option, option_copied, Vec, refl, sym, ap, ◌∙◌, subst, get_or-set_same, length-set, map}
 use Rattle.std.specs.Prelude.{is_none}
 use Rattle.std.specs.declared.alloc.Global.{Global}
 use Rattle.spg_base.specs.Row.{RowAt}
@@ -30,10 +30,12 @@ use Rattle.spg_core.specs.Operations.{CanStep, IsOutgrownBy, StepsFrom, IsInsert
 use Rattle.spg_core.specs.Sections.{IsOutOf, IsHeavyFor, FindsNoPageFor, SeatFindsNoPage, TicksFor, SeatTicks, StoodFor, TellsFor, LatchesAfter, HasNone, OthersHold}
 use Rattle.spg_core.specs.Latches.{HoldsAfter}
 use Rattle.spg_core.specs.declared.plan.Plan.{Plan}
-use Rattle.spg_core.specs.Plans.{IsPlanned, PlannedIn, IsSpottedAt, IsBunchAt, AsksAt}
+use Rattle.spg_core.specs.declared.plan.Guide.{Guide}
+use Rattle.spg_core.specs.declared.plan.Guide.TheVariants as guides
+use Rattle.spg_core.specs.Plans.{IsPlanned, PlannedIn, GuidedIn, IsSpottedAt, IsBunchAt, AsksAt}
 use Rattle.spg_core.specs.Looking.{SpottedIn, IsSpotted, BunchIn, IsBunch, AsksIn, Asks}
 use Rattle.spg_core.specs.Slot.{stage_of}
-use Rattle.spg_core.specs.Stage.{IsInserting}
+use Rattle.spg_core.specs.Stage.{IsInserting, reading, sweeping}
 use Rattle.spg_core.specs.Seen.{Seen, stage_at, moved, logged}
 use Rattle.spg_core.specs.Kept.{fields_of, seen_of, IsState}
 use Rattle.spg_core.proofs.Weights.{nulls_key}
@@ -44,6 +46,19 @@ use Rattle.spg_core.proofs.Steps.{with_fields, same_rows, past, seats, fits, low
 -- what a seat has latched is its own, and what it has not is not
 pub none_held : (t t2 : pages.Table) (seat : ℕ) → AreHeld t2 seat (rest_of t seat) (λ b. false) → HasNone t2 seat
 none_held t t2 seat h b e = h.others b (sym (h.latch b) ∙ e)
+
+-- a class guides an insert wherever it stands, and a plan guides one that it is for
+pub class_guides : {O Key Recon Cond : Type 0} (m : Meaning Key Recon Cond) (t : pages.Table) (x : Stage O Key Recon Cond) (class : _) → IsInserting x → GuidedIn m t x (guides.Class class)
+class_guides m t free class h = absurd h
+class_guides m t (descending key d) class h = tt
+class_guides m t (reading s) class h = absurd h
+class_guides m t (sweeping v) class h = absurd h
+
+pub plan_guides : {O Key Recon Cond : Type 0} (m : Meaning Key Recon Cond) (t : pages.Table) (x : Stage O Key Recon Cond) (plan : Plan O Key Recon Cond) (parted : _) → PlannedIn m t x plan (option_copied parted) → GuidedIn m t x (guides.Plan plan parted)
+plan_guides m t free plan parted h = h
+plan_guides m t (descending key d) plan parted h = h
+plan_guides m t (reading s) plan parted h = h
+plan_guides m t (sweeping v) plan parted h = h
 
 -- where a section is refused, as callers see it
 module _ {O Key Recon Cond : Type 0} (m : Meaning Key Recon Cond) (s : Inside O Key Recon Cond) (seen : Seen O Key Recon Cond) (view : seen_of s ≡ seen) (seat : ℕ) where

@@ -1,5 +1,5 @@
 -- What an insert is to do in its next section, and what a look at it finds.
-use Rattle.std.specs.Prelude.{◌≡◌, ◌⊎◌, ℕ, false, Option, Some, None}
+use Rattle.std.specs.Prelude.{⊤, ◌≡◌, ◌⊎◌, ℕ, false, Option, option_copied, Some, None}
 use Rattle.spg_opclass.specs.Meaning.{Meaning}
 use Rattle.spg_opclass.specs.Copies.{AtTuple, RestsAt, answer_at}
 use Rattle.spg_opclass.specs.declared.view.Choice.TheVariants as choice
@@ -16,6 +16,8 @@ use Rattle.spg_core.specs.declared.choose.InnerStep.{InnerStep}
 use Rattle.spg_core.specs.declared.choose.InnerStep.TheVariants.{Node, Add, Split}
 use Rattle.spg_core.specs.declared.found.Found.{Found}
 use Rattle.spg_core.specs.declared.found.Found.TheVariants as finds
+use Rattle.spg_core.specs.declared.plan.Guide.{Guide}
+use Rattle.spg_core.specs.declared.plan.Guide.TheVariants as guides
 use Rattle.spg_core.specs.declared.plan.Plan.{Plan}
 use Rattle.spg_core.specs.declared.plan.Plan.TheVariants as plans
 
@@ -33,6 +35,18 @@ PlannedIn m t free plan parted = ⊥
 PlannedIn m t (descending key d) plan parted = IsPlanned m t d plan parted
 PlannedIn m t (reading s) plan parted = ⊥
 PlannedIn m t (sweeping v) plan parted = ⊥
+
+-- the class may decide anywhere; a plan is one for where the insert stands
+abbrev pub IsGuided : {O Key Recon Cond : Type 0} → Meaning Key Recon Cond → Table → Descending Recon → Guide O Key Recon Cond → Type 0
+IsGuided m t d (guides.Class class) = ⊤
+IsGuided m t d (guides.Plan plan parted) = IsPlanned m t d plan (option_copied parted)
+
+-- so it is for the insert that is open at this stage
+abbrev pub GuidedIn : {O Key Recon Cond : Type 0} → Meaning Key Recon Cond → Table → Stage O Key Recon Cond → Guide O Key Recon Cond → Type 0
+GuidedIn m t free guide = ⊥
+GuidedIn m t (descending key d) guide = IsGuided m t d guide
+GuidedIn m t (reading s) guide = ⊥
+GuidedIn m t (sweeping v) guide = ⊥
 
 -- ---- looks
 

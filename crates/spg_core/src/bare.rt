@@ -21,14 +21,14 @@ ghost use Rattle.spg_core.specs.Kept.{RootsAreHeavy};
 ghost use Rattle.spg_core.specs.Counts.{IsStat};
 ghost use Rattle.spg_core.specs.Waiting.{is_used};
 ghost use Rattle.spg_core.specs.Looking.{LooksAt, StepsInsert, Asks, IsSpotted, IsBunch, CopiesItem, KeptIn, SiftsItem};
-ghost use Rattle.spg_core.specs.Plans.{PlannedIn};
+ghost use Rattle.spg_core.specs.Plans.{PlannedIn, GuidedIn};
 ghost use Rattle.spg_core.specs.Sections.{IsNew, OpensInsert, IsInsertOut, TellsSection, LatchesAfter, OthersHold, IsHeavy, SeatFindsNoPage, SeatTicks, KillsRow, OpensScan, ReadsItem, ClosesScan, OpensVacuum, StepsVacuum, GivesUp};
 
 use crate::answer::{InsertOut, OpenKind, OpenRefused, VacuumOut, VacuumRefused};
 use crate::found::{Found, is_bunch, is_spotted, look_at, step_for};
 use crate::look::{ApplyRefused, Look};
 use crate::operations::{close_slot, end_insert, end_vacuum, read_slot, release_slot, step_slot};
-use crate::plan::{Plan, plan_at};
+use crate::plan::{Guide, Plan};
 use crate::sifting::{copy_slot, sift_slot};
 use crate::slot::{SEATS, Slot, descent_at, free_slots, give_up, kind, set_slot, slot_at};
 use crate::stat::stat_of;
@@ -244,17 +244,11 @@ impl<O: OpClass> Bare<O> {
         Ok(())
     }
 
-    /// The next section of an insert as planned, of which `State::insert_step` tells. `parted` is how
-    /// the class divided the leaves, where they are divided and are no nulls.
+    /// The next section of an insert as its guide decides, of which `State::insert_step` tells.
     #[inline(always)]
-    fn go_on(
-        &mut self,
-        seat: SeatNo,
-        plan: Plan<O>,
-        parted: Option<&Parted<O>>,
-    ) -> Result<InsertOut, StepRefused>
+    fn go_on(&mut self, seat: SeatNo, guide: Guide<'_, O>) -> Result<InsertOut, StepRefused>
         requires inserting { IsInserting (stage_at self.old seat) }
-        requires planned { PlannedIn O.meaning self.old.table (stage_at self.old seat) plan (option_copied parted) }
+        requires guided { GuidedIn O.meaning self.old.table (stage_at self.old seat) guide }
         ensures ok { IfOk result (λ out. IsInsertOut self.old self.new seat out) }
         ensures told { IfOk result (λ out. TellsSection O.meaning self.old self.new seat out) }
         ensures latches { IfOk result (λ out. LatchesAfter self.new seat out) }
@@ -270,14 +264,7 @@ impl<O: OpClass> Bare<O> {
         ensures clock_first { SeatTicks O.meaning self.old seat → self.old.table.clock + 1 ≡ 2 ^ 48 → IsErrOf result StepRefused.ClockFull ⊎ IsErrOf result StepRefused.Memory }
         ensures err { OnErr result (self.new ≡ self.old) }
     {
-        let out = step_slot(
-            self.alloc,
-            &mut self.table,
-            &mut self.slots,
-            seat,
-            plan,
-            parted,
-        )?;
+        let out = step_slot(self.alloc, &mut self.table, &mut self.slots, seat, guide)?;
         if has_ended(&out) {
             let row = end_insert(&mut self.slots, seat);
             self.rows.put(row);
@@ -317,9 +304,7 @@ impl<O: OpClass> Bare<O> {
         ensures clock_first { SeatTicks O.meaning self.old seat → self.old.table.clock + 1 ≡ 2 ^ 48 → IsErrOf result StepRefused.ClockFull ⊎ IsErrOf result StepRefused.Memory }
         ensures err { OnErr result (self.new ≡ self.old) }
     {
-        let descent = descent_at(&self.slots, seat);
-        let (plan, parted) = plan_at(self.alloc, class, &self.table, descent)?;
-        self.go_on(seat, plan, parted.as_ref())
+        self.go_on(seat, Guide::Class(class))
     }
 
     /// The next section of an insert as planned, which is refused as what the class answered.
@@ -343,7 +328,7 @@ impl<O: OpClass> Bare<O> {
         ensures clock_first { SeatTicks O.meaning self.old seat → self.old.table.clock + 1 ≡ 2 ^ 48 → IsErrOf result ApplyRefused.ClockFull ⊎ IsErrOf result ApplyRefused.Memory }
         ensures err { OnErr result (self.new ≡ self.old) }
     {
-        match self.go_on(seat, plan, parted) {
+        match self.go_on(seat, Guide::Plan(plan, parted)) {
             Ok(out) => Ok(out),
             Err(StepRefused::IndexFull) => Err(ApplyRefused::IndexFull),
             Err(StepRefused::ClockFull) => Err(ApplyRefused::ClockFull),
@@ -376,7 +361,8 @@ impl<O: OpClass> Bare<O> {
             Found::Part(bunch) => Ok(Look::Part(bunch)),
             Found::Plan(plan) => {
                 let unasked: Option<Parted<O>> = None;
-                Ok(Look::Stepped(self.go_on(seat, plan, unasked.as_ref())?))
+                let guide = Guide::Plan(plan, unasked.as_ref());
+                Ok(Look::Stepped(self.go_on(seat, guide)?))
             }
         }
     }

@@ -10,16 +10,17 @@ ghost use Rattle.spg_seats.specs.Latching.{InsertHolds};
 ghost use Rattle.spg_core.specs.Stepping.{MayStep, IsStepOut, MakesAtMostOne};
 ghost use Rattle.spg_core.specs.Telling.{IsRuleFor, StepTells, Does};
 ghost use Rattle.spg_core.specs.Refusing.{Refuses};
-ghost use Rattle.spg_core.specs.Plans.{IsPlanned};
+ghost use Rattle.spg_core.specs.Plans.{IsPlanned, IsGuided};
 ghost use Rattle.spg_core.specs.Ends.{TakesOne};
 ghost use Rattle.spg_core.specs.Latches.{HoldsAfter};
 
 use crate::answer::InsertOut;
+use crate::choose::choose;
 use crate::inner::apply;
 use crate::latches::{settle_latches, stand_block};
-use crate::plan::Plan;
+use crate::plan::{Guide, Plan, part};
 use spg_base::SeatNo;
-use spg_descend::{Entered, PutOut, enter_root, put_leaf};
+use spg_descend::{Entered, PutOut, Rule, enter_root, put_leaf, rule_at};
 use spg_move::move_chain;
 use spg_opclass::{OpClass, Parted};
 use spg_split::{SplitOut, split_leaf};
@@ -98,10 +99,39 @@ fn divide<O: OpClass>(
     }
 }
 
+/// What an insert does where it stands, as the class answers. Where it changed pages its latches are not
+/// settled yet.
+#[inline(always)]
+fn asked<O: OpClass>(
+    alloc: Global,
+    class: &O,
+    table: &mut PageTable,
+    descent: &mut Descent<O>,
+    seat: SeatNo,
+) -> Result<InsertOut, StepRefused>
+    requires can { MayStep O.meaning table.old descent.old }
+    ensures does { IfOk result (λ out. Does O.meaning table.old table.new descent.old descent.new seat out) }
+    ensures refused { Refuses O.meaning table.old table.new descent.old descent.new seat result }
+{
+    match rule_at(table, descent) {
+        Rule::Start => Ok(begin(table, descent, seat)),
+        Rule::Choose => {
+            let chosen = choose(alloc, class, table, descent)?;
+            apply(alloc, table, descent, seat, chosen)
+        }
+        Rule::Put => put(alloc, table, descent, seat),
+        Rule::Move => move_away(alloc, table, descent, seat),
+        Rule::Divide => {
+            let parted = part(alloc, class, table, descent)?;
+            divide(alloc, table, descent, seat, parted.as_ref())
+        }
+    }
+}
+
 /// What an insert does where it stands, as planned. Where it changed pages its latches are not settled
 /// yet.
 #[inline(always)]
-fn section<O: OpClass>(
+fn planned<O: OpClass>(
     alloc: Global,
     table: &mut PageTable,
     descent: &mut Descent<O>,
@@ -123,20 +153,39 @@ fn section<O: OpClass>(
     }
 }
 
-/// The next section of an open insert as planned, which is one of those that may come yet. `parted` is
-/// how the class divided the leaves, where they are divided and are no nulls. After a refusal table and
-/// insert are as they were.
+/// What an insert does where it stands, as its guide decides. Where it changed pages its latches are not
+/// settled yet.
+#[inline(always)]
+fn section<O: OpClass>(
+    alloc: Global,
+    table: &mut PageTable,
+    descent: &mut Descent<O>,
+    seat: SeatNo,
+    guide: Guide<'_, O>,
+) -> Result<InsertOut, StepRefused>
+    requires can { MayStep O.meaning table.old descent.old }
+    requires guided { IsGuided O.meaning table.old descent.old guide }
+    ensures does { IfOk result (λ out. Does O.meaning table.old table.new descent.old descent.new seat out) }
+    ensures refused { Refuses O.meaning table.old table.new descent.old descent.new seat result }
+{
+    match guide {
+        Guide::Class(class) => asked(alloc, class, table, descent, seat),
+        Guide::Plan(plan, parted) => planned(alloc, table, descent, seat, plan, parted),
+    }
+}
+
+/// The next section of an open insert as its guide decides, which is one of those that may come yet.
+/// After a refusal table and insert are as they were.
 #[inline(always)]
 pub(crate) fn step<O: OpClass>(
     alloc: Global,
     table: &mut PageTable,
     descent: &mut Descent<O>,
     seat: SeatNo,
-    plan: Plan<O>,
-    parted: Option<&Parted<O>>,
+    guide: Guide<'_, O>,
 ) -> Result<InsertOut, StepRefused>
     requires can { MayStep O.meaning table.old descent.old }
-    requires planned { IsPlanned O.meaning table.old descent.old plan (option_copied parted) }
+    requires guided { IsGuided O.meaning table.old descent.old guide }
     ensures ok { IfOk result (λ out. IsStepOut O.meaning table.old table.new descent.old descent.new seat out) }
     ensures told { IfOk result (λ out. StepTells O.meaning table.old table.new descent.old descent.new seat out) }
     ensures latches { IfOk result (λ out. (rest : ℕ → Option ℕ) → InsertHolds table.old seat rest descent.old → HoldsAfter table.new seat rest descent.new out) }
@@ -146,7 +195,7 @@ pub(crate) fn step<O: OpClass>(
     ensures refused { Refuses O.meaning table.old table.new descent.old descent.new seat result }
 {
     let was = stand_block(descent.stand());
-    let out = section(alloc, table, descent, seat, plan, parted)?;
+    let out = section(alloc, table, descent, seat, guide)?;
     let _count = table.page_count();
     settle_latches(table, descent, was, seat, &out);
     Ok(out)

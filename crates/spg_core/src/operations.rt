@@ -1,4 +1,4 @@
-ghost use Rattle.std.specs.Prelude.{◌≡◌, true, ◌⊎◌, ◌<◌, ◌+◌, ◌^◌, [], ℕ, Option, option_copied, length, slice_set, slice_index_or, IfOk, OnErr, IsErrOf, IfSome, ◌≤◌, vec_capacity};
+ghost use Rattle.std.specs.Prelude.{◌≡◌, true, ◌⊎◌, ◌<◌, ◌+◌, ◌^◌, [], ℕ, Option, length, slice_set, slice_index_or, IfOk, OnErr, IsErrOf, IfSome, ◌≤◌, vec_capacity};
 ghost use Rattle.spg_forest.specs.Shape.{Shape};
 ghost use Rattle.spg_rows.specs.Table.{state_in};
 ghost use Rattle.spg_rows.specs.declared.table.RowState.TheVariants as row_state;
@@ -12,37 +12,36 @@ ghost use Rattle.spg_core.specs.Slot.{GivesBack, ended_with, stage_of};
 ghost use Rattle.spg_core.specs.Operations.{CanStep, StepsSlot, IsOutgrownBy, CanRead, ReadsSlot, CanClose, ClosesSlot, CanRelease, IsInsert, IsRowOf};
 ghost use Rattle.spg_core.specs.Stepping.{IsNearLimit};
 ghost use Rattle.spg_core.specs.Sections.{FindsNoPageFor, TicksFor};
-ghost use Rattle.spg_core.specs.Plans.{PlannedIn};
+ghost use Rattle.spg_core.specs.Plans.{GuidedIn};
 ghost use Rattle.spg_scan.specs.Scanning.{IsClosing, emptied};
 ghost use Rattle.spg_scan.specs.Parts.{EntriesLive};
 
 use crate::answer::InsertOut;
 use crate::insert::step;
-use crate::plan::Plan;
+use crate::plan::Guide;
 use crate::slot::Slot;
 use crate::vacuums::Vacuums;
 use spg_base::{List, Memory, Row, Rows, SeatNo};
 use spg_descend::release_latches;
-use spg_opclass::{OpClass, Parted};
+use spg_opclass::OpClass;
 use spg_rows::RowTable;
 use spg_scan::{Closed, Liveness, ReadOut, Scan, Walk};
 use spg_tree::{PageTable, StepRefused};
 use std::alloc::Global;
 
-/// The next section of the insert in the seat's slot, as planned.
+/// The next section of the insert in the seat's slot, as its guide decides.
 #[inline(always)]
 pub(crate) fn step_slot<O: OpClass>(
     alloc: Global,
     table: &mut PageTable,
     slots: &mut Vec<Slot<O>>,
     seat: SeatNo,
-    plan: Plan<O>,
-    parted: Option<&Parted<O>>,
+    guide: Guide<'_, O>,
 ) -> Result<InsertOut, StepRefused>
     requires seats { length slots.old.items ≡ 64 }
     requires shape { Shape O.meaning (sheets_of table.old) }
     requires insert { CanStep O.meaning table.old (slice_index_or slots.old.items seat kept.Free) }
-    requires planned { PlannedIn O.meaning table.old (stage_of (slice_index_or slots.old.items seat kept.Free)) plan (option_copied parted) }
+    requires guided { GuidedIn O.meaning table.old (stage_of (slice_index_or slots.old.items seat kept.Free)) guide }
     ensures ok { IfOk result (λ out. StepsSlot O.meaning table.old table.new slots.old.items slots.new.items seat out) }
     ensures full { IsErrOf result IndexFull → IsOutgrownBy table.old (slice_index_or slots.old.items seat kept.Free) × IsNearLimit table.old }
     ensures clock { IsErrOf result ClockFull → IsOutgrownBy table.old (slice_index_or slots.old.items seat kept.Free) × (table.old.clock + 1 ≡ 2 ^ 48) }
@@ -53,7 +52,7 @@ pub(crate) fn step_slot<O: OpClass>(
     ensures err_slots { OnErr result (slots.new.items ≡ slots.old.items) }
 {
     match &mut slots[usize::from(seat.number())] {
-        Slot::Insert { descent, .. } => step(alloc, table, descent, seat, plan, parted),
+        Slot::Insert { descent, .. } => step(alloc, table, descent, seat, guide),
         _ => unreachable!(),
     }
 }

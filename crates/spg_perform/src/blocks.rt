@@ -25,21 +25,20 @@ fn lane<O: Spoken, M: Images>(
     images: &mut M,
     book: &mut Book,
     seat: SeatNo,
-    alone: bool,
     commands: &[Command],
 )
     requires closed { AllClosed (past_of state.old) }
-    requires can { All (CanBeDone O.speech alone) commands.now }
+    requires can { All (CanBeDone O.speech true) commands.now }
     requires room { length commands.now ≤ book.old.spare }
     ensures leads { (block : ℕ) → LeadsOn O.meaning O.speech O.code_number
         (standing state.old (M.held images.old) (M.faults images.old) book.old.records)
         (standing state.new (M.held images.new) (M.faults images.new) book.new.records)
-        (lane_tasks block seat alone commands.now) }
+        (lane_tasks block seat true commands.now) }
     ensures closed { AllClosed (past_of state.new) }
     ensures room { book.new.spare + length commands.now ≡ book.old.spare }
 {
     for one in commands {
-        book.add(command(alloc, state, images, seat, alone, one));
+        book.add(command(alloc, state, images, seat, one));
     }
 }
 
@@ -49,17 +48,16 @@ fn in_turn<O: Spoken, M: Images>(
     state: &mut State<O>,
     images: &mut M,
     book: &mut Book,
-    alone: bool,
     lanes: &List<List<Command>>,
 )
     requires closed { AllClosed (past_of state.old) }
     requires few { length lanes.now ≤ 32 }
-    requires can { All (λ (lane : Items Asked). All (CanBeDone O.speech alone) lane) lanes.now }
+    requires can { All (λ (lane : Items Asked). All (CanBeDone O.speech true) lane) lanes.now }
     requires room { length (lanes_tasks 0 0 true lanes.now) ≤ book.old.spare }
     ensures leads { (number : ℕ) → LeadsOn O.meaning O.speech O.code_number
         (standing state.old (M.held images.old) (M.faults images.old) book.old.records)
         (standing state.new (M.held images.new) (M.faults images.new) book.new.records)
-        (lanes_tasks number 0 alone lanes.now) }
+        (lanes_tasks number 0 true lanes.now) }
     ensures closed { AllClosed (past_of state.new) }
     ensures room { book.new.spare + length (lanes_tasks 0 0 true lanes.now) ≡ book.old.spare }
 {
@@ -67,7 +65,7 @@ fn in_turn<O: Spoken, M: Images>(
         let Some(seat) = SeatNo::new(number as u8) else {
             unreachable!()
         };
-        lane(alloc, state, images, book, seat, alone, commands.as_slice());
+        lane(alloc, state, images, book, seat, commands.as_slice());
     }
 }
 
@@ -94,7 +92,7 @@ fn part<R: AllocGlobal + Threads + Wait + Sync, O: Spoken + SharedClass, M: Imag
         return together(rt, state, book, block.lanes.as_slice(), gate);
     }
     let mut state = state;
-    in_turn(rt.alloc(), &mut state, images, book, true, &block.lanes);
+    in_turn(rt.alloc(), &mut state, images, book, &block.lanes);
     state
 }
 

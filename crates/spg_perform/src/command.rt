@@ -46,15 +46,14 @@ pub(crate) fn command<O: Spoken, M: Images>(
     state: &mut State<O>,
     images: &mut M,
     seat: SeatNo,
-    alone: bool,
     command: &Command,
 ) -> Record
     requires closed { AllClosed (past_of state.old) }
-    requires can { CanBeDone O.speech alone command.now }
+    requires can { CanBeDone O.speech true command.now }
     ensures leads { (block : ℕ) (records : Items Done) → LeadsOn O.meaning O.speech O.code_number
         (standing state.old (M.held images.old) (M.faults images.old) records)
         (standing state.new (M.held images.new) (M.faults images.new) (records ++ result ∷ []))
-        (task_of block seat alone command.now ∷ []) }
+        (task_of block seat true command.now ∷ []) }
     ensures closed { AllClosed (past_of state.new) }
 {
     // A seat that has nothing open is free, before and after.
@@ -62,7 +61,7 @@ pub(crate) fn command<O: Spoken, M: Images>(
     let done = match command {
         Command::Insert { row, key } => insert(state, seat, *row, key),
         Command::Delete { row } => delete(state, seat, *row),
-        Command::Find { query } => find(alloc, state, seat, alone, query),
+        Command::Find { query } => find(alloc, state, seat, query),
         Command::Save { name } => saved(state, images, seat, name),
         Command::Stat => stat(state, seat),
         Command::Vacuum => vacuum(state, seat),

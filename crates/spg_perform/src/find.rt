@@ -1,4 +1,4 @@
-ghost use Rattle.std.specs.Prelude.{◌≡◌, ◌≢◌, ℕ, Some, None, OnOk, OnErr, if◌then◌else◌};
+ghost use Rattle.std.specs.Prelude.{◌≡◌, ◌≢◌, ℕ, true, OnOk, OnErr};
 ghost use Rattle.spg_rows.specs.History.{nothing, open_of};
 ghost use Rattle.spg_forest.specs.Shape.{Shape};
 ghost use Rattle.spg_tree.specs.Table.{sheets_of};
@@ -54,26 +54,18 @@ fn read_on<O: Spoken>(state: &mut State<O>, seat: SeatNo) -> Result<(), Memory>
     }
 }
 
-/// How many tuples a scan met, which is told outside lanes.
-fn told(alone: bool, met: u64) -> Option<u64>
-    ensures { result ≡ if alone then Some met else None }
-{
-    if alone { Some(met) } else { None }
-}
-
 /// Finds rows by a scan that is opened, read to its end and closed. Where there is no memory, it is
 /// given up. No seat has anything open.
 pub(crate) fn find<O: Spoken>(
     alloc: Global,
     state: &mut State<O>,
     seat: SeatNo,
-    alone: bool,
     query: &AnyQuery,
 ) -> Record
     requires free { stage_at state.old seat ≡ free }
     requires closed { AllClosed (past_of state.old) }
     requires known { IsKnown O.speech (Find query.now) }
-    ensures { Acts O.meaning O.speech state.old state.new seat alone (Find query.now) result }
+    ensures { Acts O.meaning O.speech state.old state.new seat true (Find query.now) result }
 {
     let from = position(state);
     let query = match query_in(alloc, state.class(), query) {
@@ -95,7 +87,7 @@ pub(crate) fn find<O: Spoken>(
     };
     let outcome = Outcome::Found {
         rows: closed.rows,
-        walk: told(alone, closed.met),
+        walk: Some(closed.met),
     };
     recorded(state, from, outcome)
 }

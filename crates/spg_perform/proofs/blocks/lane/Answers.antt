@@ -1,4 +1,4 @@
-use Rattle.std.proofs.Common.{arith}
+use Rattle.std.proofs.Common.{true, arith}
 use Rattle.spg_perform.specs.Session.{standing}
 use Rattle.spg_perform.proofs.BlocksTasks.{IsNext}
 use Rattle.spg_perform.proofs.BlocksLeading.{lane_leads, lane_led}
@@ -12,7 +12,7 @@ loop-one-preserved g c =
           (standing c.args.state.now (g.M.Images.held c.args.images.now) (g.M.Images.faults c.args.images.now) c.args.book.now.records)
           (standing c.loop-one.state (g.M.Images.held c.loop-one.images) (g.M.Images.faults c.loop-one.images) c.loop-one.book.records)
           c.command.new.state (g.M.Images.held c.command.new.images) (g.M.Images.faults c.command.new.images) c.add.new.self.records
-          c.command.result c.args.seat c.args.alone c.args.commands.now c.loop-one.one-index c.one-item.result next c.add.ensures.records c.loop-one.invariant.leads c.command.ensures.leads;
+          c.command.result c.args.seat true c.args.commands.now c.loop-one.one-index c.one-item.result next c.add.ensures.records c.loop-one.invariant.leads c.command.ensures.leads;
       closed = c.command.ensures.closed;
       room = omega (arith, c.loop-one.invariant.room, c.add.ensures.spare);
     }
@@ -22,4 +22,4 @@ returns-clause-leads g c =
     lane_led g.O.OpClass.meaning g.O.Spoken.speech g.O.OpClass.code_number
     (standing c.args.state.now (g.M.Images.held c.args.images.now) (g.M.Images.faults c.args.images.now) c.args.book.now.records)
     (standing c.loop-one.state (g.M.Images.held c.loop-one.images) (g.M.Images.faults c.loop-one.images) c.loop-one.book.records)
-    c.loop-one.one-index c.args.seat c.args.alone c.args.commands.now (omega (arith, c.loop-one-test.false)) c.loop-one.invariant.leads
+    c.loop-one.one-index c.args.seat true c.args.commands.now (omega (arith, c.loop-one-test.false)) c.loop-one.invariant.leads

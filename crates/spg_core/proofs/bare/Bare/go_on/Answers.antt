@@ -1,4 +1,4 @@
-use Rattle.std.proofs.Common.{rules, option_copied, ℕ, suc, ◌≡◌, ◌<◌, ◌+◌, ◌^◌, sym, refl, ap, ◌∙◌, subst, get_or, arith, length, inl}
+use Rattle.std.proofs.Common.{rules, ℕ, suc, ◌≡◌, ◌<◌, ◌+◌, ◌^◌, sym, refl, ap, ◌∙◌, subst, get_or, arith, length, inl}
 use Rattle.std.proofs.lemmas.Bool.{false≢true}
 use Rattle.spg_tree.specs.Table.{Table, sheets_of}
 use Rattle.spg_seats.specs.Descending.{ChangesHeld}
@@ -10,7 +10,7 @@ use Rattle.spg_core.specs.Stage.{Stage, IsInserting}
 use Rattle.spg_core.specs.Seen.{Seen}
 use Rattle.spg_core.specs.Operations.{StepsFrom, IsOutgrownBy}
 use Rattle.spg_core.specs.Sections.{IsOutOf, IsHeavyFor, FindsNoPageFor, TicksFor, TellsFor, LatchesAfter, HasNone, OthersHold}
-use Rattle.spg_core.specs.Plans.{PlannedIn}
+use Rattle.spg_core.specs.Plans.{GuidedIn}
 use Rattle.spg_core.specs.Stepping.{IsNearLimit, Grows, MakesAtMostOne}
 use Rattle.spg_core.specs.Ends.{SeatEnds, SeatThenEnds}
 use Rattle.spg_core.proofs.Growing.{grows_as}
@@ -27,14 +27,14 @@ step_slot-requires-clause-insert g c =
     let slot = get_or s.slots.items seat Free in
     can_step g.O.OpClass.meaning g.O.OpClass.codes s c.self.invariant seat slot (fits g.O.OpClass.meaning s c.self.invariant seat) (subst (λ (x : Stage _ _ _ _). IsInserting x) (stage_is s c.args.self.now c.self.view_is seat) c.requires.inserting)
 
-pub step_slot-requires-clause-planned : goal.step_slot-requires-clause-planned
-step_slot-requires-clause-planned g c =
+pub step_slot-requires-clause-guided : goal.step_slot-requires-clause-guided
+step_slot-requires-clause-guided g c =
     let m = g.O.OpClass.meaning in
     let s = c.self.inside in
     let seen = c.args.self.now in
     let seat = c.args.seat in
-    subst (λ (t : Table). PlannedIn m t (stage_of (get_or s.slots.items seat Free)) c.args.plan (option_copied c.args.parted)) (table_is s seen c.self.view_is seat)
-    (subst (λ (x : Stage _ _ _ _). PlannedIn m seen.table x c.args.plan (option_copied c.args.parted)) (stage_is s seen c.self.view_is seat) c.requires.planned)
+    subst (λ (t : Table). GuidedIn m t (stage_of (get_or s.slots.items seat Free)) c.args.guide) (table_is s seen c.self.view_is seat)
+    (subst (λ (x : Stage _ _ _ _). GuidedIn m seen.table x c.args.guide) (stage_is s seen c.self.view_is seat) c.requires.guided)
 
 pub invariant_of-self : goal.invariant_of-self
 invariant_of-self g c = kept_same g.O.OpClass.meaning c.self.inside c.self.invariant c.step_slot.new.table c.step_slot.new.slots c.in_err-out.ensures.err c.in_err-out.ensures.err_slots
