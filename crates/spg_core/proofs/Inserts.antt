@@ -30,7 +30,6 @@ use Rattle.spg_core.specs.Operations.{CanStep, IsOutgrownBy, StepsFrom, IsInsert
 use Rattle.spg_core.specs.Sections.{IsOutOf, IsHeavyFor, FindsNoPageFor, SeatFindsNoPage, TicksFor, SeatTicks, StoodFor, TellsFor, LatchesAfter, HasNone, OthersHold}
 use Rattle.spg_core.specs.Latches.{HoldsAfter}
 use Rattle.spg_core.specs.declared.plan.Plan.{Plan}
-use Rattle.spg_core.specs.declared.plan.Guide.{Guide}
 use Rattle.spg_core.specs.declared.plan.Guide.TheVariants as guides
 use Rattle.spg_core.specs.Plans.{IsPlanned, PlannedIn, GuidedIn, IsSpottedAt, IsBunchAt, AsksAt}
 use Rattle.spg_core.specs.Looking.{SpottedIn, IsSpotted, BunchIn, IsBunch, AsksIn, Asks}

@@ -1,5 +1,4 @@
-use Rattle.std.proofs.Common.{rules, ⊎_elim, ap, subst, inl, inr}
-use Rattle.spg_tree.specs.Descents.{Descending}
+use Rattle.std.proofs.Common.{rules, ⊎_elim, subst, inl, inr}
 use Rattle.spg_tree.specs.declared.stand.StepRefused.TheVariants.{ClockFull}
 use Rattle.spg_split.specs.Cases.{IsLeafFull}
 use Rattle.spg_split.specs.declared.split.SplitOut.{SplitOut}

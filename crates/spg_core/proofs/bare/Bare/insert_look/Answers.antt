@@ -3,11 +3,12 @@ use Rattle.std.proofs.Common.{refl, sym, subst, inl, inr, ⊎_elim}
 use Rattle.spg_tree.specs.declared.stand.StepRefused.TheVariants.{ClockFull, Memory}
 use Rattle.spg_core.specs.declared.found.Found.{Found}
 use Rattle.spg_core.specs.declared.found.Found.TheVariants as finds
-use Rattle.spg_core.specs.Plans.{AsksAt, IsFound, IsPlanned, IsSpottedAt, IsBunchAt}
+use Rattle.spg_core.specs.Plans.{IsFound, IsPlanned, IsSpottedAt, IsBunchAt}
 use Rattle.spg_core.specs.Looking.{Asks}
+use Rattle.spg_core.specs.Seen.{stage_at}
 use Rattle.spg_core.proofs.Refusals.{not_err, same_err}
 use Rattle.spg_core.proofs.Looks.{spotted_asks, bunch_asks}
-use Rattle.spg_core.proofs.Inserts.{is_insert, plan_seen, spotted_seen, bunch_seen, asks_seen, asks_kept, may_step}
+use Rattle.spg_core.proofs.Inserts.{is_insert, plan_seen, plan_guides, spotted_seen, bunch_seen, asks_seen, asks_kept, may_step}
 use Rattle.spg_core.proofs.bare.Bare.insert_look.Given.{Over}
 use Rattle.spg_core.proofs.bare.Bare.insert_look.Goals as goal
 use Rattle.spg_core.proofs.bare.Bare.insert_look.Goals.{In-Choose, In-Part, After-as_ref}
@@ -25,10 +26,11 @@ planned g c = subst (λ (f : Found _ _ _ _). IsFound g.O.OpClass.meaning c.self.
 no_say : (g : Over) (c : After-as_ref g) → Asks c.args.self.now c.args.seat → ⊥
 no_say g c asks = (planned g c).0 (asks_kept c.self.inside c.args.self.now c.self.view_is c.args.seat c.descent_at-descent.result.now c.deref.result.now c.deref.ensures.value c.descent_at-descent.ensures asks)
 
-pub go_on-requires-clause-planned : goal.go_on-requires-clause-planned
-go_on-requires-clause-planned g c =
-    plan_seen c.self.inside c.args.self.now c.self.view_is c.args.seat c.descent_at-descent.result.now c.deref.result.now c.deref.ensures.value c.descent_at-descent.ensures g.O.OpClass.meaning c.in-Plan.plan _
-    (subst (λ p. IsPlanned g.O.OpClass.meaning c.self.inside.table c.descent_at-descent.result.now c.in-Plan.plan p) (sym c.as_ref.ensures.value) (planned g c).1)
+pub go_on-requires-clause-guided : goal.go_on-requires-clause-guided
+go_on-requires-clause-guided g c =
+    plan_guides g.O.OpClass.meaning c.args.self.now.table (stage_at c.args.self.now c.args.seat) c.in-Plan.plan _
+    (plan_seen c.self.inside c.args.self.now c.self.view_is c.args.seat c.descent_at-descent.result.now c.deref.result.now c.deref.ensures.value c.descent_at-descent.ensures g.O.OpClass.meaning c.in-Plan.plan _
+    (subst (λ p. IsPlanned g.O.OpClass.meaning c.self.inside.table c.descent_at-descent.result.now c.in-Plan.plan p) (sym c.as_ref.ensures.value) (planned g ((goal.at.go_on-requires-clause-guided g c).After-as_ref)).1))
 
 pub returns-in_err-go_on-in-Plan-clause-clock_first : goal.returns-in_err-go_on-in-Plan-clause-clock_first
 returns-in_err-go_on-in-Plan-clause-clock_first g c = λ no ticks last.
