@@ -1,50 +1,38 @@
 #!/usr/bin/env python3
-"""Proves the crates that the program stands on, and builds the program. Says after each crate how many are left,
-and about how long that takes.
+"""Proves the crates that the program stands on, lowest first, and builds the program. Says after each crate how many
+are left, and about how long that takes.
 
 usage: prove.py
 
-The crates below `spg_core` are proved side by side, in a copy of their files, where the crates of tests do not
-stand in the way; what was proved is then put beside the sources. `spg_core` and those above it stand on each
-other, so each of them has all processors."""
+Each crate has all processors. What was proved is kept beside its sources, so this goes on where it was stopped, and
+after a change proves only what changed and the crates above."""
 
 import os
 import re
-import shutil
 import subprocess
 import sys
-import tempfile
 import time
 
 TOP = os.path.dirname(os.path.dirname(os.path.realpath(__file__)))
 PROGRAM = "spg_main"
-CORE = "spg_core"
-# More at a time want more memory than most machines have.
-MOST_AT_ONCE = 4
+# A crate that is kept from an earlier run takes less.
+KEPT_SECONDS = 5
 
 
-def crates_below(lines):
-    """Each crate that the program stands on, and the crates that it names."""
-    named = {}
-    for line in lines:
-        found = re.match(r"(spg_\w+)[^:]*:(.*)", line)
-        if found:
-            named[found[1]] = re.findall(r"spg_\w+", found[2])
-    below, wanted = {}, [PROGRAM]
-    while wanted:
-        crate = wanted.pop()
-        if crate not in below:
-            below[crate] = named[crate]
-            wanted += named[crate]
-    return {crate: below[crate] for crate in named if crate in below}
-
-
-def stands_on(crate, other, below):
-    return crate == other or any(stands_on(it, other, below) for it in below[crate])
+def crates_of_program():
+    """The program's crates in the order of crates.txt, which has each behind those that it stands on."""
+    below = {}
+    with open(f"{TOP}/crates.txt", encoding="utf-8") as lines:
+        for line in lines:
+            found = re.match(r"(spg_\w+)[^:]*:(.*)", line)
+            if found:
+                named = re.findall(r"spg_\w+", found[2])
+                below[found[1]] = set(named).union(*(below[it] for it in named))
+    return [crate for crate in below if crate in below[PROGRAM] or crate == PROGRAM]
 
 
 def size_of(crate):
-    """Bytes of sources and proofs: about in proportion to the time that the crate takes."""
+    """Bytes of sources and proofs: the time that the crate takes is about in proportion."""
     size = 0
     for at, folders, files in os.walk(f"{TOP}/crates/{crate}"):
         folders[:] = [it for it in folders if it not in ("out", "must-fail")]
@@ -52,75 +40,56 @@ def size_of(crate):
     return size
 
 
-class Progress:
-    def __init__(self, crates):
-        self.left = {crate: size_of(crate) for crate in crates}
-        self.count, self.size = len(self.left), sum(self.left.values())
-        self.began = time.monotonic()
-        say(f"proving {self.count} crates: this happens once, and again after a change of them")
-
-    def done(self, crate):
-        self.left.pop(crate, None)
-        size = sum(self.left.values())
-        passed = time.monotonic() - self.began
-        minutes = passed * size / (self.size - size) / 60
-        say(f"{crate}: {self.count - len(self.left)} of {self.count}, some {minutes:.0f} minutes left")
-
-
 def say(words):
     print(f"spgist: {words}", file=sys.stderr, flush=True)
 
 
-def run(words, folder, on_line=lambda line: None, given=""):
-    """Runs a command. Where it fails, all that it printed is shown, and this ends."""
-    printed = []
-    with subprocess.Popen(
-        words, cwd=folder, text=True, stdin=subprocess.PIPE, stdout=subprocess.PIPE, stderr=subprocess.STDOUT
-    ) as process:
-        process.stdin.write(given)
-        process.stdin.close()
-        for line in process.stdout:
-            printed.append(line)
-            on_line(line)
-    if process.returncode:
-        sys.stderr.writelines(printed)
-        say("not proved: see above")
+def prove(crate):
+    """Proves a crate. Where it fails, all that was printed is shown, and this ends."""
+    # `rt run` builds the program when it is proved, and runs it: here on the smallest script.
+    words = ["rt", "run", "--", "run"] if crate == PROGRAM else ["rt", "lib"]
+    done = subprocess.run(
+        words,
+        cwd=f"{TOP}/crates/{crate}",
+        input="class quad\n",
+        text=True,
+        stdout=subprocess.PIPE,
+        stderr=subprocess.STDOUT,
+        check=False,
+    )
+    if done.returncode:
+        sys.stderr.write(done.stdout)
+        say(f"{crate} is not proved: see above")
         sys.exit(1)
 
 
-def prove_beside(crates, lines, progress):
-    """Proves crates side by side in a copy, and brings back what was proved."""
-    with tempfile.TemporaryDirectory() as copy:
-        shutil.copy(f"{TOP}/HANDLES", copy)
-        with open(f"{copy}/crates.txt", "w", encoding="utf-8") as out:
-            out.writelines(it for it in lines if re.match(r"\w*", it)[0] in crates)
-        for crate in crates:
-            shutil.copytree(f"{TOP}/crates/{crate}", f"{copy}/crates/{crate}", copy_function=shutil.copy2)
+class Pace:
+    """How long what is left will take, by the crates that were not kept from an earlier run."""
 
-        def on_line(line):
-            found = re.match(r"crate (spg_\w+)", line)
-            if found:
-                progress.done(found[1])
+    def __init__(self):
+        self.seconds, self.size = 0, 0
 
-        at_once = min(os.cpu_count() or 1, MOST_AT_ONCE)
-        run(["rt", "all", "check", "--jobs", str(at_once)], copy, on_line)
-        for crate in crates:
-            shutil.rmtree(f"{TOP}/crates/{crate}/out", ignore_errors=True)
-            shutil.copytree(f"{copy}/crates/{crate}/out", f"{TOP}/crates/{crate}/out", copy_function=shutil.copy2)
+    def add(self, seconds, size):
+        if seconds > KEPT_SECONDS:
+            self.seconds += seconds
+            self.size += size
+
+    def words(self, size):
+        if not self.size or not size:
+            return ""
+        return f"; some {self.seconds / self.size * size / 60 + 1:.0f} minutes left"
 
 
 def main():
-    with open(f"{TOP}/crates.txt", encoding="utf-8") as file:
-        lines = file.readlines()
-    below = crates_below(lines)
-    above = [crate for crate in below if stands_on(crate, CORE, below)]
-    progress = Progress(below)
-    prove_beside([crate for crate in below if crate not in above], lines, progress)
-    for crate in above:
-        # `rt run` builds the program when it is proved, and runs it: here on the smallest script.
-        words = ["rt", "run", "--", "run"] if crate == PROGRAM else ["rt", "lib"]
-        run(words, f"{TOP}/crates/{crate}", given="class quad\n")
-        progress.done(crate)
+    crates = crates_of_program()
+    sizes = [size_of(crate) for crate in crates]
+    say(f"proving {len(crates)} crates: this happens once, and after a change of them")
+    pace = Pace()
+    for number, crate in enumerate(crates, start=1):
+        began = time.monotonic()
+        prove(crate)
+        pace.add(time.monotonic() - began, sizes[number - 1])
+        say(f"{crate}, {number} of {len(crates)}{pace.words(sum(sizes[number:]))}")
 
 
 if __name__ == "__main__":
