@@ -5,7 +5,7 @@ use crate::division::divide;
 use crate::quadrant::{choose_node, nodes_at};
 use smallvec::SmallVec;
 use spg_base::{Bytes, Memory, Point, PointCond, Same};
-use spg_opclass::{Choice, InnerView, OpClass, Picked, SharedClass};
+use spg_opclass::{Choice, InnerRef, InnerView, OpClass, Picked, SharedClass};
 use spg_points::{NodeAreas, all_hold, decode, encode, kept_nodes, labels_ok};
 use std::alloc::Global;
 
@@ -92,20 +92,17 @@ impl OpClass for Quad {
     }
 
     fn admits(&self, _recon: &QuadRecon, tuple: &InnerView, node: u16, key: &Point) -> bool {
-        nodes_at(tuple).at(node).has(*key)
+        nodes_at(&tuple.in_place()).at(node).has(*key)
     }
 
     fn choose(
         &self,
         alloc: Global,
-        _recon: &QuadRecon,
+        recon: &QuadRecon,
         tuple: &InnerView,
         rest: &[u8],
     ) -> Result<Choice, Memory> {
-        Ok(Choice::Match {
-            node: choose_node(tuple, rest),
-            rest: Bytes::copy(alloc, rest)?,
-        })
+        self.choose_in_place(alloc, recon, &tuple.in_place(), rest)
     }
 
     fn picksplit(
@@ -119,19 +116,52 @@ impl OpClass for Quad {
 
     fn down(
         &self,
-        _alloc: Global,
+        alloc: Global,
         recon: &QuadRecon,
-        _tuple: &InnerView,
-        _node: u16,
+        tuple: &InnerView,
+        node: u16,
     ) -> Result<QuadRecon, Memory> {
-        Ok(*recon)
+        self.down_in_place(alloc, recon, &tuple.in_place(), node)
     }
 
     fn inner_consistent(
         &self,
         alloc: Global,
-        _recon: &QuadRecon,
+        recon: &QuadRecon,
         tuple: &InnerView,
+        conds: &[PointCond],
+    ) -> Result<SmallVec<u16, 8>, Memory> {
+        self.inner_consistent_in_place(alloc, recon, &tuple.in_place(), conds)
+    }
+
+    fn choose_in_place(
+        &self,
+        alloc: Global,
+        _recon: &QuadRecon,
+        tuple: &InnerRef<'_>,
+        rest: &[u8],
+    ) -> Result<Choice, Memory> {
+        Ok(Choice::Match {
+            node: choose_node(tuple, rest),
+            rest: Bytes::copy(alloc, rest)?,
+        })
+    }
+
+    fn down_in_place(
+        &self,
+        _alloc: Global,
+        recon: &QuadRecon,
+        _tuple: &InnerRef<'_>,
+        _node: u16,
+    ) -> Result<QuadRecon, Memory> {
+        Ok(*recon)
+    }
+
+    fn inner_consistent_in_place(
+        &self,
+        alloc: Global,
+        _recon: &QuadRecon,
+        tuple: &InnerRef<'_>,
         conds: &[PointCond],
     ) -> Result<SmallVec<u16, 8>, Memory> {
         kept_nodes(alloc, &nodes_at(tuple), tuple.labels.len(), conds)

@@ -1,10 +1,11 @@
 ghost use Rattle.std.specs.Prelude.{◌≡◌};
+ghost use Rattle.spg_opclass.specs.InPlace.{shown};
 ghost use Rattle.spg_points.specs.PointClass.{node_area, node_for};
 ghost use Rattle.spg_quad.specs.declared.class.QuadRecon.{QuadRecon as Recon};
 ghost use Rattle.spg_quad.specs.Quad.{quad, quadrant, region, nodes_area};
 
 use spg_base::Point;
-use spg_opclass::InnerView;
+use spg_opclass::InnerRef;
 use spg_points::{Area, NodeAreas, decode};
 
 const LOWEST: i64 = i32::MIN as i64;
@@ -84,23 +85,23 @@ impl NodeAreas for QuadNodes {
 
 /// The nodes of a tuple.
 #[tactic(auto, unfolding(crate::specs::Quad::nodes_area, spg_points::specs::PointClass::node_area))]
-pub fn nodes_at(tuple: &InnerView) -> QuadNodes
-    ensures { (recon : Recon) → nodes_area result ≡ node_area quad recon tuple.now }
+pub fn nodes_at(tuple: &InnerRef<'_>) -> QuadNodes
+    ensures { (recon : Recon) → nodes_area result ≡ node_area quad recon (shown tuple.now) }
 {
     QuadNodes {
         all_same: tuple.all_same,
-        centroid: decode(tuple.prefix.as_slice()),
+        centroid: decode(tuple.prefix),
     }
 }
 
 /// The node to which a rest goes: the first one where the tuple is all-the-same.
 #[tactic(auto, unfolding(spg_points::specs::PointClass::node_for))]
-pub fn choose_node(tuple: &InnerView, rest: &[u8]) -> u16
-    ensures { (recon : Recon) → result ≡ node_for quad recon tuple.now rest.now }
+pub fn choose_node(tuple: &InnerRef<'_>, rest: &[u8]) -> u16
+    ensures { (recon : Recon) → result ≡ node_for quad recon (shown tuple.now) rest.now }
 {
     if tuple.all_same {
         0
     } else {
-        node_of(decode(tuple.prefix.as_slice()), decode(rest))
+        node_of(decode(tuple.prefix), decode(rest))
     }
 }
