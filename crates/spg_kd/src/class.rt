@@ -5,7 +5,7 @@ use crate::division::divide;
 use crate::half::{choose_node, nodes_at};
 use smallvec::SmallVec;
 use spg_base::{Bytes, Memory, Point, PointCond, Same};
-use spg_opclass::{Choice, InnerView, OpClass, Picked, SharedClass};
+use spg_opclass::{Choice, InnerRef, InnerView, OpClass, Picked, SharedClass};
 use spg_points::{NodeAreas, all_hold, decode, encode, kept_nodes, labels_ok};
 use std::alloc::Global;
 
@@ -95,7 +95,7 @@ impl OpClass for Kd {
     }
 
     fn admits(&self, recon: &KdRecon, tuple: &InnerView, node: u16, key: &Point) -> bool {
-        nodes_at(*recon, tuple).at(node).has(*key)
+        nodes_at(*recon, &tuple.in_place()).at(node).has(*key)
     }
 
     fn choose(
@@ -105,10 +105,7 @@ impl OpClass for Kd {
         tuple: &InnerView,
         rest: &[u8],
     ) -> Result<Choice, Memory> {
-        Ok(Choice::Match {
-            node: choose_node(*recon, tuple, rest),
-            rest: Bytes::copy(alloc, rest)?,
-        })
+        self.choose_in_place(alloc, recon, &tuple.in_place(), rest)
     }
 
     fn picksplit(&self, alloc: Global, recon: &KdRecon, rests: &[Bytes]) -> Result<Picked, Memory> {
@@ -117,12 +114,12 @@ impl OpClass for Kd {
 
     fn down(
         &self,
-        _alloc: Global,
+        alloc: Global,
         recon: &KdRecon,
-        _tuple: &InnerView,
-        _node: u16,
+        tuple: &InnerView,
+        node: u16,
     ) -> Result<KdRecon, Memory> {
-        Ok(KdRecon { odd: !recon.odd })
+        self.down_in_place(alloc, recon, &tuple.in_place(), node)
     }
 
     fn inner_consistent(
@@ -130,6 +127,39 @@ impl OpClass for Kd {
         alloc: Global,
         recon: &KdRecon,
         tuple: &InnerView,
+        conds: &[PointCond],
+    ) -> Result<SmallVec<u16, 8>, Memory> {
+        self.inner_consistent_in_place(alloc, recon, &tuple.in_place(), conds)
+    }
+
+    fn choose_in_place(
+        &self,
+        alloc: Global,
+        recon: &KdRecon,
+        tuple: &InnerRef<'_>,
+        rest: &[u8],
+    ) -> Result<Choice, Memory> {
+        Ok(Choice::Match {
+            node: choose_node(*recon, tuple, rest),
+            rest: Bytes::copy(alloc, rest)?,
+        })
+    }
+
+    fn down_in_place(
+        &self,
+        _alloc: Global,
+        recon: &KdRecon,
+        _tuple: &InnerRef<'_>,
+        _node: u16,
+    ) -> Result<KdRecon, Memory> {
+        Ok(KdRecon { odd: !recon.odd })
+    }
+
+    fn inner_consistent_in_place(
+        &self,
+        alloc: Global,
+        recon: &KdRecon,
+        tuple: &InnerRef<'_>,
         conds: &[PointCond],
     ) -> Result<SmallVec<u16, 8>, Memory> {
         kept_nodes(alloc, &nodes_at(*recon, tuple), tuple.labels.len(), conds)

@@ -1,10 +1,11 @@
 ghost use Rattle.std.specs.Prelude.{◌≡◌};
+ghost use Rattle.spg_opclass.specs.InPlace.{shown};
 ghost use Rattle.spg_points.specs.PointClass.{node_area, node_for};
 ghost use Rattle.spg_kd.specs.Kd.{kd, half, half_for, level_of, nodes_area};
 
 use crate::class::KdRecon;
 use spg_base::Point;
-use spg_opclass::InnerView;
+use spg_opclass::InnerRef;
 use spg_points::{Area, NodeAreas, coordinate, decode};
 
 /// The coordinate that a level looks at.
@@ -79,28 +80,24 @@ impl NodeAreas for KdNodes {
 
 /// The nodes of a tuple.
 #[tactic(auto, unfolding(crate::specs::Kd::nodes_area, spg_points::specs::PointClass::node_area))]
-pub fn nodes_at(recon: KdRecon, tuple: &InnerView) -> KdNodes
-    ensures { nodes_area result ≡ node_area kd recon tuple.now }
+pub fn nodes_at(recon: KdRecon, tuple: &InnerRef<'_>) -> KdNodes
+    ensures { nodes_area result ≡ node_area kd recon (shown tuple.now) }
 {
     KdNodes {
         all_same: tuple.all_same,
         odd: recon.odd,
-        cut: coordinate(tuple.prefix.as_slice(), 0),
+        cut: coordinate(tuple.prefix, 0),
     }
 }
 
 /// The node to which a rest goes: the first one where the tuple is all-the-same.
 #[tactic(auto, unfolding(spg_points::specs::PointClass::node_for))]
-pub fn choose_node(recon: KdRecon, tuple: &InnerView, rest: &[u8]) -> u16
-    ensures { result ≡ node_for kd recon tuple.now rest.now }
+pub fn choose_node(recon: KdRecon, tuple: &InnerRef<'_>, rest: &[u8]) -> u16
+    ensures { result ≡ node_for kd recon (shown tuple.now) rest.now }
 {
     if tuple.all_same {
         0
     } else {
-        node_of(
-            recon.odd,
-            coordinate(tuple.prefix.as_slice(), 0),
-            decode(rest),
-        )
+        node_of(recon.odd, coordinate(tuple.prefix, 0), decode(rest))
     }
 }
