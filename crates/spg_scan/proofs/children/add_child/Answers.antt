@@ -4,7 +4,6 @@ use Rattle.spg_forest.specs.Classes.{down_of}
 use Rattle.spg_forest.specs.Pages.{tuple_on}
 use Rattle.spg_forest.specs.Sheets.{links}
 use Rattle.spg_scan.specs.Held.{item_of}
-use Rattle.spg_scan.specs.declared.pending.Pending.TheVariants as pending
 use Rattle.spg_scan.specs.Items.{recon_at}
 use Rattle.spg_scan.proofs.InPlace.{recon_there, added_is}
 use Rattle.spg_scan.proofs.children.add_child.Goals as goal
