@@ -1,5 +1,5 @@
 -- Where the row of each entry is live, so are the rows of the leaves at a place.
-use Rattle.std.proofs.Common.{◌≡◌, Bool, true, List, Option, Some, None, IsSome, get_or, refl, sym, ap, subst}
+use Rattle.std.proofs.Common.{◌≡◌, Bool, true, List, Option, Some, None, IsSome, get_or, refl, sym, subst}
 use Rattle.spg_opclass.specs.Meaning.{Meaning}
 use Rattle.spg_forest.specs.View.{Place, Leaf}
 use Rattle.spg_forest.specs.Spot.{Spot, Bucket, IsIn, leaves_of as leaves_in}
