@@ -1,11 +1,9 @@
-ghost use Rattle.std.specs.Prelude.{◌≡◌, Some as Just, false, IfOk};
-ghost use Rattle.spg_tree.specs.Descents.{in_nulls};
+ghost use Rattle.std.specs.Prelude.{◌≡◌, if◌then◌else◌};
 ghost use Rattle.spg_descend.specs.Follows.{IsAtInner};
-ghost use Rattle.spg_core.specs.Stepping.{MayStep, IsChosen, named};
+ghost use Rattle.spg_core.specs.Stepping.{MayStep, IsChosen};
 
-use spg_base::{Bytes, Labels, Memory};
-use spg_descend::tuple_place;
-use spg_opclass::{Choice, InnerView, OpClass};
+use spg_base::{Bytes, Labels};
+use spg_opclass::OpClass;
 use spg_tree::{Descent, PageTable};
 use std::alloc::Global;
 
@@ -36,54 +34,10 @@ pub(crate) enum InnerStep<O: OpClass> {
 
 /// The node that is followed where the class answers this one: at an all-the-same tuple it is the
 /// one that the rotating counter names.
-pub(crate) fn named(turn: u8, view: &InnerView, node: u16) -> u16
-    ensures { result ≡ named turn view.now node }
+pub(crate) fn named(turn: u8, all_same: bool, node: u16) -> u16
+    ensures { result ≡ (if all_same then turn else node) }
 {
-    if view.all_same { u16::from(turn) } else { node }
-}
-
-/// What an insert of a key does at an inner tuple, as the class answers.
-#[inline(always)]
-fn choose_for<O: OpClass>(
-    alloc: Global,
-    class: &O,
-    table: &PageTable,
-    descent: &Descent<O>,
-    recon: &O::Recon,
-) -> Result<InnerStep<O>, Memory>
-    requires can { MayStep O.meaning table.now descent.now }
-    requires inner { IsAtInner table.now descent.now.stand }
-    requires recon { descent.now.recon ≡ Just recon.now }
-    requires main { in_nulls descent.now ≡ false }
-    ensures { IfOk result (λ chosen. IsChosen {O = O} O.meaning table.now descent.now chosen) }
-{
-    let at = tuple_place(descent.stand());
-    let view = table.page(at.block).view_at(alloc, at.offset)?;
-    match class.choose(alloc, recon, &view, descent.rest().as_slice())? {
-        Choice::Match { node, rest } => {
-            let node = named(table.counter(), &view, node);
-            let by_turn = view.all_same;
-            let below = class.down(alloc, recon, &view, node)?;
-            Ok(InnerStep::Node {
-                node,
-                rest,
-                by_turn,
-                below: Some(below),
-            })
-        }
-        Choice::Add { at, label } => Ok(InnerStep::Add { at, label }),
-        Choice::Split {
-            upper_prefix,
-            upper_labels,
-            child,
-            lower_prefix,
-        } => Ok(InnerStep::Split {
-            upper_prefix,
-            upper_labels,
-            child,
-            lower_prefix,
-        }),
-    }
+    if all_same { u16::from(turn) } else { node }
 }
 
 /// What an insert does at an inner tuple of the nulls tree: it goes down the node that the rotating
@@ -104,24 +58,5 @@ pub(crate) fn by_counter<O: OpClass>(
         rest: Bytes::new(alloc),
         by_turn: true,
         below: None,
-    }
-}
-
-/// What an insert does at an inner tuple. The node that is followed at an all-the-same tuple, and in
-/// the nulls tree, is the one that the rotating counter names.
-#[inline(always)]
-pub(crate) fn choose<O: OpClass>(
-    alloc: Global,
-    class: &O,
-    table: &PageTable,
-    descent: &Descent<O>,
-) -> Result<InnerStep<O>, Memory>
-    requires can { MayStep O.meaning table.now descent.now }
-    requires inner { IsAtInner table.now descent.now.stand }
-    ensures { IfOk result (λ chosen. IsChosen {O = O} O.meaning table.now descent.now chosen) }
-{
-    match descent.recon() {
-        None => Ok(by_counter(alloc, table, descent)),
-        Some(recon) => choose_for(alloc, class, table, descent, recon),
     }
 }

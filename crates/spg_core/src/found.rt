@@ -110,7 +110,7 @@ pub(crate) fn step_for<O: OpClass>(turn: u8, chosen: &Chosen<O>) -> Result<Inner
             let at = if tuple.all_same { usize::from(turn) } else { 0 };
             let below = chosen.recons().as_slice()[at].copy()?;
             Ok(InnerStep::Node {
-                node: named(turn, tuple, *node),
+                node: named(turn, tuple.all_same, *node),
                 rest: rest.copy()?,
                 by_turn: tuple.all_same,
                 below: Some(below),

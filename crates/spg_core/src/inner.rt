@@ -1,13 +1,13 @@
 ghost use Rattle.std.specs.Prelude.{IfOk};
 ghost use Rattle.spg_descend.specs.Follows.{IsAtInner};
-ghost use Rattle.spg_core.specs.declared.choose.InnerStep.TheVariants.{Node, Add};
+ghost use Rattle.spg_core.specs.declared.choose.InnerStep.TheVariants.{Node, Add, Split};
 ghost use Rattle.spg_core.specs.Stepping.{MayStep, IsChosen};
 ghost use Rattle.spg_core.specs.Telling.{Does};
 ghost use Rattle.spg_core.specs.Refusing.{Refuses};
 
 use crate::answer::InsertOut;
 use crate::choose::InnerStep;
-use spg_base::{Bytes, SeatNo};
+use spg_base::{Bytes, Labels, SeatNo};
 use spg_descend::{Entered, follow};
 use spg_move::{add_node, split_tuple};
 use spg_opclass::OpClass;
@@ -16,7 +16,7 @@ use std::alloc::Global;
 
 /// Goes down a node of the inner tuple at which an insert is. It takes no memory.
 #[inline(always)]
-fn go_down<O: OpClass>(
+pub(crate) fn go_down<O: OpClass>(
     table: &mut PageTable,
     descent: &mut Descent<O>,
     seat: SeatNo,
@@ -42,7 +42,7 @@ fn go_down<O: OpClass>(
 }
 
 /// Puts a node into the inner tuple at which an insert is.
-fn widen<O: OpClass>(
+pub(crate) fn widen<O: OpClass>(
     alloc: Global,
     table: &mut PageTable,
     descent: &mut Descent<O>,
@@ -57,6 +57,36 @@ fn widen<O: OpClass>(
     ensures refused { Refuses O.meaning table.old table.new descent.old descent.new seat result }
 {
     add_node(alloc, table, descent, seat, at, label)?;
+    Ok(InsertOut::Restructured)
+}
+
+/// Splits the inner tuple at which an insert is in two.
+pub(crate) fn split<O: OpClass>(
+    alloc: Global,
+    table: &mut PageTable,
+    descent: &mut Descent<O>,
+    seat: SeatNo,
+    upper_prefix: &Bytes,
+    upper_labels: &Labels,
+    child: u16,
+    lower_prefix: &Bytes,
+) -> Result<InsertOut, StepRefused>
+    requires can { MayStep O.meaning table.old descent.old }
+    requires inner { IsAtInner table.old descent.old.stand }
+    requires chosen { IsChosen {O = O} O.meaning table.old descent.old (Split upper_prefix.now upper_labels.now child lower_prefix.now) }
+    ensures does { IfOk result (λ out. Does O.meaning table.old table.new descent.old descent.new seat out) }
+    ensures refused { Refuses O.meaning table.old table.new descent.old descent.new seat result }
+{
+    split_tuple(
+        alloc,
+        table,
+        descent,
+        seat,
+        upper_prefix,
+        upper_labels,
+        child,
+        lower_prefix,
+    )?;
     Ok(InsertOut::Restructured)
 }
 
@@ -88,18 +118,15 @@ pub(crate) fn apply<O: OpClass>(
             upper_labels,
             child,
             lower_prefix,
-        } => {
-            split_tuple(
-                alloc,
-                table,
-                descent,
-                seat,
-                &upper_prefix,
-                &upper_labels,
-                child,
-                &lower_prefix,
-            )?;
-            Ok(InsertOut::Restructured)
-        }
+        } => split(
+            alloc,
+            table,
+            descent,
+            seat,
+            &upper_prefix,
+            &upper_labels,
+            child,
+            &lower_prefix,
+        ),
     }
 }

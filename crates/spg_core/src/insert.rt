@@ -15,15 +15,15 @@ ghost use Rattle.spg_core.specs.Ends.{TakesOne};
 ghost use Rattle.spg_core.specs.Latches.{HoldsAfter};
 
 use crate::answer::InsertOut;
-use crate::choose::choose;
+use crate::asking::ask_inner;
 use crate::inner::apply;
 use crate::latches::{settle_latches, stand_block};
-use crate::plan::{Guide, Plan, part};
-use spg_base::SeatNo;
+use crate::plan::{Guide, Plan};
+use spg_base::{Memory, SeatNo};
 use spg_descend::{Entered, PutOut, Rule, enter_root, put_leaf, rule_at};
 use spg_move::move_chain;
-use spg_opclass::{OpClass, Parted};
-use spg_split::{SplitOut, split_leaf};
+use spg_opclass::{OpClass, Parted, part_at};
+use spg_split::{SplitOut, bunch_at, split_leaf};
 use spg_tree::{Descent, PageTable, StepRefused};
 use std::alloc::Global;
 
@@ -99,6 +99,23 @@ fn divide<O: OpClass>(
     }
 }
 
+/// How the class divides the leaves where an insert stands. None exactly where they are nulls.
+fn part<O: OpClass>(
+    alloc: Global,
+    class: &O,
+    table: &PageTable,
+    descent: &Descent<O>,
+) -> Result<Option<Parted<O>>, Memory>
+    requires can { MayStep O.meaning table.now descent.now }
+    requires rule { IsRuleFor table.now descent.now rules.Divide }
+    ensures { IfOk result (λ parted. IsPartedAt table.now descent.now parted) }
+{
+    match bunch_at(alloc, table, descent)? {
+        None => Ok(None),
+        Some(bunch) => Ok(Some(part_at(alloc, class, bunch)?)),
+    }
+}
+
 /// What an insert does where it stands, as the class answers. Where it changed pages its latches are not
 /// settled yet.
 #[inline(always)]
@@ -115,10 +132,7 @@ fn asked<O: OpClass>(
 {
     match rule_at(table, descent) {
         Rule::Start => Ok(begin(table, descent, seat)),
-        Rule::Choose => {
-            let chosen = choose(alloc, class, table, descent)?;
-            apply(alloc, table, descent, seat, chosen)
-        }
+        Rule::Choose => ask_inner(alloc, class, table, descent, seat),
         Rule::Put => put(alloc, table, descent, seat),
         Rule::Move => move_away(alloc, table, descent, seat),
         Rule::Divide => {

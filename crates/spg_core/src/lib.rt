@@ -2,6 +2,7 @@
 #![tactic(auto)]
 
 mod answer;
+mod asking;
 mod bare;
 mod choose;
 mod found;
