@@ -2,17 +2,16 @@
 #![tactic(auto)]
 
 mod answer;
-mod asking;
 mod bare;
 mod choose;
 mod found;
+mod guide;
 mod inner;
 mod insert;
 mod latches;
 mod laws;
 mod look;
 mod operations;
-mod plan;
 mod recorded;
 mod sifting;
 mod slot;

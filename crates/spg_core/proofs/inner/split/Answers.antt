@@ -6,7 +6,7 @@ pub returns-clause-does : goal.returns-clause-does
 returns-clause-does g c =
     let done = c.in_ok-split_tuple.ensures in
     record {
-      told = inl (c.requires.inner, c.requires.chosen.0, inr (c.args.upper_prefix.now, c.args.upper_labels.now, c.args.child, c.args.lower_prefix.now, c.requires.chosen.1, done.ok, done.table));
+      told = inl (c.requires.inner, c.requires.main, inr (c.args.upper_prefix.now, c.args.upper_labels.now, c.args.child, c.args.lower_prefix.now, c.requires.answer, done.ok, done.table));
       exact = done.exact;
       held = done.held;
       stood = inl (ap (λ (x : Descending _). x.stand) done.ok.after);
