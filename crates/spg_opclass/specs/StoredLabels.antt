@@ -4,14 +4,14 @@ use Rattle.std.specs.Int.{w16, cast_signed}
 use Rattle.spg_opclass.specs.declared.labels_ref.LabelsRef.{LabelsRef}
 use Rattle.spg_opclass.specs.declared.labels_ref.LabelsRef.TheVariants.{Listed, Stored}
 
--- the label of the node whose bytes come first: their last two, the low one first
-abbrev pub label_of : List ℕ → ℤ
-label_of bytes = cast_signed w16 (slice_index bytes 6 + slice_index bytes 7 * 256)
+-- the label of a node, of 8 bytes each: the last two of them, the low one first
+abbrev pub label_at : List ℕ → ℕ → ℤ
+label_at bytes node = cast_signed w16 (slice_index bytes (8 * node + 6) + slice_index bytes (8 * node + 7) * 256)
 
--- those of so many nodes of 8 bytes each
+-- those of so many nodes
 abbrev pub labels_of : ℕ → List ℕ → List ℤ
 labels_of zero bytes = []
-labels_of (suc n) bytes = label_of bytes ∷ labels_of n (drop 8 bytes)
+labels_of (suc n) bytes = label_at bytes 0 ∷ labels_of n (drop 8 bytes)
 
 abbrev pub labels_in : LabelsRef → List ℤ
 labels_in (Listed labels) = labels.now

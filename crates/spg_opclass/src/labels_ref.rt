@@ -1,11 +1,20 @@
-ghost use Rattle.std.specs.Prelude.{◌≡◌, ◌<◌, Some, length, slice_get};
-ghost use Rattle.spg_opclass.specs.StoredLabels.{labels_in};
+ghost use Rattle.std.specs.Prelude.{◌≡◌, ◌+◌, ◌*◌, ◌<◌, Some, length, slice_get};
+ghost use Rattle.spg_opclass.specs.StoredLabels.{label_at, labels_in};
 
 /// The bytes of a node on a page.
 const NODE_BYTES: usize = 8;
 
 /// Where in them the label begins: two bytes, the low one first.
 const LABEL_AT: usize = 6;
+
+/// The label of a node, from the bytes of the nodes.
+fn label_in(nodes: &[u8], node: usize) -> i16
+    requires { 8 * node + 7 < length nodes.now }
+    ensures { result ≡ label_at nodes.now node }
+{
+    let at = NODE_BYTES * node + LABEL_AT;
+    i16::from_le_bytes([nodes[at], nodes[at + 1]])
+}
 
 /// The labels of the nodes of an inner tuple, read where they stand.
 #[derive(Clone, Copy, Debug)]
@@ -34,10 +43,7 @@ impl<'a> LabelsRef<'a> {
     {
         match self {
             LabelsRef::Listed(labels) => labels[node],
-            LabelsRef::Stored(nodes) => {
-                let at = NODE_BYTES * node + LABEL_AT;
-                i16::from_le_bytes([nodes[at], nodes[at + 1]])
-            }
+            LabelsRef::Stored(nodes) => label_in(nodes, node),
         }
     }
 }
