@@ -1,5 +1,6 @@
 use Rattle.std.proofs.Common.{◌≡◌, ◌∙◌, ◌<◌, ◌++◌, ◌∷◌, [], length, map, get_or, take, IsSome, ap, sym, subst, arith, append_assoc}
 use Rattle.std.proofs.lemmas.List.{take_more, take_all, take-map, length-map}
+use Rattle.spg_opclass.specs.InPlace.{shown}
 use Rattle.spg_forest.specs.Classes.{down_of}
 use Rattle.spg_forest.specs.Pages.{tuple_on}
 use Rattle.spg_forest.specs.Sheets.{links}
@@ -18,7 +19,7 @@ pub add_child-requires-clause-item : goal.add_child-requires-clause-item
 add_child-requires-clause-item g c =
     let X = map item_of c.args.items.now.items in
     let Y = map item_of c.loop-node.items.items in
-    let K = hold_all (children_at (down_of g.O.OpClass.meaning) (recon_at X c.args.item) c.in_ok-tuple.tuple (links (tuple_on c.args.page.now.tuples c.args.offset)) (take c.loop-node.node-index c.as_slice-node-items.result.now)) in
+    let K = hold_all (children_at (down_of g.O.OpClass.meaning) (recon_at X c.args.item) (shown c.inner_at-tuple.result) (links (tuple_on c.args.page.now.tuples c.args.offset)) (take c.loop-node.node-index c.as_slice-node-items.result.now)) in
     let h : c.args.item < length X = omega (arith, length-map c.args.items.now.items item_of) in
     let b : c.args.item < length Y = within_stays X K Y c.args.item c.loop-node.invariant h in
     omega (arith, length-map c.loop-node.items.items item_of)
@@ -27,7 +28,7 @@ pub add_child-requires-clause-place : goal.add_child-requires-clause-place
 add_child-requires-clause-place g c =
     let X = map item_of c.args.items.now.items in
     let Y = map item_of c.loop-node.items.items in
-    let K = hold_all (children_at (down_of g.O.OpClass.meaning) (recon_at X c.args.item) c.in_ok-tuple.tuple (links (tuple_on c.args.page.now.tuples c.args.offset)) (take c.loop-node.node-index c.as_slice-node-items.result.now)) in
+    let K = hold_all (children_at (down_of g.O.OpClass.meaning) (recon_at X c.args.item) (shown c.inner_at-tuple.result) (links (tuple_on c.args.page.now.tuples c.args.offset)) (take c.loop-node.node-index c.as_slice-node-items.result.now)) in
     let h : c.args.item < length X = omega (arith, length-map c.args.items.now.items item_of) in
     place_stays X K Y c.args.item c.loop-node.invariant h c.requires.place
 
@@ -35,7 +36,7 @@ pub add_child-requires-clause-class : goal.add_child-requires-clause-class
 add_child-requires-clause-class g c = λ some.
     let X = map item_of c.args.items.now.items in
     let Y = map item_of c.loop-node.items.items in
-    let K = hold_all (children_at (down_of g.O.OpClass.meaning) (recon_at X c.args.item) c.in_ok-tuple.tuple (links (tuple_on c.args.page.now.tuples c.args.offset)) (take c.loop-node.node-index c.as_slice-node-items.result.now)) in
+    let K = hold_all (children_at (down_of g.O.OpClass.meaning) (recon_at X c.args.item) (shown c.inner_at-tuple.result) (links (tuple_on c.args.page.now.tuples c.args.offset)) (take c.loop-node.node-index c.as_slice-node-items.result.now)) in
     let h : c.args.item < length X = omega (arith, length-map c.args.items.now.items item_of) in
     c.requires.class (subst IsSome (recon_stays X K Y c.args.item c.loop-node.invariant h) some)
 
@@ -43,7 +44,7 @@ pub returns-in-Err-clause-err : goal.returns-in-Err-clause-err
 returns-in-Err-clause-err g c =
     let X = map item_of c.args.items.now.items in
     let Y = map item_of c.loop-node.items.items in
-    let K = hold_all (children_at (down_of g.O.OpClass.meaning) (recon_at X c.args.item) c.in_ok-tuple.tuple (links (tuple_on c.args.page.now.tuples c.args.offset)) (take c.loop-node.node-index c.as_slice-node-items.result.now)) in
+    let K = hold_all (children_at (down_of g.O.OpClass.meaning) (recon_at X c.args.item) (shown c.inner_at-tuple.result) (links (tuple_on c.args.page.now.tuples c.args.offset)) (take c.loop-node.node-index c.as_slice-node-items.result.now)) in
     let h : c.args.item < length X = omega (arith, length-map c.args.items.now.items item_of) in
     let n = c.len-held.result in
     let k : n ≡ length X = omega (arith, length-map c.args.items.now.items item_of) in
@@ -56,7 +57,7 @@ loop-node-preserved g c =
     let ks = c.as_slice-node-items.result.now in
     let i = c.loop-node.node-index in
     let b : i < length ks = omega arith in
-    let w = c.in_ok-tuple.tuple in
+    let w = shown c.inner_at-tuple.result in
     let X = map item_of c.args.items.now.items in
     let Y = map item_of c.loop-node.items.items in
     let r = recon_at X c.args.item in
@@ -74,7 +75,7 @@ returns-clause-asked g c =
     let ns = links (tuple_on c.args.page.now.tuples c.args.offset) in
     let e = recon_there c.args.items.now.items c.args.item c.index.result.now c.recon_of.result.now c.index.ensures c.requires.place c.recon_of.ensures in
     subst (λ q. IsAskedAt m (Branch (frame_in (tuple_on c.args.page.now.tuples c.args.offset)) ns) c.args.query.now q) e
-    (subst (λ w. IsAskedAt m (Branch w ns) c.args.query.now c.recon_of.result.now) c.in_ok-tuple.ensures c.in_ok-nodes.ensures.asked)
+    (subst (λ w. IsAskedAt m (Branch w ns) c.args.query.now c.recon_of.result.now) c.inner_at-tuple.ensures.value c.in_ok-nodes.ensures.asked)
 
 pub returns-clause-ok : goal.returns-clause-ok
 returns-clause-ok g c =
@@ -83,10 +84,10 @@ returns-clause-ok g c =
     let ns = links (tuple_on c.args.page.now.tuples c.args.offset) in
     let ks = c.as_slice-node-items.result.now in
     let i = c.loop-node.node-index in
-    let w = c.in_ok-tuple.tuple in
+    let w = shown c.inner_at-tuple.result in
     let X = map item_of c.args.items.now.items in
     let r = recon_at X c.args.item in
     let e = recon_there c.args.items.now.items c.args.item c.index.result.now c.recon_of.result.now c.index.ensures c.requires.place c.recon_of.ensures in
     c.loop-node.invariant
     ∙ ap (λ z. X ++ hold_all z) (ap (λ is. children_at D r w ns is) (take_all i ks (omega arith) ∙ c.as_slice-node-items.ensures ∙ c.in_ok-nodes.ensures.nodes)
-    ∙ ap (λ q. children_at D r w ns (followed m c.args.query.now q w ns)) e ∙ ap (λ v. followed_at m c.args.query.now r v ns) c.in_ok-tuple.ensures)
+    ∙ ap (λ q. children_at D r w ns (followed m c.args.query.now q w ns)) e ∙ ap (λ v. followed_at m c.args.query.now r v ns) c.inner_at-tuple.ensures.value)
