@@ -1,5 +1,5 @@
 -- What a look at an insert finds, and what is done as the class chose for a copy.
-use Rattle.std.proofs.Common.{◌≡◌, ◌⊎◌, ℕ, ◌<◌, zero, suc, Bool, true, false, List, [], ◌∷◌, ◌++◌, Option, Some, length, get_or, map, refl, sym, ap, ◌∙◌, subst, inl, inr, arith, ⊎_elim}
+use Rattle.std.proofs.Common.{◌≡◌, ◌⊎◌, ℕ, ◌<◌, zero, suc, Bool, true, false, List, [], ◌∷◌, ◌++◌, Option, Some, None, length, get_or, map, refl, sym, ap, ◌∙◌, subst, inl, inr, arith, ⊎_elim}
 use Rattle.std.specs.Prelude.{is_none, if◌then◌else◌}
 use Rattle.std.proofs.lemmas.Bool.{cases_order}
 use Rattle.std.proofs.lemmas.List.{length-append, length-replicate, map-append, get_or_append_left}
@@ -44,11 +44,11 @@ main_of m t d key r C e = nulls_key m (sheets_of t) d key C ∙ sym (recon_key m
 
 -- where the class has none, an insert that stands at an inner tuple or divides leaves has no rebuilt value
 unasked_recon : {Key Recon Cond : Type 0} (m : Meaning Key Recon Cond) (t : Table) (d : Descending Recon) (key : Option Key) → IsCarried m (sheets_of t) d key → (AsksAt t d → ⊥) → IsAtInner t d.stand ⊎ IsRuleFor t d rules.Divide → d.recon ≡ None
-unasked_recon {Key} {Recon} m t d key C no at = go d.recon refl
+unasked_recon {Key} {Recon} m t d key C unasked at = go d.recon refl
   where
     go : (r : Option Recon) → d.recon ≡ r → d.recon ≡ None
     go None e = e
-    go (Some r) e = absurd (no (main_of m t d key r C e, at))
+    go (Some r) e = absurd (unasked (main_of m t d key r C e, at))
 
 pub told_inner : {Key Recon Cond : Type 0} (m : Meaning Key Recon Cond) (t : Table) (d : Descending Recon) (key : Option Key) → IsCarried m (sheets_of t) d key → (parted : Option (RestsAt Recon)) → IsTold t d parted → IsAtInner t d.stand → d.recon ≡ None
 told_inner m t d key C None told at = unasked_recon m t d key C told (inl at)

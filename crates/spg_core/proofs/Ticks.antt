@@ -1,8 +1,8 @@
 -- Which sections of an insert leave the clock as it is.
-use Rattle.std.proofs.Common.{◌≡◌, ℕ, inl, inr, subst}
+use Rattle.std.proofs.Common.{◌≡◌, ℕ, List, inl, inr, subst}
 use Rattle.std.specs.Prelude.{ℤ}
 use Rattle.spg_opclass.specs.Meaning.{Meaning}
-use Rattle.spg_opclass.specs.declared.view.Choice.TheVariants.{Add}
+use Rattle.spg_opclass.specs.declared.view.Choice.TheVariants.{Add, Split}
 use Rattle.spg_tree.specs.Table.{Table}
 use Rattle.spg_tree.specs.Descents.{Descending}
 use Rattle.spg_tree.specs.declared.stand.Stand.{Stand}
@@ -36,3 +36,11 @@ module _ {Key Recon Cond : Type 0} (m : Meaning Key Recon Cond) (t : Table) (d :
       let there : at ≡ at2 = cc in
       let named : label ≡ label2 = cc in
       big (subst (λ (k : ℤ). FitsWider t d at2 k) named (subst (λ (k : ℕ). FitsWider t d k label) there fits))
+
+  -- where it asks for a split, the clock stays
+  pub split_ticks : (up : List ℕ) (labels : List ℤ) (child : ℕ) (low : List ℕ) → IsAtInner t d.stand → IsAnswered m t d (Split up labels child low) → Ticks m t d → ⊥
+  split_ticks up labels child low i is (inl (off, room, short)) = off.1 i
+  split_ticks up labels child low i is (inr (inl ((off, room, long), below))) = off.1 i
+  split_ticks up labels child low i is (inr (inr (j, (at, label, answered, big)))) =
+      let f : Split up labels child low ≡ Add at label = one_answer m t d (Split up labels child low) (Add at label) is answered in
+      cc
