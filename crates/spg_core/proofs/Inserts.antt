@@ -1,5 +1,5 @@
 -- What a section of an insert leaves of a state.
-use Rattle.std.proofs.Common.{◌≡◌, ◌<◌, ◌+◌, ℕ, suc, Bool, true, false, List, [], ◌∷◌, ◌++◌, length, get_or, set, Option, option_copied, Vec, refl, sym, ap, ◌∙◌, subst, get_or-set_same, length-set, map}
+use Rattle.std.proofs.Common.{◌≡◌, ◌<◌, ◌+◌, ℕ, suc, Bool, true, false, List, [], ◌∷◌, ◌++◌, length, get_or, set, Option, Vec, refl, sym, ap, ◌∙◌, subst, get_or-set_same, length-set, map}
 use Rattle.std.specs.Prelude.{is_none}
 use Rattle.std.specs.declared.alloc.Global.{Global}
 use Rattle.spg_base.specs.Row.{RowAt}

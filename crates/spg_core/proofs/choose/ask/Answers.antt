@@ -10,7 +10,7 @@ use Rattle.spg_tree.specs.Table.{Table, sheet_at, tuple_at}
 use Rattle.spg_tree.specs.declared.stand.Stand.{Stand}
 use Rattle.spg_descend.specs.Follows.{tuple_place}
 use Rattle.spg_descend.proofs.FollowLaw.{is_within, has_label}
-use Rattle.spg_core.specs.Stepping.{named, IsToFollow}
+use Rattle.spg_core.specs.Stepping.{named}
 use Rattle.spg_core.specs.Guides.{IsSpottedAt}
 use Rattle.spg_core.proofs.Looks.{to_follow}
 use Rattle.spg_core.proofs.choose.ask.Goals as goal
