@@ -18,7 +18,6 @@ use Rattle.spg_page.specs.Reads.{frame_in}
 use Rattle.spg_tree.specs.Table.{Table, sheets_of, tuple_at}
 use Rattle.spg_tree.specs.Descents.{Descending, in_nulls}
 use Rattle.spg_descend.specs.declared.rule.Rule.TheVariants as rules
-use Rattle.spg_descend.specs.Answers.{IsAnswered}
 use Rattle.spg_descend.specs.Carried.{IsCarried}
 use Rattle.spg_descend.specs.Follows.{IsAtInner, tuple_place}
 use Rattle.spg_split.specs.Cases.{IsSplitSpot}
@@ -72,14 +71,11 @@ module _ {Key Recon Cond : Type 0} (m : Meaning Key Recon Cond) (matches : Match
   abbrev w : Frame
   w = frame_in (tuple_at t (tuple_place d.stand))
 
-  pub main : in_nulls d ≡ false
+  main : in_nulls d ≡ false
   main = main_of m t d key x.recon C S.1
 
   here : m.answer x.recon w d.rest ≡ answer_at m x
   here = sym (ap (λ (v : Frame). m.answer x.recon v x.rest) S.2 ∙ ap (λ (r : List ℕ). m.answer x.recon w r) S.3)
-
-  pub answered : (said : Choice) → answer_at m x ≡ said → IsAnswered m t d said
-  answered said e = (x.recon, S.1, here ∙ e)
 
   pub to_follow : (answer node : ℕ) (rest : List ℕ) (by_turn : Bool) (below : Option Recon) → t.counter < 8 → answer_at m x ≡ choice.Match answer rest → node ≡ named t.counter x.tuple answer → by_turn ≡ x.tuple.all_same → below ≡ Some (m.down x.recon x.tuple node) → IsToFollow m t d node rest by_turn below
   to_follow answer node rest by_turn below low e n b z =

@@ -5,8 +5,6 @@ use Rattle.spg_opclass.specs.Meaning.{Meaning}
 use Rattle.spg_opclass.specs.declared.view.Choice.TheVariants.{Add, Split}
 use Rattle.spg_tree.specs.Table.{Table}
 use Rattle.spg_tree.specs.Descents.{Descending}
-use Rattle.spg_tree.specs.declared.stand.Stand.{Stand}
-use Rattle.spg_tree.specs.declared.stand.Stand.TheVariants.{Start}
 use Rattle.spg_descend.specs.declared.rule.Rule.TheVariants as rules
 use Rattle.spg_descend.specs.Answers.{IsAnswered}
 use Rattle.spg_descend.specs.Follows.{IsAtInner}
@@ -17,11 +15,6 @@ use Rattle.spg_core.specs.Refusing.{Ticks}
 use Rattle.spg_core.proofs.Ends.{one_answer}
 
 module _ {Key Recon Cond : Type 0} (m : Meaning Key Recon Cond) (t : Table) (d : Descending Recon) where
-  pub start_ticks : d.stand ≡ Start → Ticks m t d → ⊥
-  start_ticks e (inl (off, room, short)) = off.0 e
-  start_ticks e (inr (inl ((off, room, long), below))) = off.0 e
-  start_ticks e (inr (inr (i, (at, label, answered, big)))) = (subst (λ (s : Stand). IsAtInner t s) e i).0
-
   pub root_ticks : IsRuleFor t d rules.Divide → IsAtRoot d.stand → Ticks m t d → ⊥
   root_ticks (off, room, long) low (inl (off2, room2, short)) = long short
   root_ticks (off, room, long) low (inr (inl (rule, below))) = below low
