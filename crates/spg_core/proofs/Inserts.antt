@@ -1,5 +1,5 @@
 -- What a section of an insert leaves of a state.
-use Rattle.std.proofs.Common.{◌≡◌, ◌<◌, ◌+◌, ℕ, suc, Bool, true, false, List, [], ◌∷◌, ◌++◌, length, get_or, set, Option, option_copied, Vec, refl, sym, ap, ◌∙◌, subst, get_or-set_same, length-set, map}
+use Rattle.std.proofs.Common.{◌≡◌, ◌<◌, ◌+◌, ℕ, suc, Bool, true, false, List, [], ◌∷◌, ◌++◌, length, get_or, set, Option, Vec, refl, sym, ap, ◌∙◌, subst, get_or-set_same, length-set, map}
 use Rattle.std.specs.Prelude.{is_none}
 use Rattle.std.specs.declared.alloc.Global.{Global}
 use Rattle.spg_base.specs.Row.{RowAt}
@@ -29,9 +29,9 @@ use Rattle.spg_core.specs.Ends.{EndsWithin, StageEnds, SeatEnds, SeatThenEnds}
 use Rattle.spg_core.specs.Operations.{CanStep, IsOutgrownBy, StepsFrom, IsInsert, IsDescentOf, IsRowOf}
 use Rattle.spg_core.specs.Sections.{IsOutOf, IsHeavyFor, FindsNoPageFor, SeatFindsNoPage, TicksFor, SeatTicks, StoodFor, TellsFor, LatchesAfter, HasNone, OthersHold}
 use Rattle.spg_core.specs.Latches.{HoldsAfter}
-use Rattle.spg_core.specs.declared.plan.Plan.{Plan}
-use Rattle.spg_core.specs.declared.plan.Guide.TheVariants as guides
-use Rattle.spg_core.specs.Plans.{IsPlanned, PlannedIn, GuidedIn, IsSpottedAt, IsBunchAt, AsksAt}
+use Rattle.spg_core.specs.declared.guide.Guide.{Guide}
+use Rattle.spg_core.specs.declared.guide.Guide.TheVariants as guides
+use Rattle.spg_core.specs.Guides.{IsGuided, GuidedIn, IsSpottedAt, IsBunchAt, AsksAt}
 use Rattle.spg_core.specs.Looking.{SpottedIn, IsSpotted, BunchIn, IsBunch, AsksIn, Asks}
 use Rattle.spg_core.specs.Slot.{stage_of}
 use Rattle.spg_core.specs.Stage.{IsInserting, reading, sweeping}
@@ -46,18 +46,12 @@ use Rattle.spg_core.proofs.Steps.{with_fields, same_rows, past, seats, fits, low
 pub none_held : (t t2 : pages.Table) (seat : ℕ) → AreHeld t2 seat (rest_of t seat) (λ b. false) → HasNone t2 seat
 none_held t t2 seat h b e = h.others b (sym (h.latch b) ∙ e)
 
--- a class guides an insert wherever it stands, and a plan guides one that it is for
+-- a class guides an insert wherever it stands
 pub class_guides : {O Key Recon Cond : Type 0} (m : Meaning Key Recon Cond) (t : pages.Table) (x : Stage O Key Recon Cond) (class : _) → IsInserting x → GuidedIn m t x (guides.Class class)
 class_guides m t free class h = absurd h
 class_guides m t (descending key d) class h = tt
 class_guides m t (reading s) class h = absurd h
 class_guides m t (sweeping v) class h = absurd h
-
-pub plan_guides : {O Key Recon Cond : Type 0} (m : Meaning Key Recon Cond) (t : pages.Table) (x : Stage O Key Recon Cond) (plan : Plan O Key Recon Cond) (parted : _) → PlannedIn m t x plan (option_copied parted) → GuidedIn m t x (guides.Plan plan parted)
-plan_guides m t free plan parted h = h
-plan_guides m t (descending key d) plan parted h = h
-plan_guides m t (reading s) plan parted h = h
-plan_guides m t (sweeping v) plan parted h = h
 
 -- where a section is refused, as callers see it
 module _ {O Key Recon Cond : Type 0} (m : Meaning Key Recon Cond) (s : Inside O Key Recon Cond) (seen : Seen O Key Recon Cond) (view : seen_of s ≡ seen) (seat : ℕ) where
@@ -97,13 +91,13 @@ module _ {O Key Recon Cond : Type 0} (s : Inside O Key Recon Cond) (seen : Seen 
   pub kept_here : (P : pages.Table → Stage O Key Recon Cond → Type 0) (key : Option Key) (d : Descending Recon) → stage_at seen seat ≡ descending key d → P seen.table (stage_at seen seat) → P s.table (descending key d)
   kept_here P key d e h = subst (λ (t : pages.Table). P t (descending key d)) (table_is s seen view seat) (subst (λ (x : Stage O Key Recon Cond). P seen.table x) e h)
 
-  -- its plan, and the copies that a look gives
+  -- its guide, and the copies that a look gives
   module _ (d : Descending Recon) (items : List (Slot O Key Recon Cond)) (same : items ≡ s.slots.items) (it : IsDescentOf (get_or items seat Free) d) where
     it_is : IsDescentOf (get_or s.slots.items seat Free) d
     it_is = subst (λ (l : List (Slot O Key Recon Cond)). IsDescentOf (get_or l seat Free) d) same it
 
-    pub plan_seen : (m : Meaning Key Recon Cond) (plan : Plan O Key Recon Cond) (parted : Option (RestsAt Recon)) → IsPlanned m s.table d plan parted → PlannedIn m seen.table (stage_at seen seat) plan parted
-    plan_seen m plan parted h = let (key, e) = stage_here d it_is in seen_here (λ t x. PlannedIn m t x plan parted) key d e h
+    pub guide_seen : (m : Meaning Key Recon Cond) (guide : Guide O Key Recon Cond) → IsGuided m s.table d guide → GuidedIn m seen.table (stage_at seen seat) guide
+    guide_seen m guide h = let (key, e) = stage_here d it_is in seen_here (λ t x. GuidedIn m t x guide) key d e h
 
     pub spotted_seen : (x : AtTuple Recon) → IsSpottedAt s.table d x → IsSpotted seen seat x
     spotted_seen x h = let (key, e) = stage_here d it_is in seen_here (λ t z. SpottedIn t z x) key d e h

@@ -1,5 +1,5 @@
 -- What a look at an insert finds, and what is done as the class chose for a copy.
-use Rattle.std.proofs.Common.{◌≡◌, ◌⊎◌, ℕ, ◌<◌, zero, suc, Bool, true, false, List, [], ◌∷◌, ◌++◌, Option, Some, length, get_or, map, refl, sym, ap, ◌∙◌, subst, inl, inr, arith, ⊎_elim}
+use Rattle.std.proofs.Common.{◌≡◌, ◌⊎◌, ℕ, ◌<◌, zero, suc, Bool, true, false, List, [], ◌∷◌, ◌++◌, Option, Some, None, length, get_or, map, refl, sym, ap, ◌∙◌, subst, inl, inr, arith, ⊎_elim}
 use Rattle.std.specs.Prelude.{is_none, if◌then◌else◌}
 use Rattle.std.proofs.lemmas.Bool.{cases_order}
 use Rattle.std.proofs.lemmas.List.{length-append, length-replicate, map-append, get_or_append_left}
@@ -19,14 +19,13 @@ use Rattle.spg_tree.specs.Table.{Table, sheets_of, tuple_at}
 use Rattle.spg_tree.specs.Descents.{Descending, in_nulls}
 use Rattle.spg_descend.specs.declared.rule.Rule.TheVariants as rules
 use Rattle.spg_descend.specs.Carried.{IsCarried}
-use Rattle.spg_descend.specs.Follows.{tuple_place}
+use Rattle.spg_descend.specs.Follows.{IsAtInner, tuple_place}
 use Rattle.spg_split.specs.Cases.{IsSplitSpot}
+use Rattle.spg_split.specs.Parting.{IsPartedAt}
 use Rattle.spg_seats.specs.Descending.{Stands}
-use Rattle.spg_core.specs.declared.choose.InnerStep.{InnerStep}
-use Rattle.spg_core.specs.declared.choose.InnerStep.TheVariants.{Node, Add, Split}
-use Rattle.spg_core.specs.Stepping.{IsChosen, named}
+use Rattle.spg_core.specs.Stepping.{IsToFollow, named}
 use Rattle.spg_core.specs.Telling.{IsRuleFor}
-use Rattle.spg_core.specs.Plans.{IsSpottedAt, IsBunchAt, AsksAt, IsStepFor}
+use Rattle.spg_core.specs.Guides.{IsSpottedAt, IsBunchAt, AsksAt, IsTold}
 use Rattle.spg_core.proofs.Weights.{nulls_key, recon_key}
 use Rattle.spg_core.proofs.Moves.{at_chain, not_empty, root_leaves, root_or_below}
 use Rattle.spg_core.proofs.Chooses.{framed, node_there, rest_ok, goes}
@@ -41,6 +40,22 @@ split_spot m t d shape stands (off, room, long) = ⊎_elim (λ root. inl (root, 
 -- an insert that has a rebuilt value is in the main tree
 pub main_of : {Key Recon Cond : Type 0} (m : Meaning Key Recon Cond) (t : Table) (d : Descending Recon) (key : Option Key) (r : Recon) → IsCarried m (sheets_of t) d key → d.recon ≡ Some r → in_nulls d ≡ false
 main_of m t d key r C e = nulls_key m (sheets_of t) d key C ∙ sym (recon_key m (sheets_of t) d key C) ∙ ap is_none e
+
+-- where the class has none, an insert that stands at an inner tuple or divides leaves has no rebuilt value
+unasked_recon : {Key Recon Cond : Type 0} (m : Meaning Key Recon Cond) (t : Table) (d : Descending Recon) (key : Option Key) → IsCarried m (sheets_of t) d key → (AsksAt t d → ⊥) → IsAtInner t d.stand ⊎ IsRuleFor t d rules.Divide → d.recon ≡ None
+unasked_recon {Key} {Recon} m t d key C unasked at = go d.recon refl
+  where
+    go : (r : Option Recon) → d.recon ≡ r → d.recon ≡ None
+    go None e = e
+    go (Some r) e = absurd (unasked (main_of m t d key r C e, at))
+
+pub told_inner : {Key Recon Cond : Type 0} (m : Meaning Key Recon Cond) (t : Table) (d : Descending Recon) (key : Option Key) → IsCarried m (sheets_of t) d key → (parted : Option (RestsAt Recon)) → IsTold t d parted → IsAtInner t d.stand → d.recon ≡ None
+told_inner m t d key C None told at = unasked_recon m t d key C told (inl at)
+told_inner m t d key C (Some x) told at = absurd (told.0.0.1 at)
+
+pub told_parted : {Key Recon Cond : Type 0} (m : Meaning Key Recon Cond) (t : Table) (d : Descending Recon) (key : Option Key) → IsCarried m (sheets_of t) d key → (parted : Option (RestsAt Recon)) → IsTold t d parted → IsRuleFor t d rules.Divide → IsPartedAt t d parted
+told_parted m t d key C None told rule = unasked_recon m t d key C told (inr rule)
+told_parted m t d key C (Some x) told rule = told.1
 
 -- a copy is given where the class has a say
 module _ {Key Recon Cond : Type 0} (m : Meaning Key Recon Cond) (t : Table) (d : Descending Recon) (key : Option Key) (C : IsCarried m (sheets_of t) d key) where
@@ -62,8 +77,8 @@ module _ {Key Recon Cond : Type 0} (m : Meaning Key Recon Cond) (matches : Match
   here : m.answer x.recon w d.rest ≡ answer_at m x
   here = sym (ap (λ (v : Frame). m.answer x.recon v x.rest) S.2 ∙ ap (λ (r : List ℕ). m.answer x.recon w r) S.3)
 
-  pub chosen_by : {O : Type 0} (step : InnerStep O Key Recon Cond) → t.counter < 8 → IsStepFor m x t.counter step → IsChosen m t d step
-  chosen_by (Node node rest by_turn below) low (answer, e, n, b, z) =
+  pub to_follow : (answer node : ℕ) (rest : List ℕ) (by_turn : Bool) (below : Option Recon) → t.counter < 8 → answer_at m x ≡ choice.Match answer rest → node ≡ named t.counter x.tuple answer → by_turn ≡ x.tuple.all_same → below ≡ Some (m.down x.recon x.tuple node) → IsToFollow m t d node rest by_turn below
+  to_follow answer node rest by_turn below low e n b z =
       let is : m.answer x.recon w d.rest ≡ choice.Match answer rest = here ∙ e in
       let en : node ≡ named t.counter w answer = n ∙ ap (λ (v : Frame). named t.counter v answer) S.2 in (
         subst (λ (k : ℕ). k < length (links (tuple_at t (tuple_place d.stand)))) (sym en) (node_there m matches t d H S.0 st x.recon S.1 main key C answer rest t.counter low is),
@@ -72,8 +87,6 @@ module _ {Key Recon Cond : Type 0} (m : Meaning Key Recon Cond) (matches : Match
         inr (answer, (x.recon, S.1, is), en, b ∙ ap (λ (v : Frame). v.all_same) S.2),
         z ∙ ap Some (ap (λ (v : Frame). m.down x.recon v node) S.2) ∙ ap (λ (r : Option Recon). down_of m r w node) (sym S.1),
       )
-  chosen_by (Add at label) low e = (main, (x.recon, S.1, here ∙ e))
-  chosen_by (Split up labels child lower) low e = (main, (x.recon, S.1, here ∙ e))
 
   -- the counter names a node of an all-the-same tuple
   pub turn_there : t.counter < 8 → x.tuple.all_same ≡ true → t.counter < length x.tuple.labels

@@ -1,12 +1,10 @@
 -- Which sections of an insert leave the clock as it is.
-use Rattle.std.proofs.Common.{◌≡◌, ℕ, inl, inr, subst}
+use Rattle.std.proofs.Common.{◌≡◌, ℕ, List, inl, inr, subst}
 use Rattle.std.specs.Prelude.{ℤ}
 use Rattle.spg_opclass.specs.Meaning.{Meaning}
-use Rattle.spg_opclass.specs.declared.view.Choice.TheVariants.{Add}
+use Rattle.spg_opclass.specs.declared.view.Choice.TheVariants.{Add, Split}
 use Rattle.spg_tree.specs.Table.{Table}
 use Rattle.spg_tree.specs.Descents.{Descending}
-use Rattle.spg_tree.specs.declared.stand.Stand.{Stand}
-use Rattle.spg_tree.specs.declared.stand.Stand.TheVariants.{Start}
 use Rattle.spg_descend.specs.declared.rule.Rule.TheVariants as rules
 use Rattle.spg_descend.specs.Answers.{IsAnswered}
 use Rattle.spg_descend.specs.Follows.{IsAtInner}
@@ -17,11 +15,6 @@ use Rattle.spg_core.specs.Refusing.{Ticks}
 use Rattle.spg_core.proofs.Ends.{one_answer}
 
 module _ {Key Recon Cond : Type 0} (m : Meaning Key Recon Cond) (t : Table) (d : Descending Recon) where
-  pub start_ticks : d.stand ≡ Start → Ticks m t d → ⊥
-  start_ticks e (inl (off, room, short)) = off.0 e
-  start_ticks e (inr (inl ((off, room, long), below))) = off.0 e
-  start_ticks e (inr (inr (i, (at, label, answered, big)))) = (subst (λ (s : Stand). IsAtInner t s) e i).0
-
   pub root_ticks : IsRuleFor t d rules.Divide → IsAtRoot d.stand → Ticks m t d → ⊥
   root_ticks (off, room, long) low (inl (off2, room2, short)) = long short
   root_ticks (off, room, long) low (inr (inl (rule, below))) = below low
@@ -36,3 +29,11 @@ module _ {Key Recon Cond : Type 0} (m : Meaning Key Recon Cond) (t : Table) (d :
       let there : at ≡ at2 = cc in
       let named : label ≡ label2 = cc in
       big (subst (λ (k : ℤ). FitsWider t d at2 k) named (subst (λ (k : ℕ). FitsWider t d k label) there fits))
+
+  -- where it asks for a split, the clock stays
+  pub split_ticks : (up : List ℕ) (labels : List ℤ) (child : ℕ) (low : List ℕ) → IsAtInner t d.stand → IsAnswered m t d (Split up labels child low) → Ticks m t d → ⊥
+  split_ticks up labels child low i is (inl (off, room, short)) = off.1 i
+  split_ticks up labels child low i is (inr (inl ((off, room, long), below))) = off.1 i
+  split_ticks up labels child low i is (inr (inr (j, (at, label, answered, big)))) =
+      let f : Split up labels child low ≡ Add at label = one_answer m t d (Split up labels child low) (Add at label) is answered in
+      cc

@@ -16,6 +16,6 @@ pub mod Ends
 pub mod Telling
 pub mod Refusing
 pub mod Runs
-pub mod Plans
+pub mod Guides
 pub mod Looking
 pub mod Sifting

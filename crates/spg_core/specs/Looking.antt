@@ -16,7 +16,7 @@ use Rattle.spg_core.specs.declared.look.Look.TheVariants.{Stepped, Choose, Part}
 use Rattle.spg_core.specs.Stage.{Stage, free, descending, reading, sweeping}
 use Rattle.spg_core.specs.Seen.{Seen, stage_at, moved, past_of, untouched}
 use Rattle.spg_core.specs.Stepping.{MakesAtMostOne}
-use Rattle.spg_core.specs.Plans.{IsSpottedAt, IsBunchAt, AsksAt}
+use Rattle.spg_core.specs.Guides.{IsSpottedAt, IsBunchAt, AsksAt}
 use Rattle.spg_core.specs.Ends.{SeatEnds, SeatThenEnds}
 use Rattle.spg_core.specs.Sections.{IsInsertOut, TellsSection, LatchesAfter}
 

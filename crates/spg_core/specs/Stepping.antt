@@ -23,8 +23,6 @@ use Rattle.spg_descend.specs.Follows.{tuple_place}
 use Rattle.spg_descend.specs.Answers.{IsAnswered}
 use Rattle.spg_descend.specs.Makes.{MakesOne}
 use Rattle.spg_seats.specs.Descending.{HasInnerRoot, Stands}
-use Rattle.spg_core.specs.declared.choose.InnerStep.{InnerStep}
-use Rattle.spg_core.specs.declared.choose.InnerStep.TheVariants.{Node, Add, Split}
 use Rattle.spg_core.specs.declared.answer.InsertOut.{InsertOut}
 use Rattle.spg_core.specs.declared.answer.InsertOut.TheVariants.{Descended, Restructured, Restarted, Put}
 
@@ -85,11 +83,9 @@ IsNamed m t d node rest by_turn =
     let w : Frame = frame_in (tuple_at t (tuple_place d.stand)) in
     ((d.recon ≡ None) × (node ≡ t.counter) × (rest ≡ []) × (by_turn ≡ true)) ⊎ ((answer : ℕ) × IsAnswered m t d (choice.Match answer rest) × (node ≡ named t.counter w answer) × (by_turn ≡ w.all_same))
 
--- What an insert does at an inner tuple: it goes down a node that is there, below which it carries what it carried, by what the class answers, with the rebuilt value there; or the class asks for a node or a split
-abbrev pub IsChosen : {O Key Recon Cond : Type 0} → Meaning Key Recon Cond → Table → Descending Recon → InnerStep O Key Recon Cond → Type 0
-IsChosen {O} {Key} m t d (Node node rest by_turn below) =
+-- a node that an insert goes down at an inner tuple: it is there, below it the insert carries what it carried, it is followed by what the class answers, and this is the rebuilt value there
+abbrev pub IsToFollow : {Key Recon Cond : Type 0} → Meaning Key Recon Cond → Table → Descending Recon → ℕ → List ℕ → Bool → Option Recon → Type 0
+IsToFollow {Key} m t d node rest by_turn below =
     let x : Place = tuple_place d.stand in
     (node < length (links (tuple_at t x))) × IsRestOf m (in_nulls d) rest × ((key : Option Key) → IsCarried m (sheets_of t) d key → GoesBelow m d.recon (frame_in (tuple_at t x)) node rest key) × IsNamed m t d node rest by_turn
     × (below ≡ down_of m d.recon (frame_in (tuple_at t x)) node)
-IsChosen m t d (Add at label) = (in_nulls d ≡ false) × IsAnswered m t d (choice.Add at label)
-IsChosen m t d (Split up labels child low) = (in_nulls d ≡ false) × IsAnswered m t d (choice.Split up labels child low)

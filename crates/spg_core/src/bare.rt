@@ -1,4 +1,4 @@
-ghost use Rattle.std.specs.Prelude.{false, ◌≡◌, ◌≢◌, ◌<◌, ◌≤◌, ◌+◌, ◌^◌, ◌↔◌, ◌⊎◌, [], ℕ, suc, Option, option_copied, Some, None, IfOk, OnOk, OnErr, IsErrOf, IsTrue};
+ghost use Rattle.std.specs.Prelude.{false, ◌≡◌, ◌≢◌, ◌<◌, ◌≤◌, ◌+◌, ◌^◌, ◌↔◌, ◌⊎◌, [], ℕ, suc, Option, Some, None, IfOk, OnOk, OnErr, IsErrOf, IsTrue};
 ghost use Rattle.spg_base.specs.declared.recorded.Origin.{Origin};
 ghost use Rattle.spg_forest.specs.Shape.{Represents};
 ghost use Rattle.spg_base.specs.Row.{RowAt};
@@ -21,14 +21,14 @@ ghost use Rattle.spg_core.specs.Kept.{RootsAreHeavy};
 ghost use Rattle.spg_core.specs.Counts.{IsStat};
 ghost use Rattle.spg_core.specs.Waiting.{is_used};
 ghost use Rattle.spg_core.specs.Looking.{LooksAt, StepsInsert, Asks, IsSpotted, IsBunch, CopiesItem, KeptIn, SiftsItem};
-ghost use Rattle.spg_core.specs.Plans.{PlannedIn, GuidedIn};
+ghost use Rattle.spg_core.specs.Guides.{GuidedIn};
 ghost use Rattle.spg_core.specs.Sections.{IsNew, OpensInsert, IsInsertOut, TellsSection, LatchesAfter, OthersHold, IsHeavy, SeatFindsNoPage, SeatTicks, KillsRow, OpensScan, ReadsItem, ClosesScan, OpensVacuum, StepsVacuum, GivesUp};
 
 use crate::answer::{InsertOut, OpenKind, OpenRefused, VacuumOut, VacuumRefused};
-use crate::found::{Found, is_bunch, is_spotted, look_at, step_for};
+use crate::found::{Found, is_bunch, is_spotted, look_at};
+use crate::guide::Guide;
 use crate::look::{ApplyRefused, Look};
 use crate::operations::{close_slot, end_insert, end_vacuum, read_slot, release_slot, step_slot};
-use crate::plan::{Guide, Plan};
 use crate::sifting::{copy_slot, sift_slot};
 use crate::slot::{SEATS, Slot, descent_at, free_slots, give_up, kind, set_slot, slot_at};
 use crate::stat::stat_of;
@@ -307,15 +307,10 @@ impl<O: OpClass> Bare<O> {
         self.go_on(seat, Guide::Class(class))
     }
 
-    /// The next section of an insert as planned, which is refused as what the class answered.
-    fn apply(
-        &mut self,
-        seat: SeatNo,
-        plan: Plan<O>,
-        parted: Option<&Parted<O>>,
-    ) -> Result<InsertOut, ApplyRefused>
+    /// The next section of an insert as its guide decides, which is refused as what the class answered.
+    fn apply(&mut self, seat: SeatNo, guide: Guide<'_, O>) -> Result<InsertOut, ApplyRefused>
         requires inserting { IsInserting (stage_at self.old seat) }
-        requires planned { PlannedIn O.meaning self.old.table (stage_at self.old seat) plan (option_copied parted) }
+        requires guided { GuidedIn O.meaning self.old.table (stage_at self.old seat) guide }
         ensures ok { IfOk result (λ out. StepsInsert O.meaning self.old self.new seat out) }
         ensures unchanged { IsErrOf result ApplyRefused.Changed → ⊥ }
         ensures others { OthersHold self.old.table self.new.table seat }
@@ -328,7 +323,7 @@ impl<O: OpClass> Bare<O> {
         ensures clock_first { SeatTicks O.meaning self.old seat → self.old.table.clock + 1 ≡ 2 ^ 48 → IsErrOf result ApplyRefused.ClockFull ⊎ IsErrOf result ApplyRefused.Memory }
         ensures err { OnErr result (self.new ≡ self.old) }
     {
-        match self.go_on(seat, Guide::Plan(plan, parted)) {
+        match self.go_on(seat, guide) {
             Ok(out) => Ok(out),
             Err(StepRefused::IndexFull) => Err(ApplyRefused::IndexFull),
             Err(StepRefused::ClockFull) => Err(ApplyRefused::ClockFull),
@@ -359,9 +354,9 @@ impl<O: OpClass> Bare<O> {
         match look_at(self.alloc, &self.table, descent)? {
             Found::Choose(spotted) => Ok(Look::Choose(spotted)),
             Found::Part(bunch) => Ok(Look::Part(bunch)),
-            Found::Plan(plan) => {
+            Found::Unasked => {
                 let unasked: Option<Parted<O>> = None;
-                let guide = Guide::Plan(plan, unasked.as_ref());
+                let guide = Guide::Parted(unasked.as_ref());
                 Ok(Look::Stepped(self.go_on(seat, guide)?))
             }
         }
@@ -392,9 +387,7 @@ impl<O: OpClass> Bare<O> {
         if !is_spotted(self.alloc, &self.table, descent, chosen)? {
             return Err(ApplyRefused::Changed);
         }
-        let step = step_for(self.table.counter(), chosen)?;
-        let unasked: Option<Parted<O>> = None;
-        self.apply(seat, Plan::Inner(step), unasked.as_ref())
+        self.apply(seat, Guide::Chosen(chosen))
     }
 
     /// The section of an insert that divides leaves, by how the class divided a copy of their values.
@@ -422,7 +415,7 @@ impl<O: OpClass> Bare<O> {
         if !is_bunch(self.alloc, &self.table, descent, parted)? {
             return Err(ApplyRefused::Changed);
         }
-        self.apply(seat, Plan::Divide, Some(parted))
+        self.apply(seat, Guide::Parted(Some(parted)))
     }
 
     /// Deletes the row. True exactly where it is live; else nothing changes.

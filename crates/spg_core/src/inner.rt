@@ -1,13 +1,14 @@
-ghost use Rattle.std.specs.Prelude.{IfOk};
+ghost use Rattle.std.specs.Prelude.{◌≡◌, Option, false, None as Nil, IfOk};
+ghost use Rattle.spg_opclass.specs.declared.view.Choice.TheVariants.{Add, Split};
+ghost use Rattle.spg_tree.specs.Descents.{in_nulls};
+ghost use Rattle.spg_descend.specs.Answers.{IsAnswered};
 ghost use Rattle.spg_descend.specs.Follows.{IsAtInner};
-ghost use Rattle.spg_core.specs.declared.choose.InnerStep.TheVariants.{Node, Add};
-ghost use Rattle.spg_core.specs.Stepping.{MayStep, IsChosen};
+ghost use Rattle.spg_core.specs.Stepping.{MayStep, IsToFollow};
 ghost use Rattle.spg_core.specs.Telling.{Does};
 ghost use Rattle.spg_core.specs.Refusing.{Refuses};
 
 use crate::answer::InsertOut;
-use crate::choose::InnerStep;
-use spg_base::{Bytes, SeatNo};
+use spg_base::{Bytes, Labels, SeatNo};
 use spg_descend::{Entered, follow};
 use spg_move::{add_node, split_tuple};
 use spg_opclass::OpClass;
@@ -16,7 +17,7 @@ use std::alloc::Global;
 
 /// Goes down a node of the inner tuple at which an insert is. It takes no memory.
 #[inline(always)]
-fn go_down<O: OpClass>(
+pub(crate) fn go_down<O: OpClass>(
     table: &mut PageTable,
     descent: &mut Descent<O>,
     seat: SeatNo,
@@ -27,7 +28,7 @@ fn go_down<O: OpClass>(
 ) -> InsertOut
     requires can { MayStep O.meaning table.old descent.old }
     requires inner { IsAtInner table.old descent.old.stand }
-    requires chosen { IsChosen {O = O} O.meaning table.old descent.old (Node node rest by_turn below) }
+    requires chosen { IsToFollow O.meaning table.old descent.old node rest by_turn below }
     ensures { Does O.meaning table.old table.new descent.old descent.new seat result }
 {
     let _count = table.page_count();
@@ -41,8 +42,24 @@ fn go_down<O: OpClass>(
     }
 }
 
+/// Goes down the node that the rotating counter names, in the nulls tree. It takes no memory.
+pub(crate) fn go_by_counter<O: OpClass>(
+    alloc: Global,
+    table: &mut PageTable,
+    descent: &mut Descent<O>,
+    seat: SeatNo,
+) -> InsertOut
+    requires can { MayStep O.meaning table.old descent.old }
+    requires inner { IsAtInner table.old descent.old.stand }
+    requires nulls { descent.old.recon ≡ Nil }
+    ensures { Does O.meaning table.old table.new descent.old descent.new seat result }
+{
+    let node = u16::from(table.counter());
+    go_down(table, descent, seat, node, Bytes::new(alloc), true, None)
+}
+
 /// Puts a node into the inner tuple at which an insert is.
-fn widen<O: OpClass>(
+pub(crate) fn widen<O: OpClass>(
     alloc: Global,
     table: &mut PageTable,
     descent: &mut Descent<O>,
@@ -52,7 +69,8 @@ fn widen<O: OpClass>(
 ) -> Result<InsertOut, StepRefused>
     requires can { MayStep O.meaning table.old descent.old }
     requires inner { IsAtInner table.old descent.old.stand }
-    requires chosen { IsChosen {O = O} O.meaning table.old descent.old (Add at label) }
+    requires main { in_nulls descent.old ≡ false }
+    requires answer { IsAnswered O.meaning table.old descent.old (Add at label) }
     ensures does { IfOk result (λ out. Does O.meaning table.old table.new descent.old descent.new seat out) }
     ensures refused { Refuses O.meaning table.old table.new descent.old descent.new seat result }
 {
@@ -60,46 +78,33 @@ fn widen<O: OpClass>(
     Ok(InsertOut::Restructured)
 }
 
-/// Does what was chosen at an inner tuple: it goes down a node, puts one in, or splits the tuple.
-#[inline(always)]
-pub(crate) fn apply<O: OpClass>(
+/// Splits the inner tuple at which an insert is in two.
+pub(crate) fn split<O: OpClass>(
     alloc: Global,
     table: &mut PageTable,
     descent: &mut Descent<O>,
     seat: SeatNo,
-    chosen: InnerStep<O>,
+    upper_prefix: &Bytes,
+    upper_labels: &Labels,
+    child: u16,
+    lower_prefix: &Bytes,
 ) -> Result<InsertOut, StepRefused>
     requires can { MayStep O.meaning table.old descent.old }
     requires inner { IsAtInner table.old descent.old.stand }
-    requires chosen { IsChosen {O = O} O.meaning table.old descent.old chosen }
+    requires main { in_nulls descent.old ≡ false }
+    requires answer { IsAnswered O.meaning table.old descent.old (Split upper_prefix.now upper_labels.now child lower_prefix.now) }
     ensures does { IfOk result (λ out. Does O.meaning table.old table.new descent.old descent.new seat out) }
     ensures refused { Refuses O.meaning table.old table.new descent.old descent.new seat result }
 {
-    match chosen {
-        InnerStep::Node {
-            node,
-            rest,
-            by_turn,
-            below,
-        } => Ok(go_down(table, descent, seat, node, rest, by_turn, below)),
-        InnerStep::Add { at, label } => widen(alloc, table, descent, seat, at, label),
-        InnerStep::Split {
-            upper_prefix,
-            upper_labels,
-            child,
-            lower_prefix,
-        } => {
-            split_tuple(
-                alloc,
-                table,
-                descent,
-                seat,
-                &upper_prefix,
-                &upper_labels,
-                child,
-                &lower_prefix,
-            )?;
-            Ok(InsertOut::Restructured)
-        }
-    }
+    split_tuple(
+        alloc,
+        table,
+        descent,
+        seat,
+        upper_prefix,
+        upper_labels,
+        child,
+        lower_prefix,
+    )?;
+    Ok(InsertOut::Restructured)
 }

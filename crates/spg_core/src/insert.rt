@@ -10,20 +10,19 @@ ghost use Rattle.spg_seats.specs.Latching.{InsertHolds};
 ghost use Rattle.spg_core.specs.Stepping.{MayStep, IsStepOut, MakesAtMostOne};
 ghost use Rattle.spg_core.specs.Telling.{IsRuleFor, StepTells, Does};
 ghost use Rattle.spg_core.specs.Refusing.{Refuses};
-ghost use Rattle.spg_core.specs.Plans.{IsPlanned, IsGuided};
+ghost use Rattle.spg_core.specs.Guides.{IsGuided};
 ghost use Rattle.spg_core.specs.Ends.{TakesOne};
 ghost use Rattle.spg_core.specs.Latches.{HoldsAfter};
 
 use crate::answer::InsertOut;
 use crate::choose::choose;
-use crate::inner::apply;
+use crate::guide::Guide;
 use crate::latches::{settle_latches, stand_block};
-use crate::plan::{Guide, Plan, part};
-use spg_base::SeatNo;
+use spg_base::{Memory, SeatNo};
 use spg_descend::{Entered, PutOut, Rule, enter_root, put_leaf, rule_at};
 use spg_move::move_chain;
-use spg_opclass::{OpClass, Parted};
-use spg_split::{SplitOut, split_leaf};
+use spg_opclass::{OpClass, Parted, part_at};
+use spg_split::{SplitOut, bunch_at, split_leaf};
 use spg_tree::{Descent, PageTable, StepRefused};
 use std::alloc::Global;
 
@@ -78,9 +77,26 @@ fn move_away<O: OpClass>(
     Ok(InsertOut::Put)
 }
 
+/// How the class divides the leaves where an insert stands. None exactly where they are nulls.
+fn part<O: OpClass>(
+    alloc: Global,
+    class: &O,
+    table: &PageTable,
+    descent: &Descent<O>,
+) -> Result<Option<Parted<O>>, Memory>
+    requires can { MayStep O.meaning table.now descent.now }
+    requires rule { IsRuleFor table.now descent.now rules.Divide }
+    ensures { IfOk result (λ parted. IsPartedAt table.now descent.now parted) }
+{
+    match bunch_at(alloc, table, descent)? {
+        None => Ok(None),
+        Some(bunch) => Ok(Some(part_at(alloc, class, bunch)?)),
+    }
+}
+
 /// Divides the leaves where an insert stands, which have no room for its own leaf and may not move, as
 /// the class divided a copy of their values.
-fn divide<O: OpClass>(
+fn divide_as<O: OpClass>(
     alloc: Global,
     table: &mut PageTable,
     descent: &mut Descent<O>,
@@ -99,57 +115,27 @@ fn divide<O: OpClass>(
     }
 }
 
-/// What an insert does where it stands, as the class answers. Where it changed pages its latches are not
-/// settled yet.
-#[inline(always)]
-fn asked<O: OpClass>(
+/// Divides those leaves as the guide decides. Nulls are divided unasked.
+fn divide<O: OpClass>(
     alloc: Global,
-    class: &O,
     table: &mut PageTable,
     descent: &mut Descent<O>,
     seat: SeatNo,
+    guide: Guide<'_, O>,
 ) -> Result<InsertOut, StepRefused>
     requires can { MayStep O.meaning table.old descent.old }
+    requires rule { IsRuleFor table.old descent.old rules.Divide }
+    requires guided { IsGuided O.meaning table.old descent.old guide }
     ensures does { IfOk result (λ out. Does O.meaning table.old table.new descent.old descent.new seat out) }
     ensures refused { Refuses O.meaning table.old table.new descent.old descent.new seat result }
 {
-    match rule_at(table, descent) {
-        Rule::Start => Ok(begin(table, descent, seat)),
-        Rule::Choose => {
-            let chosen = choose(alloc, class, table, descent)?;
-            apply(alloc, table, descent, seat, chosen)
-        }
-        Rule::Put => put(alloc, table, descent, seat),
-        Rule::Move => move_away(alloc, table, descent, seat),
-        Rule::Divide => {
+    match guide {
+        Guide::Class(class) => {
             let parted = part(alloc, class, table, descent)?;
-            divide(alloc, table, descent, seat, parted.as_ref())
+            divide_as(alloc, table, descent, seat, parted.as_ref())
         }
-    }
-}
-
-/// What an insert does where it stands, as planned. Where it changed pages its latches are not settled
-/// yet.
-#[inline(always)]
-fn planned<O: OpClass>(
-    alloc: Global,
-    table: &mut PageTable,
-    descent: &mut Descent<O>,
-    seat: SeatNo,
-    plan: Plan<O>,
-    parted: Option<&Parted<O>>,
-) -> Result<InsertOut, StepRefused>
-    requires can { MayStep O.meaning table.old descent.old }
-    requires planned { IsPlanned O.meaning table.old descent.old plan (option_copied parted) }
-    ensures does { IfOk result (λ out. Does O.meaning table.old table.new descent.old descent.new seat out) }
-    ensures refused { Refuses O.meaning table.old table.new descent.old descent.new seat result }
-{
-    match plan {
-        Plan::Begin => Ok(begin(table, descent, seat)),
-        Plan::Inner(chosen) => apply(alloc, table, descent, seat, chosen),
-        Plan::Put => put(alloc, table, descent, seat),
-        Plan::Move => move_away(alloc, table, descent, seat),
-        Plan::Divide => divide(alloc, table, descent, seat, parted),
+        Guide::Chosen(_) => unreachable!(),
+        Guide::Parted(parted) => divide_as(alloc, table, descent, seat, parted),
     }
 }
 
@@ -168,9 +154,12 @@ fn section<O: OpClass>(
     ensures does { IfOk result (λ out. Does O.meaning table.old table.new descent.old descent.new seat out) }
     ensures refused { Refuses O.meaning table.old table.new descent.old descent.new seat result }
 {
-    match guide {
-        Guide::Class(class) => asked(alloc, class, table, descent, seat),
-        Guide::Plan(plan, parted) => planned(alloc, table, descent, seat, plan, parted),
+    match rule_at(table, descent) {
+        Rule::Start => Ok(begin(table, descent, seat)),
+        Rule::Choose => choose(alloc, table, descent, seat, guide),
+        Rule::Put => put(alloc, table, descent, seat),
+        Rule::Move => move_away(alloc, table, descent, seat),
+        Rule::Divide => divide(alloc, table, descent, seat, guide),
     }
 }
 

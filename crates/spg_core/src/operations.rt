@@ -12,13 +12,13 @@ ghost use Rattle.spg_core.specs.Slot.{GivesBack, ended_with, stage_of};
 ghost use Rattle.spg_core.specs.Operations.{CanStep, StepsSlot, IsOutgrownBy, CanRead, ReadsSlot, CanClose, ClosesSlot, CanRelease, IsInsert, IsRowOf};
 ghost use Rattle.spg_core.specs.Stepping.{IsNearLimit};
 ghost use Rattle.spg_core.specs.Sections.{FindsNoPageFor, TicksFor};
-ghost use Rattle.spg_core.specs.Plans.{GuidedIn};
+ghost use Rattle.spg_core.specs.Guides.{GuidedIn};
 ghost use Rattle.spg_scan.specs.Scanning.{IsClosing, emptied};
 ghost use Rattle.spg_scan.specs.Parts.{EntriesLive};
 
 use crate::answer::InsertOut;
+use crate::guide::Guide;
 use crate::insert::step;
-use crate::plan::Guide;
 use crate::slot::Slot;
 use crate::vacuums::Vacuums;
 use spg_base::{List, Memory, Row, Rows, SeatNo};

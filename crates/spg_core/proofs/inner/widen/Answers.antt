@@ -21,7 +21,7 @@ returns-clause-does g c =
     let done = c.in_ok-add_node.ensures in
     let added = subst (λ (label : ℤ). IsNodeAdded g.O.OpClass.meaning t t1 d d2 c.args.at label) same done.ok in
     let table = subst (λ (label : ℤ). NodeTable t t1 d d2 c.args.at label c.args.seat) same done.table in
-    record { told = inl (c.requires.inner, c.requires.chosen.0, inl (c.args.at, c.args.label, c.requires.chosen.1, added, table)); exact = done.exact; held = done.held; stood = done.stands }
+    record { told = inl (c.requires.inner, c.requires.main, inl (c.args.at, c.args.label, c.requires.answer, added, table)); exact = done.exact; held = done.held; stood = done.stands }
 
 pub returns-in_err-add_node-clause-refused : goal.returns-in_err-add_node-clause-refused
 returns-in_err-add_node-clause-refused g c =
@@ -36,12 +36,12 @@ returns-in_err-add_node-clause-refused g c =
       clock = λ h. (inl grown, (c.in_err-add_node.ensures.clock (search rules)).1);
       full_where = λ h.
           let none = subst (λ (label : ℤ). (FitsWider t d c.args.at label → ⊥) × IsFull t (wider_want t d c.args.at label c.args.seat)) same (c.in_err-add_node.ensures.full (search rules)) in
-          inr (inr (inr (c.requires.inner, inl (c.args.at, c.args.label, c.requires.chosen.1, none.0, none.1))));
+          inr (inr (inr (c.requires.inner, inl (c.args.at, c.args.label, c.requires.answer, none.0, none.1))));
       clock_where = λ h.
           let (big, last) = subst (λ (label : ℤ). (FitsWider t d c.args.at label → ⊥) × (t.clock + 1 ≡ 2 ^ 48)) same (c.in_err-add_node.ensures.clock (search rules)) in
-          inr (inr (c.requires.inner, (c.args.at, c.args.label, c.requires.chosen.1, big)));
+          inr (inr (c.requires.inner, (c.args.at, c.args.label, c.requires.answer, big)));
       clock_first = λ ticks last.
-          let big = add_ticks g.O.OpClass.meaning t d c.args.at c.args.label c.requires.inner c.requires.chosen.1 ticks in
+          let big = add_ticks g.O.OpClass.meaning t d c.args.at c.args.label c.requires.inner c.requires.answer ticks in
           let first = c.in_err-add_node.ensures.clock_first (subst (λ (label : ℤ). FitsWider t d c.args.at label → ⊥) (sym same) big) last in
           ⊎_elim (λ a. inl (search rules)) (λ a. inr (search rules)) first;
       err = search rules;
@@ -52,6 +52,6 @@ pub returns-clause-refused : goal.returns-clause-refused
 returns-clause-refused g c = done_so _ _ _ _ _ _ _ (λ ticks last.
     let t = c.args.table.now in
     let d = c.args.descent.now in
-    let big = add_ticks g.O.OpClass.meaning t d c.args.at c.args.label c.requires.inner c.requires.chosen.1 ticks in
+    let big = add_ticks g.O.OpClass.meaning t d c.args.at c.args.label c.requires.inner c.requires.answer ticks in
     let first = c.in_ok-add_node.ensures.clock_first (subst (λ (label : ℤ). FitsWider t d c.args.at label → ⊥) (sym (to_z-of_z w16 c.args.label c.ranges.label)) big) last in
     ⊎_elim (not_err c.in_ok-add_node.field-0 ClockFull) (not_err c.in_ok-add_node.field-0 Memory) first)

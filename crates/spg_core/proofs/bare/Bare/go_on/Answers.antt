@@ -10,7 +10,7 @@ use Rattle.spg_core.specs.Stage.{Stage, IsInserting}
 use Rattle.spg_core.specs.Seen.{Seen}
 use Rattle.spg_core.specs.Operations.{StepsFrom, IsOutgrownBy}
 use Rattle.spg_core.specs.Sections.{IsOutOf, IsHeavyFor, FindsNoPageFor, TicksFor, TellsFor, LatchesAfter, HasNone, OthersHold}
-use Rattle.spg_core.specs.Plans.{GuidedIn}
+use Rattle.spg_core.specs.Guides.{GuidedIn}
 use Rattle.spg_core.specs.Stepping.{IsNearLimit, Grows, MakesAtMostOne}
 use Rattle.spg_core.specs.Ends.{SeatEnds, SeatThenEnds}
 use Rattle.spg_core.proofs.Growing.{grows_as}

@@ -1,11 +1,9 @@
-use Rattle.std.proofs.Common.{ℕ, ◌<◌, length, sym, subst, ◌∙◌}
+use Rattle.std.proofs.Common.{sym, ◌∙◌}
 use Rattle.std.proofs.lemmas.Bool.{false≢true}
-use Rattle.spg_core.specs.declared.plan.Plan.TheVariants.{Inner}
-use Rattle.spg_core.specs.Plans.{IsStepFor}
+use Rattle.spg_core.specs.declared.guide.Guide.TheVariants as guides
 use Rattle.spg_core.specs.Looking.{IsSpotted, StepsInsert}
 use Rattle.spg_core.proofs.Refusals.{ok_with}
-use Rattle.spg_core.proofs.Looks.{chosen_by, turn_there}
-use Rattle.spg_core.proofs.Inserts.{is_insert, plan_seen, spotted_seen, spotted_kept, may_step}
+use Rattle.spg_core.proofs.Inserts.{is_insert, guide_seen, spotted_seen, spotted_kept, may_step}
 use Rattle.spg_core.proofs.bare.Bare.insert_choose.Given.{Over}
 use Rattle.spg_core.proofs.bare.Bare.insert_choose.Goals as goal
 use Rattle.spg_core.proofs.bare.Bare.insert_choose.Goals.{Then-not-branch}
@@ -26,27 +24,10 @@ returns-then-not-branch-clause-changed g c = λ h is. no_copy g c is
 pub returns-then-not-branch-clause-clock_first : goal.returns-then-not-branch-clause-clock_first
 returns-then-not-branch-clause-clock_first g c = λ is ticks last. absurd (no_copy g c is)
 
-pub step_for-requires : goal.step_for-requires
-step_for-requires g c =
-    let m = g.O.OpClass.meaning in
-    let s = c.self.inside in
-    let d = c.descent_at-descent.result.now in
-    let can = may_step m g.O.OpClass.codes s c.self.invariant c.args.seat d c.deref.result.now c.deref.ensures.value c.descent_at-descent.ensures in
-    let (key, C) = can.of_key in
-    λ same. subst (λ (n : ℕ). n < length c.args.chosen.now.tuple.labels) (sym c.counter.ensures.value)
-    (turn_there m g.O.OpClass.matches s.table d can.shape can.stands key C c.args.chosen.now (c.in_ok-is_spotted.ensures.0 c.if-not-branch.false) c.counter.ensures.in_range same)
-
-pub apply-requires-clause-planned : goal.apply-requires-clause-planned
-apply-requires-clause-planned g c =
-    let m = g.O.OpClass.meaning in
-    let s = c.self.inside in
-    let d = c.descent_at-descent.result.now in
-    let can = may_step m g.O.OpClass.codes s c.self.invariant c.args.seat d c.deref.result.now c.deref.ensures.value c.descent_at-descent.ensures in
-    let (key, C) = can.of_key in
-    let spotted = c.in_ok-is_spotted.ensures.0 c.if-not-branch.false in
-    let step = subst (λ (n : ℕ). IsStepFor m c.args.chosen.now n c.in_ok-step.step) c.counter.ensures.value c.in_ok-step.ensures in
-    plan_seen s c.args.self.now c.self.view_is c.args.seat d c.deref.result.now c.deref.ensures.value c.descent_at-descent.ensures m (Inner c.in_ok-step.step) _
-    (spotted.0, chosen_by m g.O.OpClass.matches s.table d can.shape can.stands key C c.args.chosen.now spotted c.in_ok-step.step c.counter.ensures.in_range step)
+pub apply-requires-clause-guided : goal.apply-requires-clause-guided
+apply-requires-clause-guided g c =
+    guide_seen c.self.inside c.args.self.now c.self.view_is c.args.seat c.descent_at-descent.result.now c.deref.result.now c.deref.ensures.value c.descent_at-descent.ensures g.O.OpClass.meaning (guides.Chosen c.args.chosen)
+    (c.in_ok-is_spotted.ensures.0 c.if-not-branch.false)
 
 pub returns-clause-ok : goal.returns-clause-ok
 returns-clause-ok g c =

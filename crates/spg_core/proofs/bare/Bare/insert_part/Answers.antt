@@ -1,9 +1,9 @@
 use Rattle.std.proofs.Common.{Some, sym, ◌∙◌}
 use Rattle.std.proofs.lemmas.Bool.{false≢true}
-use Rattle.spg_core.specs.declared.plan.Plan.TheVariants.{Divide}
+use Rattle.spg_core.specs.declared.guide.Guide.TheVariants as guides
 use Rattle.spg_core.specs.Looking.{IsBunch, StepsInsert}
 use Rattle.spg_core.proofs.Refusals.{ok_with}
-use Rattle.spg_core.proofs.Inserts.{is_insert, plan_seen, bunch_seen, bunch_kept, may_step}
+use Rattle.spg_core.proofs.Inserts.{is_insert, guide_seen, bunch_seen, bunch_kept, may_step}
 use Rattle.spg_core.proofs.bare.Bare.insert_part.Given.{Over}
 use Rattle.spg_core.proofs.bare.Bare.insert_part.Goals as goal
 use Rattle.spg_core.proofs.bare.Bare.insert_part.Goals.{Then-not-branch}
@@ -24,8 +24,9 @@ returns-then-not-branch-clause-changed g c = λ h is. no_copy g c is
 pub returns-then-not-branch-clause-clock_first : goal.returns-then-not-branch-clause-clock_first
 returns-then-not-branch-clause-clock_first g c = λ is ticks last. absurd (no_copy g c is)
 
-pub apply-requires-clause-planned : goal.apply-requires-clause-planned
-apply-requires-clause-planned g c = plan_seen c.self.inside c.args.self.now c.self.view_is c.args.seat c.descent_at-descent.result.now c.deref.result.now c.deref.ensures.value c.descent_at-descent.ensures g.O.OpClass.meaning Divide (Some c.args.parted.now)
+pub apply-requires-clause-guided : goal.apply-requires-clause-guided
+apply-requires-clause-guided g c =
+    guide_seen c.self.inside c.args.self.now c.self.view_is c.args.seat c.descent_at-descent.result.now c.deref.result.now c.deref.ensures.value c.descent_at-descent.ensures g.O.OpClass.meaning (guides.Parted (Some c.args.parted))
     (c.in_ok-is_bunch.ensures.0 c.if-not-branch.false)
 
 pub returns-clause-ok : goal.returns-clause-ok

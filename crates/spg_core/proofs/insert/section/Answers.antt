@@ -1,5 +1,5 @@
 use Rattle.spg_core.proofs.Moves.{there_of}
-use Rattle.spg_core.proofs.insert.asked.Goals as goal
+use Rattle.spg_core.proofs.insert.section.Goals as goal
 
 pub rule_at-requires-clause-there : goal.rule_at-requires-clause-there
 rule_at-requires-clause-there g c = there_of g.O.OpClass.meaning c.args.table.now c.args.descent.now c.requires.can.shape c.requires.can.stands
