@@ -228,8 +228,7 @@ impl<O: OpClass> Bare<O> {
         if is_used(self.rows.state(row)) {
             return Err(OpenRefused::RowUsed);
         }
-        let descent = open_descent(row, &started)?;
-        let key = started.into_key();
+        let (key, descent) = open_descent(row, started);
         let told = copy_key::<O>(&key)?;
         let claimed = copy_key::<O>(&key)?;
         self.journal.reserve(ROOM)?;

@@ -36,12 +36,12 @@ impl<O: OpClass> Started<O> {
         self.key.as_ref()
     }
 
-    /// The key alone, without the others.
-    pub fn into_key(self) -> Option<O::Key>
-        ensures value { result ≡ self }
+    /// The key, and the rebuilt value and the rest that it has at the root.
+    pub fn into_parts(self) -> (Option<O::Key>, O::Recon, Bytes)
+        ensures parts { result ≡ (self, O.meaning.start, first_rest O.meaning self) }
         ensures known { IsKeyOrNull O.meaning self }
     {
-        self.key
+        (self.key, self.recon, self.rest)
     }
 
     /// The rebuilt value at the root of the main tree.

@@ -105,7 +105,7 @@ pub(crate) fn at_root<O: OpClass>(
     ensures opened { IfOk result (λ d. (in_nulls d ≡ in_nulls (opened_for O.meaning row key)) × (d.recon ≡ (opened_for O.meaning row key).recon)) }
 {
     let started = start_at(alloc, class, key)?;
-    let mut descent = open_descent(row, &started)?;
+    let (_, mut descent) = open_descent(row, started);
     match enter_root(table, &mut descent, SeatNo::first()) {
         Entered::In => Ok(descent),
         Entered::Busy { .. } => Err(Memory),
