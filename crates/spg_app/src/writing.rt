@@ -12,6 +12,7 @@ use spg_script::Spoken;
 use std::alloc::Global;
 
 /// Writes a line with its end.
+#[inline(always)]
 pub fn write_line<K: Sink>(line: &mut Line, sink: &mut K) -> Result<(), IoRefused>
     ensures ok { OnOk result (Appends (K.contents sink.old) (K.contents sink.new) (line.old ++ 10 ∷ [])) }
     ensures err { OnErr result (WroteSome (K.contents sink.old) (K.contents sink.new) (line.old ++ 10 ∷ [])) }

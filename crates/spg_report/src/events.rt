@@ -64,6 +64,7 @@ fn push_key<O: Spoken>(
 }
 
 /// Adds a word and a row.
+#[inline(always)]
 fn push_on_row(line: &mut Line, word: &[u8], row: Row) -> Result<(), Memory>
     ensures { OnOk result (line.new ≡ line.old ++ (word.now ++ row_text row)) }
 {
