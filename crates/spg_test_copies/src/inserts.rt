@@ -51,7 +51,7 @@ fn an_insert_starts_with_the_whole_key(rt: HostRuntime) -> Result<(), Fail> {
     let started = start_at(alloc, &Quad, Some(p))?;
     assert!(rt; started.rest().same(&encode(alloc, p)?));
     assert!(rt; started.key().is_some() && started.recon().same(&QuadRecon));
-    let kept = started.into_key();
+    let (kept, _, _) = started.into_parts();
     assert!(rt; kept.is_some());
     let null = start_at(alloc, &Quad, None)?;
     assert!(rt; null.rest().is_empty() && null.key().is_none());

@@ -4,6 +4,8 @@
 #[cfg(test)]
 mod calls;
 #[cfg(test)]
+mod in_place;
+#[cfg(test)]
 mod lane;
 #[cfg(test)]
 mod outside;
