@@ -45,7 +45,7 @@ returns-then-is_used-clause-row_used g c =
 
 pub returns-in_err-told-clause-row_used : goal.returns-in_err-told-clause-row_used
 returns-in_err-told-clause-row_used g c =
-    let refused = err_from_is_err_and c.from_residual-in_err-told.result c.from_residual-in_err-told.ensures.1 in
+    let refused = err_from_is_err_and c.from_residual.result c.from_residual.ensures.1 in
     (λ h. absurd (cc (refused.1, refused.2, h)), λ h. absurd (unused g ((goal.at.returns-in_err-told-clause-row_used g c).After-is_used) c.if-is_used.false h))
 
 pub returns-in_err-claimed-clause-row_used : goal.returns-in_err-claimed-clause-row_used
@@ -88,18 +88,18 @@ invariant_of-self-2 g c =
     let I = c.self.invariant in
     let seat = c.args.seat in
     let row = c.args.row in
-    let key = c.open_descent.result.0 in
-    let ek : c.args.started ≡ key = sym c.open_descent.ensures.key in
-    let ed : c.open_descent.result.1 ≡ opened_for m row key = c.open_descent.ensures.at_start ∙ ap (opened_for m row) ek in
-    let slot = Insert key c.open_descent.result.1 in
+    let key = c.open_descent-key.result.0 in
+    let ek : c.args.started ≡ key = sym c.open_descent-key.ensures.key in
+    let ed : c.open_descent-key.result.1 ≡ opened_for m row key = c.open_descent-key.ensures.at_start ∙ ap (opened_for m row) ek in
+    let slot = Insert key c.open_descent-key.result.1 in
     let events = c.append.ensures.events ∙ ap (λ j. j ++ OpenInsert seat row c.in_ok-told.told ∷ []) c.reserve.ensures.events ∙ ap (λ k. s.journal.events ++ OpenInsert seat row k ∷ []) c.in_ok-told.ensures in
     let was : stage_of (get_or s.slots.items seat Free) ≡ stages.free = sym (stage_is s c.args.self.now c.self.view_is seat) ∙ c.requires.free in
     let free = unclaimed g ((goal.at.invariant_of-self-2 g c).After-is_used) c.if-is_used.false in
     let keys = subst (λ k. SetsKey s.rows c.claim.new.self row (Some k)) c.in_ok-claimed.ensures c.in_ok-claim.ensures.key in
-    let carries : CarriesNew m c.open_descent.result.1 key = subst (λ (k : Option _). CarriesNew m c.open_descent.result.1 k) ek c.open_descent.ensures.carries in
+    let carries : CarriesNew m c.open_descent-key.result.1 key = subst (λ (k : Option _). CarriesNew m c.open_descent-key.result.1 k) ek c.open_descent-key.ensures.carries in
     let room = room_for_all m s I seat c.set_slot.new.slots.items c.reserve.new.self.spare c.append.new.self.spare slot c.set_slot.ensures.items c.in_ok-reserve.ensures.ok c.append.ensures.spare in
     subst (λ (t : Table). IsState m (with_fields m s t c.claim.new.self c.set_slot.new.slots c.append.new.self)) (sym (c.set_touched.ensures ∙ ap (λ ts. with_touched s.table ts) c.new.ensures))
-    (insert_opens m s I seat row key c.open_descent.result.1 c.claim.new.self c.set_slot.new.slots c.append.new.self ed carries free was c.set_slot.ensures.in_range c.set_slot.ensures.items events c.in_ok-claim.ensures.state keys room)
+    (insert_opens m s I seat row key c.open_descent-key.result.1 c.claim.new.self c.set_slot.new.slots c.append.new.self ed carries free was c.set_slot.ensures.in_range c.set_slot.ensures.items events c.in_ok-claim.ensures.state keys room)
 
 pub returns-clause-ok : goal.returns-clause-ok
 returns-clause-ok g c =
@@ -108,10 +108,10 @@ returns-clause-ok g c =
     let seen = c.args.self.now in
     let seat = c.args.seat in
     let row = c.args.row in
-    let key = c.open_descent.result.0 in
-    let ek : c.args.started ≡ key = sym c.open_descent.ensures.key in
-    let ed : c.open_descent.result.1 ≡ opened_for m row key = c.open_descent.ensures.at_start ∙ ap (opened_for m row) ek in
-    let slot = Insert key c.open_descent.result.1 in
+    let key = c.open_descent-key.result.0 in
+    let ek : c.args.started ≡ key = sym c.open_descent-key.ensures.key in
+    let ed : c.open_descent-key.result.1 ≡ opened_for m row key = c.open_descent-key.ensures.at_start ∙ ap (opened_for m row) ek in
+    let slot = Insert key c.open_descent-key.result.1 in
     let events = c.append.ensures.events ∙ ap (λ j. j ++ OpenInsert seat row c.in_ok-told.told ∷ []) c.reserve.ensures.events ∙ ap (λ k. s.journal.events ++ OpenInsert seat row k ∷ []) c.in_ok-told.ensures in
     let low : seat < 64 = c.set_slot.ensures.in_range in
     let table : c.set_touched.new.self ≡ untouched seen.table = c.set_touched.ensures ∙ ap (λ ts. with_touched s.table ts) c.new.ensures ∙ ap untouched (sym (table_is s seen c.self.view_is 0)) in (
