@@ -40,6 +40,7 @@ impl Few {
     }
 
     /// These bytes.
+    #[inline(always)]
     pub(crate) fn of(alloc: Global, bytes: &[u8]) -> Few
         requires { length bytes.now ≤ 28 }
         ensures { result ≡ bytes.now }
@@ -83,6 +84,7 @@ impl Few {
     }
 
     /// Adds as many bytes as the rest of a point has at the end, by one move.
+    #[inline(always)]
     fn extend_by_point(&mut self, bytes: &[u8])
         requires point { length bytes.now ≡ 8 }
         requires room { length self.old ≤ 20 }
