@@ -6,6 +6,9 @@ use std::marker::Model;
 /// How many bytes have room in place.
 pub(crate) const FEW: usize = 28;
 
+/// How many bytes the rest of a point has.
+const POINT: usize = 8;
+
 /// At most 28 bytes: the first `len` of an array.
 #[derive(Debug, Drop)]
 pub(crate) struct Few {
@@ -36,6 +39,21 @@ impl Few {
         }
     }
 
+    /// These bytes.
+    #[inline(always)]
+    pub(crate) fn of(alloc: Global, bytes: &[u8]) -> Few
+        requires { length bytes.now ≤ 28 }
+        ensures { result ≡ bytes.now }
+    {
+        let mut few = Few::new(alloc);
+        if bytes.len() == POINT {
+            few.extend_by_point(bytes);
+        } else {
+            few.extend(bytes);
+        }
+        few
+    }
+
     /// The allocator of the list that these bytes are.
     pub(crate) fn allocator(&self) -> Global {
         self.alloc
@@ -63,6 +81,18 @@ impl Few {
     {
         self.bytes[self.len as usize] = byte;
         self.len += 1;
+    }
+
+    /// Adds as many bytes as the rest of a point has at the end, by one move.
+    #[inline(always)]
+    fn extend_by_point(&mut self, bytes: &[u8])
+        requires point { length bytes.now ≡ 8 }
+        requires room { length self.old ≤ 20 }
+        ensures { self.new ≡ self.old ++ bytes.now }
+    {
+        let end = self.len as usize;
+        self.bytes[end..end + POINT].copy_from_slice(bytes);
+        self.len += POINT as u8;
     }
 
     /// Adds bytes at the end.
