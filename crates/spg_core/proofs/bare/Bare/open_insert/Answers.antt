@@ -1,4 +1,4 @@
-use Rattle.std.proofs.Common.{rules, Bool, true, false, Option, ◌<◌, ◌≡◌, ◌++◌, ◌∷◌, [], Some, reverse, refl, sym, ap, ◌∙◌, subst, get_or, map}
+use Rattle.std.proofs.Common.{Bool, true, false, Option, ◌<◌, ◌≡◌, ◌++◌, ◌∷◌, [], Some, reverse, refl, sym, ap, ◌∙◌, subst, get_or, map}
 use Rattle.std.proofs.lemmas.Bool.{false≢true}
 use Rattle.std.proofs.lemmas.Result.{err_from_is_err_and}
 use Rattle.spg_rows.specs.declared.event.Event.TheVariants.{OpenInsert}

@@ -1,4 +1,4 @@
-use Rattle.std.proofs.Common.{rules, ◌≡◌, ◌↔◌, ℕ, Some, IsErrOf, sym, ◌∙◌, subst}
+use Rattle.std.proofs.Common.{rules, ◌≡◌, ◌↔◌, Some, IsErrOf, sym, subst}
 use Rattle.spg_rows.specs.Rows.{held_by}
 use Rattle.spg_core.specs.declared.answer.OpenRefused.TheVariants as refused
 use Rattle.spg_core.specs.Seen.{Seen, past_of}
