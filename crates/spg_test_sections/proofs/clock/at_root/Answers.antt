@@ -13,12 +13,12 @@ pub returns-in-In-clause-carries : goal.returns-in-In-clause-carries
 returns-in-In-clause-carries g c =
     let m = g.O.OpClass.meaning in
     let t = c.args.table.now in
-    let d = c.open_descent.result.1 in
+    let d = c.open_descent-descent.result.1 in
     let row = c.args.row in
     let key = c.args.key in
     let ek : c.in_ok-started.started ≡ key = c.in_ok-started.ensures in
     let (unheld, et, ed) = c.in-In.ensures.entered in
-    let er : d.row ≡ row = ap (λ (z : Descending _). z.row) c.open_descent.ensures.at_start ∙ opened_row m row c.in_ok-started.started in
+    let er : d.row ≡ row = ap (λ (z : Descending _). z.row) c.open_descent-descent.ensures.at_start ∙ opened_row m row c.in_ok-started.started in
     let fresh : IsFresh (spots (sheets_of t)) d.row = subst (λ (r : RowAt). IsFresh (spots (sheets_of t)) r) (sym er) c.requires.fresh in
-    let at = c.in-In.ensures.carries (sheets_of t) key (subst (λ (k : Option _). IsCarried m (sheets_of t) d k) ek (c.open_descent.ensures.carries (sheets_of t) fresh)) in
+    let at = c.in-In.ensures.carries (sheets_of t) key (subst (λ (k : Option _). IsCarried m (sheets_of t) d k) ek (c.open_descent-descent.ensures.carries (sheets_of t) fresh)) in
     subst (λ (S : Sheets). IsCarried m S c.enter_root.new.descent key) (sym (ap sheets_of et)) (subst (λ (z : Descending _). IsCarried m (sheets_of t) z key) (sym ed) at)
