@@ -19,7 +19,12 @@ PROGRAM = "spg_main"
 KEPT_SECONDS = 5
 # Seconds that each crate took in a first run on four processors that did nothing else. What is left is reckoned by them.
 SECONDS = {
-    "spg_base": 75,
+    "spg_base": 31, "spg_io": 28, "spg_sort": 8, "spg_opclass": 50, "spg_points": 20, "spg_quad": 20,
+    "spg_kd": 30, "spg_radix": 64, "spg_rows": 62, "spg_calls": 8, "spg_forest": 14, "spg_cover": 10,
+    "spg_page": 45, "spg_tree": 38, "spg_chain": 26, "spg_descend": 37, "spg_split": 77, "spg_move": 40,
+    "spg_vacuum": 28, "spg_scan": 94, "spg_seats": 10, "spg_core": 220, "spg_image": 19, "spg_turn": 24,
+    "spg_desk": 130, "spg_script": 64, "spg_report": 20, "spg_histories": 10, "spg_perform": 212,
+    "spg_app": 165, "spg_main": 153,
 }
 # A crate that was not measured.
 OTHER_SECONDS = 60
