@@ -1,16 +1,11 @@
 -- Commands, lanes and blocks, one after another.
-use Rattle.std.proofs.Common.{◌≡◌, ◌≤◌, ◌+◌, ℕ, Bool, not, List, [], ◌∷◌, ◌++◌, length, take, Option, sym, subst}
+use Rattle.std.proofs.Common.{◌≡◌, ◌≤◌, ◌+◌, ℕ, not, List, ◌++◌, length, take, sym, subst}
 use Rattle.std.proofs.lemmas.List.{append_assoc, take_all}
 use Rattle.spg_opclass.specs.Meaning.{Meaning}
-use Rattle.spg_io.specs.Held.{Holding}
-use Rattle.spg_core.specs.Seen.{Seen}
-use Rattle.spg_script.specs.declared.command.Command.{Command}
 use Rattle.spg_script.specs.Blocks.{Part}
 use Rattle.spg_script.specs.Speech.{Speech}
-use Rattle.spg_report.specs.declared.record.Record.{Record}
-use Rattle.spg_histories.specs.Tasks.{Task, lane_tasks, lanes_tasks, parts_tasks}
-use Rattle.spg_perform.specs.Session.{Session, Standing, standing, LeadsOn}
-use Rattle.spg_perform.specs.Acted.{task_of}
+use Rattle.spg_histories.specs.Tasks.{Task, lanes_tasks, parts_tasks}
+use Rattle.spg_perform.specs.Session.{Session, Standing, LeadsOn}
 use Rattle.spg_perform.proofs.BlocksTasks.{IsNext, parts_next}
 
 module _ {O Key Recon Cond : Type 0} (m : Meaning Key Recon Cond) (speech : Speech Key Cond) (code : ℕ) where

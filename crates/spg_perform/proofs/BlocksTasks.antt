@@ -1,12 +1,11 @@
 -- The commands of lanes and of blocks, one lane or one block more.
-use Rattle.std.proofs.Common.{◌≡◌, ◌<◌, ◌+◌, ℕ, suc, Bool, true, not, List, [], ◌∷◌, ◌++◌, length, take, drop, get_or, refl, sym, ap, ◌∙◌, arith, length-append}
-use Rattle.std.proofs.lemmas.List.{append_assoc, append-nil, length-take-le, take_more, at_drop_more}
+use Rattle.std.proofs.Common.{◌≡◌, ◌<◌, ◌+◌, ℕ, true, not, List, [], ◌∷◌, ◌++◌, length, take, drop, get_or, sym, ap, ◌∙◌, arith, length-append}
+use Rattle.std.proofs.lemmas.List.{length-take-le, take_more, at_drop_more}
 use Rattle.spg_script.specs.declared.command.Command.{Command}
 use Rattle.spg_script.specs.Blocks.{Part}
-use Rattle.spg_histories.specs.Tasks.{Task, lane_tasks, lanes_tasks, parts_tasks}
+use Rattle.spg_histories.specs.Tasks.{lane_tasks, lanes_tasks, parts_tasks}
 use Rattle.spg_histories.proofs.Calls.{calls_compose}
-use Rattle.spg_perform.specs.Acted.{task_of}
-use Rattle.spg_perform.proofs.Tasks.{lane_more, lanes_more, lane_length, lanes_length, parts_length}
+use Rattle.spg_perform.proofs.Tasks.{lane_length, lanes_length, parts_length}
 
 -- the item at an index
 pub record IsNext {X : Type 0} (xs : List X) (i : ℕ) (x : X) : Type 0 where
