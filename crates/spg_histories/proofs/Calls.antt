@@ -7,7 +7,7 @@ use Rattle.spg_calls.specs.Calls.{GrewTo}
 use Rattle.spg_calls.proofs.Journals.{past_at-grows}
 use Rattle.spg_calls.proofs.Calls.{own_drop, long_grew, grew_on, between_grew, up_to_grew, by_grew}
 use Rattle.spg_script.specs.declared.command.Command.{Command}
-use Rattle.spg_script.specs.declared.part.Part.{Part}
+use Rattle.spg_script.specs.Blocks.{Part}
 use Rattle.spg_script.specs.Speech.{Speech}
 use Rattle.spg_report.specs.declared.record.Record.{Record}
 use Rattle.spg_histories.specs.Tasks.{Task, lane_tasks, lanes_tasks, parts_tasks}

@@ -14,6 +14,7 @@ use Rattle.spg_script.specs.declared.any_key.AnyKey.{AnyKey}
 use Rattle.spg_script.specs.declared.any_query.AnyQuery.{AnyQuery}
 use Rattle.spg_script.specs.declared.command.Command.{Command}
 use Rattle.spg_script.specs.declared.command.Command.TheVariants as asked
+use Rattle.spg_script.specs.Blocks.{Part}
 use Rattle.spg_script.specs.Speech.{Speech, SpeaksAsPrinted}
 use Rattle.spg_script.specs.Laws.{IsCommand, IsKeyOrNull, IsQuery}
 use Rattle.spg_report.specs.declared.outcome.Outcome.{Outcome}
@@ -22,7 +23,6 @@ use Rattle.spg_report.specs.declared.record.Record.{Record}
 use Rattle.spg_report.specs.Text.{text}
 use Rattle.spg_report.specs.Told.{told, IsNamed, CanBePrinted}
 use Rattle.spg_report.proofs.Wholes.{text_tells}
-use Rattle.spg_script.specs.declared.part.Part.{Part}
 use Rattle.spg_script.specs.Line.{has_texts}
 use Rattle.spg_script.specs.Script.{AreCommands}
 use Rattle.spg_script.proofs.Tidy.{script_tidy}

@@ -3,7 +3,7 @@ use Rattle.std.specs.Prelude.{◌≡◌, ◌+◌, ◌++◌, ℕ, Bool, not, List
 use Rattle.spg_rows.specs.declared.event.Event.{Event}
 use Rattle.spg_calls.specs.Calls.{Watched, Called}
 use Rattle.spg_script.specs.declared.command.Command.{Command}
-use Rattle.spg_script.specs.declared.part.Part.{Part}
+use Rattle.spg_script.specs.Blocks.{Part}
 use Rattle.spg_script.specs.Speech.{Speech}
 use Rattle.spg_report.specs.declared.record.Record.{Record}
 use Rattle.spg_histories.specs.Tasks.{Task, lane_tasks, lanes_tasks, parts_tasks}

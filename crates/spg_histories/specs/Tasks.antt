@@ -1,8 +1,7 @@
 -- The commands of a script in the order of their numbers, each with its block and its seat.
 use Rattle.std.specs.Prelude.{ℕ, ◌+◌, Bool, not, List, [], ◌∷◌, ◌++◌}
 use Rattle.spg_script.specs.declared.command.Command.{Command}
-use Rattle.spg_script.specs.declared.part.Part.{Part}
-use Rattle.spg_script.specs.Blocks.{Script}
+use Rattle.spg_script.specs.Blocks.{Part, Script}
 
 -- a command of a script: the number of its block, its seat, and whether it stands outside lanes
 pub record Task : Type 0 where

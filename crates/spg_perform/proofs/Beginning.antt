@@ -10,8 +10,7 @@ use Rattle.spg_tree.specs.Table.{sheets_of}
 use Rattle.spg_core.specs.Seen.{Seen, past_of}
 use Rattle.spg_script.specs.declared.command.Command.{Command}
 use Rattle.spg_script.specs.declared.command.Command.TheVariants.{Insert, Delete, Find, Vacuum, Save, Stat}
-use Rattle.spg_script.specs.declared.part.Part.{Part}
-use Rattle.spg_script.specs.Blocks.{Script}
+use Rattle.spg_script.specs.Blocks.{Part, Script}
 use Rattle.spg_script.specs.Laws.{IsCommand}
 use Rattle.spg_script.specs.Line.{has_texts}
 use Rattle.spg_script.specs.Script.{IsLaneCommand, IsBlock, IsPart, AreCommands, IsTidy, IsWritten}

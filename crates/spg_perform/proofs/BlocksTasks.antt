@@ -1,12 +1,11 @@
 -- The commands of lanes and of blocks, one lane or one block more.
-use Rattle.std.proofs.Common.{◌≡◌, ◌<◌, ◌+◌, ℕ, suc, Bool, true, not, List, [], ◌∷◌, ◌++◌, length, take, drop, get_or, refl, sym, ap, ◌∙◌, arith, length-append}
-use Rattle.std.proofs.lemmas.List.{append_assoc, append-nil, length-take-le, take_more, at_drop_more}
+use Rattle.std.proofs.Common.{◌≡◌, ◌<◌, ◌+◌, ℕ, true, not, List, [], ◌∷◌, ◌++◌, length, take, drop, get_or, sym, ap, ◌∙◌, arith, length-append}
+use Rattle.std.proofs.lemmas.List.{length-take-le, take_more, at_drop_more}
 use Rattle.spg_script.specs.declared.command.Command.{Command}
-use Rattle.spg_script.specs.declared.part.Part.{Part}
-use Rattle.spg_histories.specs.Tasks.{Task, lane_tasks, lanes_tasks, parts_tasks}
+use Rattle.spg_script.specs.Blocks.{Part}
+use Rattle.spg_histories.specs.Tasks.{lane_tasks, lanes_tasks, parts_tasks}
 use Rattle.spg_histories.proofs.Calls.{calls_compose}
-use Rattle.spg_perform.specs.Acted.{task_of}
-use Rattle.spg_perform.proofs.Tasks.{lane_more, lanes_more, lane_length, lanes_length, parts_length}
+use Rattle.spg_perform.proofs.Tasks.{lane_length, lanes_length, parts_length}
 
 -- the item at an index
 pub record IsNext {X : Type 0} (xs : List X) (i : ℕ) (x : X) : Type 0 where
@@ -14,23 +13,10 @@ pub record IsNext {X : Type 0} (xs : List X) (i : ℕ) (x : X) : Type 0 where
   pub here : x ≡ get_or xs i x
 
 module _ {X : Type 0} where
-  pub next_in : (xs ys : List X) (i : ℕ) (x : X) → xs ≡ ys → i < length xs → x ≡ get_or xs i x → IsNext ys i x
-  next_in xs ys i x same within here = record { within = omega (arith, ap length same); here = here ∙ ap (λ (l : List X). get_or l i x) same }
-
   pub up_to_next : (xs : List X) (i : ℕ) (x : X) → IsNext xs i x → take (i + 1) xs ≡ take i xs ++ x ∷ []
   up_to_next xs i x next = take_more xs i x next.within ∙ ap (λ (y : X). take i xs ++ y ∷ []) (sym next.here)
 
 -- ---- in order
-
-pub lane_next : (block seat : ℕ) (alone : Bool) (commands : List Command) (i : ℕ) (c : Command) → IsNext commands i c
-    → lane_tasks block seat alone (take (i + 1) commands) ≡ lane_tasks block seat alone (take i commands) ++ task_of block seat alone c ∷ []
-lane_next block seat alone commands i c next = ap (lane_tasks block seat alone) (up_to_next commands i c next) ∙ lane_more block seat alone (take i commands) c
-
-pub lanes_next : (block : ℕ) (alone : Bool) (lanes : List (List Command)) (i : ℕ) (lane : List Command) → IsNext lanes i lane
-    → lanes_tasks block 0 alone (take (i + 1) lanes) ≡ lanes_tasks block 0 alone (take i lanes) ++ lane_tasks block i alone lane
-lanes_next block alone lanes i lane next =
-    let seat : 0 + length (take i lanes) ≡ i = omega (arith, length-take-le i lanes (omega (arith, next.within))) in
-    ap (lanes_tasks block 0 alone) (up_to_next lanes i lane next) ∙ lanes_more block 0 alone (take i lanes) lane ∙ ap (λ (n : ℕ). lanes_tasks block 0 alone (take i lanes) ++ lane_tasks block n alone lane) seat
 
 pub parts_next : (parts : List Part) (i : ℕ) (p : Part) → IsNext parts i p → parts_tasks 0 (take (i + 1) parts) ≡ parts_tasks 0 (take i parts) ++ lanes_tasks i 0 (not p.together) p.lanes
 parts_next parts i p next =

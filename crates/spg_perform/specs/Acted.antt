@@ -7,7 +7,7 @@ use Rattle.spg_core.specs.Stage.{free}
 use Rattle.spg_core.specs.Seen.{Seen, stage_at, past_of}
 use Rattle.spg_script.specs.declared.command.Command.{Command}
 use Rattle.spg_script.specs.declared.command.Command.TheVariants.{Insert, Delete, Find, Vacuum, Save, Stat}
-use Rattle.spg_script.specs.declared.part.Part.{Part}
+use Rattle.spg_script.specs.Blocks.{Part}
 use Rattle.spg_script.specs.Line.{is_name}
 use Rattle.spg_script.specs.Script.{IsLaneCommand}
 use Rattle.spg_script.specs.Speech.{Speech, IsKnown}

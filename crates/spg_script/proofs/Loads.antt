@@ -20,14 +20,13 @@ use Rattle.spg_script.specs.declared.command.Command.{Command}
 use Rattle.spg_script.specs.declared.command.Command.TheVariants.{Insert, Delete, Find, Vacuum}
 use Rattle.spg_script.specs.declared.any_query.AnyQuery.{AnyQuery}
 use Rattle.spg_script.specs.declared.any_query.AnyQuery.TheVariants.{All}
-use Rattle.spg_script.specs.declared.part.Part.{Part}
+use Rattle.spg_script.specs.Blocks.{Part, alone_part, block_part}
 use Rattle.spg_script.specs.Quoted.{is_plain, hex_digit, byte_text, quoted}
 use Rattle.spg_script.specs.Spelling.{class_text, IsRow, IsPoint}
 use Rattle.spg_script.specs.Line.{has_texts}
 use Rattle.spg_script.specs.Laws.{IsAnyKey, IsCommand}
 use Rattle.spg_script.specs.Speech.{any_key_text}
 use Rattle.spg_script.specs.Script.{Saying, block_ends, says, lane_sayings, sayings, saying_text, command_text, printed, IsLaneCommand, IsTidy, IsWritten}
-use Rattle.spg_script.specs.Reader.{alone_part, block_part}
 use Rattle.spg_script.specs.Generated.{load_x, load_y, three_digits, address, load_key, load_row, changes, numbers_of, load_lane, watching_lane, load_lanes, first_query, second_query, load_parts}
 use Rattle.spg_script.proofs.Tidy.{AreBytes, are_bytes, bytes_are}
 use Rattle.spg_script.proofs.Scripts.{exact}
@@ -72,12 +71,13 @@ unfolding load_lanes
 lanes_all class count seed lanes l made longer lane all so_far watches pushed =
     pushed ∙ ap (λ (m : List (List Command)). m ++ lane ∷ []) (so_far ∙ ap (λ n. map (load_lane class count seed lanes) (range_with_len 0 n)) all) ∙ ap (λ (x : List Command). map (load_lane class count seed lanes) (range_with_len 0 lanes) ++ x ∷ []) watches
 
-pub parts_are : (class : ClassName) (count seed lanes : ℕ) (made : List (List Command)) (first second : AnyQuery) (a b d e : Part) → made ≡ load_lanes class count seed lanes → first ≡ first_query class → second ≡ second_query class
-    → a ≡ alone_part Vacuum → b ≡ alone_part (Find All) → d ≡ alone_part (Find first) → e ≡ alone_part (Find second) → block_part made ∷ a ∷ b ∷ d ∷ e ∷ [] ≡ load_parts class count seed lanes
-parts_are class count seed lanes made first second a b d e lanes_are first_is second_is a_is b_is d_is e_is =
+pub parts_are : (class : ClassName) (count seed lanes : ℕ) (made : List (List Command)) (first second : AnyQuery) (load a b d e : Part) → made ≡ load_lanes class count seed lanes → first ≡ first_query class → second ≡ second_query class
+    → load ≡ block_part made → a ≡ alone_part Vacuum → b ≡ alone_part (Find All) → d ≡ alone_part (Find first) → e ≡ alone_part (Find second) → load ∷ a ∷ b ∷ d ∷ e ∷ [] ≡ load_parts class count seed lanes
+parts_are class count seed lanes made first second load a b d e lanes_are first_is second_is load_is a_is b_is d_is e_is =
+    let load_all : load ≡ block_part (load_lanes class count seed lanes) = load_is ∙ ap block_part lanes_are in
     let d_all : d ≡ alone_part (Find (first_query class)) = d_is ∙ ap (λ (q : AnyQuery). alone_part (Find q)) first_is in
     let e_all : e ≡ alone_part (Find (second_query class)) = e_is ∙ ap (λ (q : AnyQuery). alone_part (Find q)) second_is in
-    rw (lanes_are, a_is, b_is, d_all, e_all) refl
+    rw (load_all, a_is, b_is, d_all, e_all) refl
 
 -- ---- lines of bytes, of a bounded length
 

@@ -6,12 +6,11 @@ use Rattle.std.proofs.lemmas.List.{append_assoc, take_at, take_all}
 use Rattle.spg_script.specs.declared.class_name.ClassName.{ClassName}
 use Rattle.spg_script.specs.declared.class_name.ClassName.TheVariants.{Quad}
 use Rattle.spg_script.specs.declared.command.Command.{Command}
-use Rattle.spg_script.specs.declared.part.Part.{Part}
-use Rattle.spg_script.specs.Blocks.{Script}
+use Rattle.spg_script.specs.Blocks.{Part, alone_part, block_part, Script}
 use Rattle.spg_script.specs.Spelling.{class_text}
 use Rattle.spg_script.specs.Line.{has_texts, SpellsCommand}
 use Rattle.spg_script.specs.Script.{lines_of, says_something, Saying, block_opens, lane_opens, block_ends, says, lane_sayings, block_sayings, sayings, IsLaneCommand, IsBlock, IsPart, Spells, AreSpoken, IsScript, CanGoOn, IsFirstBad}
-use Rattle.spg_script.specs.Reader.{Place, at_start, between, inside, SaysFrom, LeadTo, Refuses, IsEnd, script_at, ReadersFind, alone_part, block_part, ReadersGoOn}
+use Rattle.spg_script.specs.Reader.{Place, at_start, between, inside, SaysFrom, LeadTo, Refuses, IsEnd, script_at, ReadersFind, ReadersGoOn}
 use Rattle.spg_script.proofs.Scripts.{same_class, one_saying, one_list, first_two, IsNoCommand, lanes_no, same_block, block_says, same_command, starts_no}
 
 -- ---- lines that say something

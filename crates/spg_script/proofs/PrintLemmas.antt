@@ -4,8 +4,7 @@ use Rattle.std.specs.Prelude.{codes}
 use Rattle.std.specs.List.{flat_map}
 use Rattle.std.proofs.lemmas.List.{append_assoc}
 use Rattle.spg_script.specs.declared.command.Command.{Command}
-use Rattle.spg_script.specs.declared.part.Part.{Part}
-use Rattle.spg_script.specs.Blocks.{Script}
+use Rattle.spg_script.specs.Blocks.{Part, Script}
 use Rattle.spg_script.specs.Spelling.{class_text}
 use Rattle.spg_script.specs.Quoted.{is_plain, hex_digit, byte_text}
 use Rattle.spg_script.specs.Script.{Saying, says, block_ends, lane_sayings, block_sayings, sayings, saying_text, command_text, printed, IsScript, IsWritten}

@@ -5,14 +5,13 @@ use Rattle.std.proofs.lemmas.List.{append_assoc}
 use Rattle.spg_radix.specs.Texts.{is_bytes}
 use Rattle.spg_script.specs.declared.class_name.ClassName.{ClassName}
 use Rattle.spg_script.specs.declared.command.Command.{Command}
-use Rattle.spg_script.specs.declared.part.Part.{Part}
 use Rattle.spg_script.specs.declared.open_block.OpenBlock.{OpenBlock}
 use Rattle.spg_script.specs.declared.open_block.OpenBlock.TheVariants.{Empty, InLane}
 use Rattle.spg_script.specs.declared.refused.ScriptRefused.TheVariants.{BadLine}
-use Rattle.spg_script.specs.Blocks.{Script}
+use Rattle.spg_script.specs.Blocks.{Part, alone_part, block_part, Script}
 use Rattle.spg_script.specs.Line.{has_texts, SpellsCommand}
 use Rattle.spg_script.specs.Script.{lines_of, says_something, IsLaneCommand, IsScript, IsFirstBad, IsWritten}
-use Rattle.spg_script.specs.Reader.{Place, at_start, between, inside, LeadTo, Refuses, IsEnd, script_at, alone_part, block_part}
+use Rattle.spg_script.specs.Reader.{Place, at_start, between, inside, LeadTo, Refuses, IsEnd, script_at}
 use Rattle.spg_script.specs.Steps.{lanes_of, place_at, Steps, GoesOn}
 use Rattle.spg_script.specs.Refusal.{IsCause}
 use Rattle.spg_script.proofs.Places.{find, go_on}
@@ -101,10 +100,10 @@ lane_begins class parts lanes ended lane same empty few =
     let all : ended ++ lane ∷ [] ≡ lanes ++ [] ∷ [] = ap (λ (l : List Command). ended ++ l ∷ []) empty ∙ ap (λ l. l ++ [] ∷ []) same in
     λ spoken lead. subst (λ (l : List (List Command)). LeadTo (inside class parts l) (spoken ++ codes "lane" ∷ [])) (sym all) (go_on.lane class parts lanes spoken lead (subst (λ (l : List (List Command)). length l < 32) same few))
 
-pub block_ends_here : (class : ClassName) (parts longer : List Part) (block : Option OpenBlock) (lanes ended : List (List Command)) → ended ≡ lanes → 1 ≤ length ended → longer ≡ parts ++ block_part ended ∷ [] → block ≡ None
+pub block_ends_here : (class : ClassName) (parts longer : List Part) (block : Option OpenBlock) (lanes ended : List (List Command)) (part : Part) → ended ≡ lanes → 1 ≤ length ended → part ≡ block_part ended → longer ≡ parts ++ part ∷ [] → block ≡ None
     → Steps (inside class parts lanes) (codes "end") true (place_at class longer block)
-block_ends_here class parts longer block lanes ended same some pushed none =
-    let all : longer ≡ parts ++ block_part lanes ∷ [] = pushed ∙ ap (λ (l : List (List Command)). parts ++ block_part l ∷ []) same in
+block_ends_here class parts longer block lanes ended part same some is pushed none =
+    let all : longer ≡ parts ++ block_part lanes ∷ [] = pushed ∙ ap (λ (p : Part). parts ++ p ∷ []) (is ∙ ap block_part same) in
     λ spoken lead. subst (λ (p : Place). LeadTo p (spoken ++ codes "end" ∷ [])) (sym (no_block class longer block none ∙ ap (between class) all)) (go_on.ends class parts lanes spoken lead (subst (λ (l : List (List Command)). 1 ≤ length l) same some))
 
 pub command_in_lane : (class : ClassName) (parts : List Part) (ended : List (List Command)) (block : OpenBlock) (lane longer : List Command) (c : Command) (line : List ℕ) → block ≡ InLane ended lane → longer ≡ lane ++ c ∷ [] → IsLaneCommand c → SpellsCommand (has_texts class) c line

@@ -13,8 +13,7 @@ use Rattle.spg_script.specs.declared.class_name.ClassName.{ClassName}
 use Rattle.spg_script.specs.declared.class_name.ClassName.TheVariants.{Quad, Kd, Radix}
 use Rattle.spg_script.specs.declared.command.Command.{Command}
 use Rattle.spg_script.specs.declared.command.Command.TheVariants.{Insert, Delete, Find, Vacuum, Save, Stat}
-use Rattle.spg_script.specs.declared.part.Part.{Part}
-use Rattle.spg_script.specs.Blocks.{Script}
+use Rattle.spg_script.specs.Blocks.{Part, Script}
 use Rattle.spg_script.specs.Spelling.{class_text, IsRow}
 use Rattle.spg_script.specs.Line.{has_texts, is_first_of_name, is_in_name, is_name, SpellsCommand}
 use Rattle.spg_script.specs.Reading.{len_before, command_of}

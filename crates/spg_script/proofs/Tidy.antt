@@ -14,8 +14,7 @@ use Rattle.spg_script.specs.declared.any_query.AnyQuery.{AnyQuery}
 use Rattle.spg_script.specs.declared.any_query.AnyQuery.TheVariants.{All, Null, Where}
 use Rattle.spg_script.specs.declared.command.Command.{Command}
 use Rattle.spg_script.specs.declared.command.Command.TheVariants.{Insert, Delete, Find, Vacuum, Save, Stat}
-use Rattle.spg_script.specs.declared.part.Part.{Part}
-use Rattle.spg_script.specs.Blocks.{Script}
+use Rattle.spg_script.specs.Blocks.{Part, Script}
 use Rattle.spg_base.specs.Text.{row_text}
 use Rattle.spg_script.specs.Quoted.{hex_of, is_plain, escaped, first_byte, SpellsText, IsQuoted}
 use Rattle.spg_script.specs.Spelling.{cond_text}

@@ -13,9 +13,7 @@ use Rattle.spg_script.specs.declared.any_query.AnyQuery.{AnyQuery}
 use Rattle.spg_script.specs.declared.any_query.AnyQuery.TheVariants.{All, Where}
 use Rattle.spg_script.specs.declared.command.Command.{Command}
 use Rattle.spg_script.specs.declared.command.Command.TheVariants.{Insert, Delete, Find, Vacuum}
-use Rattle.spg_script.specs.declared.part.Part.{Part}
-use Rattle.spg_script.specs.Blocks.{Script}
-use Rattle.spg_script.specs.Reader.{alone_part, block_part}
+use Rattle.spg_script.specs.Blocks.{Part, alone_part, block_part, Script}
 
 -- the coordinates of key number `i`, below 1,000
 abbrev pub load_x : ℕ → ℕ → ℕ

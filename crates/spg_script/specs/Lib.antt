@@ -1,4 +1,5 @@
 pub mod Blocks
+pub mod Parts
 pub mod Spelling
 pub mod Quoted
 pub mod Line

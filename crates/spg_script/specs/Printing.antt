@@ -2,7 +2,7 @@
 use Rattle.std.specs.Prelude.{ℕ, ◌+◌, Bool, true, false, List, [], ◌∷◌, ◌++◌, codes, if◌then◌else◌}
 use Rattle.std.specs.List.{flat_map}
 use Rattle.spg_script.specs.declared.command.Command.{Command}
-use Rattle.spg_script.specs.declared.part.Part.{Part}
+use Rattle.spg_script.specs.Blocks.{Part}
 use Rattle.spg_script.specs.Quoted.{is_plain}
 use Rattle.spg_script.specs.Script.{command_text}
 

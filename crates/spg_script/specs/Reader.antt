@@ -3,8 +3,7 @@ use Rattle.std.specs.Prelude.{◌≡◌, ◌≢◌, ◌≤◌, ◌<◌, ◌+◌,
 use Rattle.std.specs.List.{AllZip, AllByRecursion}
 use Rattle.spg_script.specs.declared.class_name.ClassName.{ClassName}
 use Rattle.spg_script.specs.declared.command.Command.{Command}
-use Rattle.spg_script.specs.declared.part.Part.{Part}
-use Rattle.spg_script.specs.Blocks.{Script}
+use Rattle.spg_script.specs.Blocks.{Part, alone_part, block_part, Script}
 use Rattle.spg_script.specs.Spelling.{class_text}
 use Rattle.spg_script.specs.Line.{has_texts, SpellsCommand}
 use Rattle.spg_script.specs.Script.{lines_of, says_something, Saying, block_opens, lane_sayings, sayings, IsLaneCommand, IsPart, Spells, IsScript, CanGoOn, IsFirstBad}
@@ -56,12 +55,6 @@ pub record ReadersFind : Type 0 where
       → IsFirstBad bytes (length lines + 1)
   pub early_end : (p : Place) (bytes : List ℕ) → LeadTo p (filter says_something (lines_of bytes)) → (IsEnd p → ⊥) → IsFirstBad bytes (length (lines_of bytes) + 1)
   pub unended : (p : Place) (bytes : List ℕ) → LeadTo p (filter says_something (lines_of bytes)) → (IsEnd p → ⊥) → (script : Script) → IsScript bytes script → ⊥
-
-abbrev pub alone_part : Command → Part
-alone_part c = record { together = false; lanes = (c ∷ []) ∷ [] }
-
-abbrev pub block_part : List (List Command) → Part
-block_part lanes = record { together = true; lanes = lanes }
 
 -- how a reader goes on by a line that says something
 pub record ReadersGoOn : Type 0 where

@@ -5,8 +5,7 @@ use Rattle.spg_base.specs.Text.{row_text}
 use Rattle.spg_radix.specs.Texts.{is_bytes}
 use Rattle.spg_script.specs.declared.command.Command.{Command}
 use Rattle.spg_script.specs.declared.command.Command.TheVariants.{Insert, Delete, Find, Vacuum, Save, Stat}
-use Rattle.spg_script.specs.declared.part.Part.{Part}
-use Rattle.spg_script.specs.Blocks.{Script}
+use Rattle.spg_script.specs.Blocks.{Part, Script}
 use Rattle.spg_script.specs.Spelling.{class_text}
 use Rattle.spg_script.specs.Line.{has_texts, SpellsCommand}
 use Rattle.spg_script.specs.Speech.{any_key_or_null_text, any_query_text}

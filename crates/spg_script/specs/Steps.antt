@@ -2,12 +2,12 @@
 use Rattle.std.specs.Prelude.{◌≡◌, ℕ, Bool, true, false, List, [], ◌∷◌, ◌++◌, Option, Some, None, filter}
 use Rattle.spg_script.specs.declared.class_name.ClassName.{ClassName}
 use Rattle.spg_script.specs.declared.command.Command.{Command}
-use Rattle.spg_script.specs.declared.part.Part.{Part}
 use Rattle.spg_script.specs.declared.open_block.OpenBlock.{OpenBlock}
 use Rattle.spg_script.specs.declared.open_block.OpenBlock.TheVariants.{Empty, InLane}
 use Rattle.spg_script.specs.declared.blocks.Blocks.{Blocks}
 use Rattle.spg_script.specs.declared.reader.Reader.{Reader}
 use Rattle.spg_script.specs.declared.reader.Reader.TheVariants.{Start, Named}
+use Rattle.spg_script.specs.Blocks.{Part}
 use Rattle.spg_script.specs.Script.{says_something}
 use Rattle.spg_script.specs.Reader.{Place, at_start, between, inside, LeadTo, Refuses}
 

@@ -1,6 +1,7 @@
 ghost use Rattle.std.specs.Prelude.{◌≡◌, ◌≢◌, ◌↔◌, [], None, IfOk, IsTrue, codes};
+ghost use Rattle.spg_script.specs.Blocks.{alone_part};
 ghost use Rattle.spg_script.specs.Script.{IsLaneCommand};
-ghost use Rattle.spg_script.specs.Reader.{between, inside, alone_part};
+ghost use Rattle.spg_script.specs.Reader.{between, inside};
 ghost use Rattle.spg_script.specs.Steps.{lanes_of, place_of_blocks, Steps};
 
 use crate::class_name::ClassName;
@@ -23,18 +24,6 @@ pub struct Blocks {
     pub parts: List<Part>,
     /// The block that goes on, where one does.
     pub unended: Option<OpenBlock>,
-}
-
-/// The block of a command outside lanes.
-pub fn alone(alloc: Global, command: Command) -> Result<Part, Memory>
-    ensures { IfOk result (λ part. part ≡ alone_part command) }
-{
-    let lane = List::from_vec(Vec::from_array(alloc, [command])?);
-    let lanes = List::from_vec(Vec::from_array(alloc, [lane])?);
-    Ok(Part {
-        together: false,
-        lanes,
-    })
 }
 
 /// Whether a lane may have the command.
@@ -81,7 +70,7 @@ impl Blocks {
         }
         match read_command(alloc, self.class, line)? {
             Some(command) => {
-                self.parts.push(alone(alloc, command)?)?;
+                self.parts.push(Part::alone(command))?;
                 Ok(true)
             }
             None => Ok(false),
@@ -127,10 +116,7 @@ impl Blocks {
         if lanes.is_empty() {
             return Ok(false);
         }
-        self.parts.push(Part {
-            together: true,
-            lanes,
-        })?;
+        self.parts.push(Part::together(lanes))?;
         Ok(true)
     }
 

@@ -6,8 +6,8 @@ pub fn len_before(bytes: &[u8], stop: u8) -> usize
     ensures value { result ≡ len_before stop bytes.now }
     ensures within { result ≤ length bytes.now }
 {
-    for (i, b) in bytes.iter().enumerate() {
-        if *b == stop {
+    for i in 0..bytes.len() {
+        if bytes[i] == stop {
             return i;
         }
     }

@@ -3,7 +3,6 @@ ghost use Rattle.spg_script.specs.Generated.{load_lane, watching_lane, load_lane
 
 use crate::any_cond::AnyCond;
 use crate::any_query::AnyQuery;
-use crate::blocks::alone;
 use crate::class_name::ClassName;
 use crate::command::Command;
 use crate::load::{MOST_ROWS, MOST_SEED, push_changes};
@@ -121,21 +120,15 @@ fn load_parts(
     requires seed { seed ≤ MOST_SEED }
     ensures { IfOk result (λ parts. parts ≡ load_parts class count seed lanes) }
 {
-    let load = Part {
-        together: true,
-        lanes: load_lanes(alloc, class, count, seed, lanes)?,
-    };
-    let vacuum = alone(alloc, Command::Vacuum)?;
-    let all = alone(
-        alloc,
-        Command::Find {
-            query: AnyQuery::All,
-        },
-    )?;
+    let load = Part::together(load_lanes(alloc, class, count, seed, lanes)?);
+    let vacuum = Part::alone(Command::Vacuum);
+    let all = Part::alone(Command::Find {
+        query: AnyQuery::All,
+    });
     let query = first_query(alloc, class)?;
-    let first = alone(alloc, Command::Find { query })?;
+    let first = Part::alone(Command::Find { query });
     let query = second_query(alloc, class)?;
-    let second = alone(alloc, Command::Find { query })?;
+    let second = Part::alone(Command::Find { query });
     let parts = [load, vacuum, all, first, second];
     Ok(List::from_vec(Vec::from_array(alloc, parts)?))
 }

@@ -40,7 +40,7 @@ pub use laws::{prints_read_back, readers_find, readers_go_on, scripts_are_exact}
 pub use load::{MOST_ROWS, MOST_SEED};
 pub use numbers::number;
 pub use parsing::parse;
-pub use part::Part;
+pub use part::{Part, PartRef};
 pub use printing::print;
 pub use refused::ScriptRefused;
 pub use script::Script;

@@ -1,24 +1,30 @@
-ghost use Rattle.std.specs.Prelude.{◌≡◌};
+ghost use Rattle.std.specs.Prelude.{◌≡◌, ◌≤◌, length};
 ghost use Rattle.spg_script.specs.Reading.{value_from, number_of, positive_of, negative_of, coordinate_of, row_of, point_of};
 
 use crate::bytes::split;
 use spg_base::{Point, Row};
 
+/// Every number below 2^32 has at most so many digits.
+const MOST_DIGITS: usize = 10;
+
 /// The number that the digits spell, where it is below 2^32. Leading zeros are let through.
 fn value(bytes: &[u8]) -> Option<u32>
+    requires few { length bytes.now ≤ 10 }
     ensures { result ≡ value_from 0 bytes.now }
 {
     let mut value = 0u64;
     for b in bytes {
-        if *b < b'0' || *b > b'9' {
+        let b = u64::from(*b);
+        if b < u64::from(b'0') || b > u64::from(b'9') {
             return None;
         }
-        value = value * 10 + u64::from(*b - b'0');
-        if value >= 1 << 32 {
-            return None;
-        }
+        value = value * 10 + (b - u64::from(b'0'));
     }
-    Some(value as u32)
+    if value < 1 << 32 {
+        Some(value as u32)
+    } else {
+        None
+    }
 }
 
 /// The number that the bytes spell in decimal digits, without a leading zero. None exactly where they
@@ -29,6 +35,7 @@ pub fn number(bytes: &[u8]) -> Option<u32>
     match bytes {
         [] => None,
         [b'0', more @ ..] => if more.is_empty() { Some(0) } else { None },
+        _ if bytes.len() > MOST_DIGITS => None,
         _ => value(bytes),
     }
 }

@@ -6,7 +6,7 @@ ghost use Rattle.spg_script.specs.Printing.{commands_text, lanes_text, part_text
 
 use crate::command::Command;
 use crate::numerals::push_row;
-use crate::part::Part;
+use crate::part::{Part, PartRef};
 use crate::script::Script;
 use crate::spelling::{push_key, push_query};
 use spg_base::{Bytes, List, Memory};
@@ -74,23 +74,17 @@ fn push_lanes(text: &mut Bytes, lanes: &[List<Command>]) -> Result<(), Memory>
 fn push_part(text: &mut Bytes, part: &Part) -> Result<(), Memory>
     ensures { OnOk result (text.new ≡ text.old ++ part_text part.now) }
 {
-    if part.together {
-        text.extend(b"together\n")?;
-        push_lanes(text, part.lanes.as_slice())?;
-        text.extend(b"end\n")
-    } else {
-        push_alone(text, part.lanes.as_slice())
+    match part.lent() {
+        PartRef::Together(lanes) => {
+            text.extend(b"together\n")?;
+            push_lanes(text, lanes)?;
+            text.extend(b"end\n")
+        }
+        PartRef::Alone(command) => {
+            push_command(text, command)?;
+            text.push(b'\n')
+        }
     }
-}
-
-/// Adds the commands of a block that was written without `together`.
-fn push_alone(text: &mut Bytes, lanes: &[List<Command>]) -> Result<(), Memory>
-    ensures { OnOk result (text.new ≡ text.old ++ flat_map commands_text lanes.now) }
-{
-    for lane in lanes {
-        push_commands(text, lane.as_slice())?;
-    }
-    Ok(())
 }
 
 /// Adds blocks.

@@ -1,4 +1,6 @@
-use crate::{AnyQuery, ClassName, Command, Script, ScriptRefused, Spoken, generate, parse, print};
+use crate::{
+    AnyQuery, ClassName, Command, PartRef, Script, ScriptRefused, Spoken, generate, parse, print,
+};
 use spg_base::{Bytes, List, Memory};
 use spg_kd::Kd;
 use spg_quad::Quad;
@@ -257,10 +259,8 @@ fn spoken<O: Spoken>(alloc: Global, class: &O, bytes: &[u8]) -> Result<Bytes, Me
     let mut text = Bytes::new(alloc);
     if let Ok(script) = read(alloc, bytes) {
         for part in script.parts() {
-            for lane in part.lanes.as_slice() {
-                for command in lane.as_slice() {
-                    push_spoken(alloc, class, command, &mut text)?;
-                }
+            if let PartRef::Alone(command) = part.lent() {
+                push_spoken(alloc, class, command, &mut text)?;
             }
         }
     }
@@ -317,8 +317,10 @@ fn generates_loads(rt: HostRuntime) -> Result<(), Fail> {
 fn sizes(alloc: Global, script: &Script) -> Result<List<usize>, Memory> {
     let mut sizes = List::new(alloc);
     if let Some(load) = script.parts().first() {
-        for lane in load.lanes.as_slice() {
-            sizes.push(lane.len())?;
+        if let PartRef::Together(lanes) = load.lent() {
+            for lane in lanes {
+                sizes.push(lane.len())?;
+            }
         }
     }
     Ok(sizes)

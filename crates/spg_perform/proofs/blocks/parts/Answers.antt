@@ -1,6 +1,6 @@
-use Rattle.std.proofs.Common.{arith, List, sym, subst}
+use Rattle.std.proofs.Common.{arith, sym, subst}
 use Rattle.std.proofs.lemmas.List.Elements.{All-get_or}
-use Rattle.spg_script.specs.declared.part.Part.{Part}
+use Rattle.spg_script.specs.Blocks.{Part}
 use Rattle.spg_perform.specs.Acted.{CanBlock}
 use Rattle.spg_perform.specs.Session.{standing}
 use Rattle.spg_perform.proofs.BlocksTasks.{IsNext, parts_left}

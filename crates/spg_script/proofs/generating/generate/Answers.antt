@@ -1,5 +1,5 @@
 use Rattle.std.proofs.Common.{List, sym, ap, ◌∙◌, subst}
-use Rattle.spg_script.specs.declared.part.Part.{Part}
+use Rattle.spg_script.specs.Blocks.{Part}
 use Rattle.spg_script.specs.Script.{IsWritten}
 use Rattle.spg_script.specs.Generated.{generated}
 use Rattle.spg_script.proofs.Loads.{load_written}
