@@ -36,3 +36,4 @@ pub mod RootExact
 pub mod ChainExact
 pub mod ChainNamed
 pub mod Cases
+pub mod Anew
