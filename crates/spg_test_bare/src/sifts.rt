@@ -85,13 +85,18 @@ fn refuses(bare: &mut Bare<Quad>, seat: SeatNo, sifted: &Sifted<Quad>) -> Result
 fn scan(alloc: Global, seat: SeatNo) -> Result<Option<Closed>, Memory> {
     let (_class, mut bare) = filled(alloc)?.part();
     open(alloc, &mut bare, seat, Point { x: 292, y: 0 })?;
-    let Some(used) = go_on_thrice(alloc, &mut bare, seat)? else {
-        return Ok(None);
-    };
-    if refuses(&mut bare, seat, &used)? {
+    if used_once(alloc, &mut bare, seat)? {
         return close(&mut bare, seat);
     }
     Ok(None)
+}
+
+/// Whether the seat's scan goes on by three copies, and then refuses the last answer.
+fn used_once(alloc: Global, bare: &mut Bare<Quad>, seat: SeatNo) -> Result<bool, Memory> {
+    match go_on_thrice(alloc, bare, seat)? {
+        Some(used) => refuses(bare, seat, &used),
+        None => Ok(false),
+    }
 }
 
 /// The copies are of the root, of the inner tuple below it and of the chain of 73 where the point

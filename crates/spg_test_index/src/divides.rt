@@ -1,4 +1,4 @@
-ghost use Rattle.std.specs.Prelude.{◌≡◌, OnOk};
+ghost use Rattle.std.specs.Prelude.{◌≡◌, ◌≤◌, IfOk, OnOk};
 ghost use Rattle.spg_core.specs.Stage.{free};
 ghost use Rattle.spg_core.specs.Seen.{stage_at};
 
@@ -224,29 +224,49 @@ const CASES: [Case; 7] = [
     },
 ];
 
-/// Runs the queries, and compares their numbers and the counts of the index with those of the case.
+/// Runs queries, and compares the numbers of rows found and of tuples met, and then the counts of the
+/// index.
 fn compare<R: AllocGlobal + Abort, O: Tried>(
     rt: &R,
     state: &mut State<O>,
-    case: &Case,
+    finds: &[(Ask, usize, u64)],
+    stat: Stat,
 ) -> Result<(), Fail>
     requires { stage_at state.old 0 ≡ free }
+    ensures { OnOk result (stage_at state.new 0 ≡ free) }
 {
-    for (ask, rows, met) in case.finds {
-        let closed = find(rt.alloc(), state, ask)?;
-        assert_eq!(rt; (closed.rows.len(), closed.met), (rows, met));
+    for (ask, rows, met) in finds {
+        let closed = find(rt.alloc(), state, *ask)?;
+        assert_eq!(rt; (closed.rows.len(), closed.met), (*rows, *met));
     }
-    assert_eq!(rt; state.stat(), case.stat);
+    assert_eq!(rt; state.stat(), stat);
     Ok(())
+}
+
+/// An index of these keys with at most so many pages. The letters are those of the last insert.
+fn filled<R: AllocGlobal + Abort, O: Tried>(
+    rt: &R,
+    class: O,
+    limit: u32,
+    keys: Keys,
+    count: u16,
+    letters: &[u8],
+) -> Result<State<O>, Fail>
+    requires from { 4 ≤ limit }
+    requires to { limit ≤ 131072 }
+    ensures { IfOk result (λ state. stage_at state 0 ≡ free) }
+{
+    let mut state = State::new(rt.alloc(), class, limit)?;
+    let mut log = Vec::new(rt.alloc());
+    fill(&mut state, keys, count, &mut log)?;
+    assert_eq!(rt; log.as_slice(), letters);
+    Ok(state)
 }
 
 /// Builds the index of a case and compares what it answers.
 fn try_case<R: AllocGlobal + Abort, O: Tried>(rt: &R, class: O, case: &Case) -> Result<(), Fail> {
-    let mut state = State::new(rt.alloc(), class, 65536)?;
-    let mut log = Vec::new(rt.alloc());
-    fill(&mut state, case.keys, case.count, &mut log)?;
-    assert_eq!(rt; log.as_slice(), case.letters);
-    compare(rt, &mut state, case)
+    let mut state = filled(rt, class, 65536, case.keys, case.count, case.letters)?;
+    compare(rt, &mut state, &case.finds, case.stat)
 }
 
 /// Whole indexes of equal and of unequal keys, each with more than a root leaf page holds.
@@ -273,40 +293,41 @@ const LATER: [(u32, u16, Option<Point>, &[u8]); 5] = [
     (2, 3, None, b"DP"),
 ];
 
+/// The counts of an index that is full, without its last point.
+const FULL: Stat = Stat {
+    pages: 4,
+    inner: 1,
+    leaf: 291,
+    redirect: 0,
+    placeholder: 0,
+    clock: 0,
+    ..COUNTS
+};
+
+/// Does the later inserts, and compares their letters.
+fn insert_later<R: AllocGlobal + Abort>(rt: &R, state: &mut State<Quad>) -> Result<(), Fail>
+    requires { stage_at state.old 0 ≡ free }
+    ensures { OnOk result (stage_at state.new 0 ≡ free) }
+{
+    for (block, offset, key, letters) in &LATER {
+        let mut log = Vec::new(rt.alloc());
+        insert(state, Row::at(*block, *offset), *key, &mut log)?;
+        assert_eq!(rt; log.as_slice(), *letters);
+    }
+    Ok(())
+}
+
 /// An insert that needs a page past the limit is given up. What stood stays, and inserts that need no
 /// such page go in.
 #[test]
 fn goes_on_when_full(rt: HostRuntime) -> Result<(), Fail> {
-    let mut state = State::new(rt.alloc(), Quad, 5)?;
-    let mut log = Vec::new(rt.alloc());
-    fill(&mut state, Keys::Line(0), 292, &mut log)?;
-    assert_eq!(rt; log.as_slice(), b"DSDF".as_slice());
+    let mut state = filled(&rt, Quad, 5, Keys::Line(0), 292, b"DSDF")?;
+    compare(&rt, &mut state, &[(Ask::All, 291, 292)], FULL)?;
+    insert_later(&rt, &mut state)?;
     let stat = Stat {
-        pages: 4,
-        inner: 1,
-        leaf: 291,
-        redirect: 0,
-        placeholder: 0,
-        clock: 0,
-        ..COUNTS
+        pages: 5,
+        leaf: 294,
+        ..FULL
     };
-    let closed = find(rt.alloc(), &mut state, Ask::All)?;
-    assert_eq!(rt; (closed.rows.len(), closed.met), (291, 292));
-    assert_eq!(rt; state.stat(), stat);
-    for (block, offset, key, letters) in LATER {
-        log.clear();
-        insert(&mut state, Row::at(block, offset), key, &mut log)?;
-        assert_eq!(rt; log.as_slice(), letters);
-    }
-    let closed = find(rt.alloc(), &mut state, Ask::All)?;
-    assert_eq!(rt; (closed.rows.len(), closed.met), (294, 295));
-    assert_eq!(rt;
-        state.stat(),
-        Stat {
-            pages: 5,
-            leaf: 294,
-            ..stat
-        }
-    );
-    Ok(())
+    compare(&rt, &mut state, &[(Ask::All, 294, 295)], stat)
 }

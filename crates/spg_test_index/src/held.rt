@@ -1,20 +1,21 @@
 //! A scan holds chains that other seats move and divide before it reads them.
 
-ghost use Rattle.std.specs.Prelude.{◌≡◌};
-ghost use Rattle.spg_core.specs.Stage.{free};
+ghost use Rattle.std.specs.Prelude.{◌≡◌, ◌<◌};
+ghost use Rattle.spg_core.specs.Stage.{IsRead, free, held_count};
 ghost use Rattle.spg_core.specs.Seen.{stage_at};
 
+use crate::classes::Tried;
 use spg_base::{List, Memory, Point, PointCond, Row, SeatNo};
-use spg_core::{Closed, InsertRan, OpenKind, State};
-use spg_opclass::Query;
+use spg_core::{InsertRan, OpenKind, State};
+use spg_opclass::{OpClass, Query};
 use spg_quad::Quad;
 use std::test::Fail;
 
-/// Seat 0 inserts the point 0,0. False where it is refused.
-fn insert(state: &mut State<Quad>, row: Row) -> Result<bool, Memory>
+/// Seat 0 inserts a key. False where it is refused.
+fn insert<O: OpClass>(state: &mut State<O>, row: Row, key: Option<O::Key>) -> Result<bool, Memory>
     requires { stage_at state.old 0 ≡ free }
 {
-    if let Err(_) = state.open_insert(SeatNo::first(), row, Some(Point { x: 0, y: 0 })) {
+    if let Err(_) = state.open_insert(SeatNo::first(), row, key) {
         return Ok(false);
     }
     match state.insert_through(SeatNo::first()) {
@@ -24,22 +25,50 @@ fn insert(state: &mut State<Quad>, row: Row) -> Result<bool, Memory>
     }
 }
 
-/// Seat 0 inserts so many equal points with rows of the block.
-fn fill(state: &mut State<Quad>, block: u32, count: u16) -> Result<(), Memory> {
+/// Seat 0 inserts the point 0,0 so many times with rows of the block.
+fn fill<O: Tried>(state: &mut State<O>, block: u32, count: u16) -> Result<(), Memory> {
     for index in 0..count {
         if let OpenKind::Nothing = state.open_of(SeatNo::first()) {
-            insert(state, Row::at(block, index + 1))?;
+            let key = O::key(Point { x: 0, y: 0 });
+            insert(state, Row::at(block, index + 1), key)?;
         }
     }
     Ok(())
 }
 
-/// The seat reads its last item, or closes its scan where it holds none.
-fn go_on(state: &mut State<Quad>, seat: SeatNo) -> Result<Option<Closed>, Memory> {
+/// The seat opens a scan, where it has nothing open.
+fn open_scan<O: OpClass>(
+    state: &mut State<O>,
+    seat: SeatNo,
+    query: Query<O>,
+) -> Result<(), Memory> {
+    if let OpenKind::Nothing = state.open_of(seat) {
+        state.open_scan(seat, query)?;
+    }
+    Ok(())
+}
+
+/// The seat closes its scan, which holds nothing: how many rows it gives.
+fn close<O: OpClass>(state: &mut State<O>, seat: SeatNo) -> Result<usize, Memory>
+    requires { IsRead (stage_at state.old seat) }
+{
+    Ok(state.close_scan(seat)?.rows.len())
+}
+
+/// The seat reads an item of its scan.
+fn read<O: OpClass>(state: &mut State<O>, seat: SeatNo, item: usize) -> Result<(), Memory>
+    requires { item < held_count (stage_at state.old seat) }
+{
+    state.scan_read(seat, item)?;
+    Ok(())
+}
+
+/// The seat reads its last item, or closes its scan where it holds none: how many rows it gives.
+fn go_on<O: OpClass>(state: &mut State<O>, seat: SeatNo) -> Result<Option<usize>, Memory> {
     match state.open_of(seat) {
-        OpenKind::Scan { held: 0 } => Ok(Some(state.close_scan(seat)?)),
+        OpenKind::Scan { held: 0 } => Ok(Some(close(state, seat)?)),
         OpenKind::Scan { held } => {
-            state.scan_read(seat, held - 1)?;
+            read(state, seat, held - 1)?;
             Ok(None)
         }
         _ => Err(Memory),
@@ -57,15 +86,13 @@ fn gives_each_row_of_a_chain_that_left(rt: HostRuntime) -> Result<(), Fail> {
     fill(&mut state, 1, 300)?;
     let mut conds = List::new(rt.alloc());
     conds.push(PointCond::Eq(Point { x: 0, y: 0 }))?;
-    if let OpenKind::Nothing = state.open_of(seat) {
-        state.open_scan(seat, Query::Where(conds))?;
-    }
+    open_scan(&mut state, seat, Query::Where(conds))?;
     assert_eq!(rt; go_on(&mut state, seat)?.is_none(), true);
     assert_eq!(rt; state.open_of(seat), OpenKind::Scan { held: 8 });
     fill(&mut state, 2, 10_000)?;
     for _ in 0..u64::MAX {
-        if let Some(closed) = go_on(&mut state, seat)? {
-            assert_eq!(rt; closed.rows.len(), 10_300);
+        if let Some(rows) = go_on(&mut state, seat)? {
+            assert_eq!(rt; rows, 10_300);
             return Ok(());
         }
     }

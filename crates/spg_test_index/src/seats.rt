@@ -4,10 +4,10 @@ ghost use Rattle.std.specs.Prelude.{◌≡◌};
 ghost use Rattle.spg_core.specs.Stage.{free, IsInserting, IsSweeping, held_count};
 ghost use Rattle.spg_core.specs.Seen.{stage_at};
 
+use crate::classes::Tried;
 use spg_base::{Memory, Point, Row, SeatNo};
 use spg_core::{InsertOut, OpenKind, OpenRefused, ReadOut, State, VacuumOut, VacuumRefused};
 use spg_opclass::Query;
-use spg_quad::Quad;
 use spg_rows::Why;
 
 /// What a seat does.
@@ -84,12 +84,12 @@ fn after_vacuum_refusal(refused: &VacuumRefused) -> Result<Answer, Memory> {
 }
 
 /// A call of a seat with nothing open.
-fn open(state: &mut State<Quad>, seat: SeatNo, call: Call) -> Result<Answer, Memory>
+fn open<O: Tried>(state: &mut State<O>, seat: SeatNo, call: Call) -> Result<Answer, Memory>
     requires { stage_at state.old seat ≡ free }
 {
     match call {
         Call::Insert(offset) if offset > 0 => {
-            let key = Some(Point { x: 0, y: 0 });
+            let key = O::key(Point { x: 0, y: 0 });
             match state.open_insert(seat, Row::at(9, offset), key) {
                 Ok(()) => Ok(Answer::Done),
                 Err(refused) => after_refusal(&refused),
@@ -115,7 +115,7 @@ fn open(state: &mut State<Quad>, seat: SeatNo, call: Call) -> Result<Answer, Mem
 }
 
 /// A call of a seat whose vacuum is open.
-fn sweep(state: &mut State<Quad>, seat: SeatNo, call: Call) -> Result<Answer, Memory>
+fn sweep<O: Tried>(state: &mut State<O>, seat: SeatNo, call: Call) -> Result<Answer, Memory>
     requires { IsSweeping (stage_at state.old seat) }
 {
     match call {
@@ -134,7 +134,7 @@ fn sweep(state: &mut State<Quad>, seat: SeatNo, call: Call) -> Result<Answer, Me
 }
 
 /// A call of a seat whose insert is open.
-fn go_on(state: &mut State<Quad>, seat: SeatNo, call: Call) -> Answer
+fn go_on<O: Tried>(state: &mut State<O>, seat: SeatNo, call: Call) -> Answer
     requires { IsInserting (stage_at state.old seat) }
 {
     match call {
@@ -151,7 +151,12 @@ fn go_on(state: &mut State<Quad>, seat: SeatNo, call: Call) -> Answer
 }
 
 /// A read of an item of a seat's scan, which holds so many.
-fn read(state: &mut State<Quad>, seat: SeatNo, call: Call, held: usize) -> Result<Answer, Memory>
+fn read<O: Tried>(
+    state: &mut State<O>,
+    seat: SeatNo,
+    call: Call,
+    held: usize,
+) -> Result<Answer, Memory>
     requires { held_count (stage_at state.old seat) ≡ held }
 {
     match call {
@@ -164,8 +169,8 @@ fn read(state: &mut State<Quad>, seat: SeatNo, call: Call, held: usize) -> Resul
 }
 
 /// What a call answers.
-pub(crate) fn answer_of(
-    state: &mut State<Quad>,
+pub(crate) fn answer_of<O: Tried>(
+    state: &mut State<O>,
     seat: SeatNo,
     call: Call,
 ) -> Result<Answer, Memory> {

@@ -4,6 +4,7 @@ ghost use Rattle.std.specs.Prelude.{◌≡◌, OnOk};
 ghost use Rattle.spg_core.specs.Stage.{free};
 ghost use Rattle.spg_core.specs.Seen.{stage_at};
 
+use crate::classes::Tried;
 use crate::seats::{Answer, Call, answer_of};
 use spg_base::{Bytes, Memory, Row, SeatNo, Stat};
 use spg_core::{InsertRan, OpenKind, State, VacuumOut};
@@ -11,6 +12,7 @@ use spg_opclass::OpClass;
 use spg_quad::Quad;
 use spg_radix::{ByteText, Radix};
 use std::alloc::Global;
+use std::process::Abort;
 use std::test::Fail;
 
 /// A row whose entry was swept waits for the seat of the vacuum, and then for the scan that was open
@@ -114,8 +116,8 @@ const DIVIDED: [(u8, Call, Answer); 22] = [
 ];
 
 /// The first call that answers another thing than is wanted, with its answer.
-fn first_other(
-    state: &mut State<Quad>,
+fn first_other<O: Tried>(
+    state: &mut State<O>,
     calls: &[(u8, Call, Answer)],
 ) -> Result<Option<(u8, Call, Answer)>, Memory> {
     for (number, call, wanted) in calls {
@@ -130,17 +132,26 @@ fn first_other(
     Ok(None)
 }
 
+/// Does calls, and compares what they answer.
+fn assert_answers<R: Abort, O: Tried>(
+    rt: &R,
+    state: &mut State<O>,
+    calls: &[(u8, Call, Answer)],
+) -> Result<(), Fail> {
+    assert_eq!(rt; first_other(state, calls)?, None);
+    Ok(())
+}
+
 #[test]
 fn holds_a_row_until_it_may_be_used(rt: HostRuntime) -> Result<(), Fail> {
     let mut state = State::new(rt.alloc(), Quad, 65536)?;
-    assert_eq!(rt; first_other(&mut state, &HELD)?, None);
-    Ok(())
+    assert_answers(&rt, &mut state, &HELD)
 }
 
 #[test]
 fn uses_a_row_again(rt: HostRuntime) -> Result<(), Fail> {
     let mut state = State::new(rt.alloc(), Quad, 65536)?;
-    assert_eq!(rt; first_other(&mut state, &AGAIN)?, None);
+    assert_answers(&rt, &mut state, &AGAIN)?;
     assert_eq!(rt; state.held_by(Row::at(9, 1)), None);
     Ok(())
 }
@@ -160,11 +171,23 @@ fn insert<O: OpClass>(state: &mut State<O>, row: Row, key: Option<O::Key>) -> Re
     Ok(())
 }
 
+/// Does calls on an index of so many rows, and compares what they answer and then the counts.
+fn tries<R: AllocGlobal + Abort, O: Tried>(
+    rt: &R,
+    class: O,
+    count: u16,
+    calls: &[(u8, Call, Answer)],
+    wanted: Stat,
+) -> Result<(), Fail> {
+    let mut state = State::new(rt.alloc(), class, 65536)?;
+    assert_eq!(rt; fill(&mut state, count)?, count);
+    assert_answers(rt, &mut state, calls)?;
+    assert_eq!(rt; state.stat(), wanted);
+    Ok(())
+}
+
 #[test]
 fn finds_a_chain_that_moved(rt: HostRuntime) -> Result<(), Fail> {
-    let mut state = State::new(rt.alloc(), Quad, 65536)?;
-    assert_eq!(rt; fill(&mut state, 291)?, 291);
-    assert_eq!(rt; first_other(&mut state, &MOVED)?, None);
     let wanted = Stat {
         pages: 5,
         inner: 1,
@@ -174,15 +197,11 @@ fn finds_a_chain_that_moved(rt: HostRuntime) -> Result<(), Fail> {
         placeholder: 37,
         clock: 1,
     };
-    assert_eq!(rt; state.stat(), wanted);
-    Ok(())
+    tries(&rt, Quad, 291, &MOVED, wanted)
 }
 
 #[test]
 fn finds_the_lists_of_a_chain_that_was_divided(rt: HostRuntime) -> Result<(), Fail> {
-    let mut state = State::new(rt.alloc(), Quad, 65536)?;
-    assert_eq!(rt; fill(&mut state, 578)?, 578);
-    assert_eq!(rt; first_other(&mut state, &DIVIDED)?, None);
     let wanted = Stat {
         pages: 7,
         inner: 2,
@@ -192,12 +211,11 @@ fn finds_the_lists_of_a_chain_that_was_divided(rt: HostRuntime) -> Result<(), Fa
         placeholder: 12,
         clock: 5,
     };
-    assert_eq!(rt; state.stat(), wanted);
-    Ok(())
+    tries(&rt, Quad, 578, &DIVIDED, wanted)
 }
 
 /// Seat 0 inserts so many rows of block 9, from the first on. The answer is how many were put.
-fn fill(state: &mut State<Quad>, count: u16) -> Result<u16, Memory> {
+fn fill<O: Tried>(state: &mut State<O>, count: u16) -> Result<u16, Memory> {
     let mut put = 0;
     for index in 0..count {
         let opened = answer_of(state, SeatNo::first(), Call::Insert(index + 1))?;
@@ -209,7 +227,7 @@ fn fill(state: &mut State<Quad>, count: u16) -> Result<u16, Memory> {
 }
 
 /// Seat 0 does the sections of its insert until its row is put.
-fn step_out(state: &mut State<Quad>) -> Result<Answer, Memory> {
+fn step_out<O: Tried>(state: &mut State<O>) -> Result<Answer, Memory> {
     for _ in 0..8 {
         let answer = answer_of(state, SeatNo::first(), Call::Step)?;
         if answer == Answer::Put {
@@ -225,7 +243,7 @@ fn text(alloc: Global, bytes: &[u8]) -> Result<Option<ByteText>, Memory> {
 }
 
 /// How many rows the vacuum of seat 0 sweeps.
-fn vacuum(state: &mut State<Radix>) -> Result<u64, Memory> {
+fn vacuum<O: OpClass>(state: &mut State<O>) -> Result<u64, Memory> {
     let seat = SeatNo::first();
     if let OpenKind::Nothing = state.open_of(seat)
         && state.open_vacuum(seat).is_err()
@@ -245,36 +263,70 @@ fn vacuum(state: &mut State<Radix>) -> Result<u64, Memory> {
     Err(Memory)
 }
 
+/// Seat 0 deletes a row. False where it was not live.
+fn kill<O: OpClass>(state: &mut State<O>, row: Row) -> Result<bool, Memory> {
+    let seat = SeatNo::first();
+    if let OpenKind::Nothing = state.open_of(seat) {
+        return state.kill(seat, row);
+    }
+    Ok(false)
+}
+
+/// Inserts 292 times the same text.
+fn insert_texts(alloc: Global, state: &mut State<Radix>) -> Result<(), Memory> {
+    for index in 0..292 {
+        insert(state, Row::at(1, index + 1), text(alloc, b"abc")?)?;
+    }
+    Ok(())
+}
+
+/// The counts of an index whose one dead tuple is the head of a chain.
+const SWEPT: Stat = Stat {
+    pages: 6,
+    inner: 2,
+    leaf: 292,
+    redirect: 0,
+    dead: 1,
+    placeholder: 0,
+    clock: 0,
+};
+
+/// Inserts a text, and compares the counts.
+fn inserts_to<R: AllocGlobal + Abort>(
+    rt: &R,
+    state: &mut State<Radix>,
+    row: Row,
+    wanted: Stat,
+) -> Result<(), Fail> {
+    insert(state, row, text(rt.alloc(), b"b")?)?;
+    assert_eq!(rt; state.stat(), wanted);
+    Ok(())
+}
+
+/// Deletes and sweeps a row, and compares the counts.
+fn sweeps_to<R: Abort, O: OpClass>(
+    rt: &R,
+    state: &mut State<O>,
+    row: Row,
+    wanted: Stat,
+) -> Result<(), Fail> {
+    assert_eq!(rt; kill(state, row)?, true);
+    assert_eq!(rt; vacuum(state)?, 1);
+    assert_eq!(rt; state.stat(), wanted);
+    Ok(())
+}
+
 /// The head of a chain of one text is dead once the vacuum has swept it, and the next text is put there.
 #[test]
 fn puts_a_text_at_a_dead_head(rt: HostRuntime) -> Result<(), Fail> {
     let mut state = State::new(rt.alloc(), Radix, 65536)?;
-    for index in 0..292 {
-        insert(&mut state, Row::at(1, index + 1), text(rt.alloc(), b"abc")?)?;
-    }
-    let seat = SeatNo::first();
-    let row = Row::at(2, 1);
-    insert(&mut state, row, text(rt.alloc(), b"b")?)?;
-    if let OpenKind::Nothing = state.open_of(seat) {
-        assert_eq!(rt; state.kill(seat, row)?, true);
-    }
-    assert_eq!(rt; vacuum(&mut state)?, 1);
-    let swept = Stat {
-        pages: 6,
-        inner: 2,
-        leaf: 292,
-        redirect: 0,
-        dead: 1,
-        placeholder: 0,
-        clock: 0,
-    };
-    assert_eq!(rt; state.stat(), swept);
-    insert(&mut state, Row::at(2, 2), text(rt.alloc(), b"b")?)?;
+    insert_texts(rt.alloc(), &mut state)?;
+    insert(&mut state, Row::at(2, 1), text(rt.alloc(), b"b")?)?;
+    sweeps_to(&rt, &mut state, Row::at(2, 1), SWEPT)?;
     let put = Stat {
         leaf: 293,
         dead: 0,
-        ..swept
+        ..SWEPT
     };
-    assert_eq!(rt; state.stat(), put);
-    Ok(())
+    inserts_to(&rt, &mut state, Row::at(2, 2), put)
 }

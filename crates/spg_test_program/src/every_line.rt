@@ -1,6 +1,9 @@
-use crate::program::{joined, ran_lines};
+use crate::program::{assert_run, joined, run_word};
 use spg_app::Status;
+use std::process::Abort;
+use std::sync::Wait;
 use std::test::Fail;
+use std::thread::Threads;
 
 /// The lines of a script, and those of the text of its run.
 type Run = (&'static [&'static str], &'static [&'static str]);
@@ -204,12 +207,27 @@ const EVERY: [Run; 2] = [
     ),
 ];
 
+/// Runs the program on a script of these lines, and compares the lines that it prints.
+fn prints<R: AllocGlobal + Threads + Wait + Sync + Abort>(
+    rt: &R,
+    script: &[&str],
+    text: &[&str],
+) -> Result<(), Fail> {
+    let script = joined(rt.alloc(), script)?;
+    let text = joined(rt.alloc(), text)?;
+    assert_run(
+        rt,
+        &run_word(),
+        script.as_bytes(),
+        Status::Done,
+        text.as_bytes(),
+    )
+}
+
 #[test]
 fn does_every_kind_of_line(rt: HostRuntime) -> Result<(), Fail> {
-    for (script, text) in EVERY {
-        let ended = ran_lines(&rt, script)?;
-        assert_eq!(rt; ended.status, Status::Done);
-        assert_eq!(rt; ended.text.as_slice(), joined(rt.alloc(), text)?.as_bytes());
+    for (script, text) in &EVERY {
+        prints(&rt, script, text)?;
     }
     Ok(())
 }
@@ -344,10 +362,8 @@ const AGAIN: [Run; 3] = [
 
 #[test]
 fn tells_used_rows(rt: HostRuntime) -> Result<(), Fail> {
-    for (script, text) in AGAIN {
-        let ended = ran_lines(&rt, script)?;
-        assert_eq!(rt; ended.status, Status::Done);
-        assert_eq!(rt; ended.text.as_slice(), joined(rt.alloc(), text)?.as_bytes());
+    for (script, text) in &AGAIN {
+        prints(&rt, script, text)?;
     }
     Ok(())
 }

@@ -1,5 +1,6 @@
-use crate::program::{Ended, Fails, no_fails, ran, run_word};
+use crate::program::{Ended, Fails, assert_ended, no_fails, ran, run_word};
 use spg_app::Status;
+use std::process::Abort;
 use std::sync::Wait;
 use std::test::Fail;
 use std::thread::Threads;
@@ -33,16 +34,30 @@ fn text<R: AllocGlobal>(rt: &R, saved: &[u8]) -> Result<Vec<u8>, Fail> {
     Ok(text)
 }
 
+/// Compares how a run ended, what it wrote with this result of `save`, and how many bytes it saved.
+fn ends_so<R: AllocGlobal + Abort>(
+    rt: &R,
+    ended: &Ended,
+    status: Status,
+    saved: &[u8],
+    length: Option<usize>,
+) -> Result<(), Fail> {
+    let text = text(rt, saved)?;
+    assert_ended(rt, ended, status, text.as_slice())?;
+    assert_length(rt, ended, length)
+}
+
+/// Compares how many bytes a run saved, if any.
+fn assert_length<R: Abort>(rt: &R, ended: &Ended, length: Option<usize>) -> Result<(), Fail> {
+    let saved = ended.images.bytes("town").map(|image| image.len());
+    assert_eq!(rt; saved, length);
+    Ok(())
+}
+
 #[test]
 fn saves_a_town(rt: HostRuntime) -> Result<(), Fail> {
     let ended = town(&rt, no_fails())?;
-    assert_eq!(rt; ended.status, Status::Done);
-    assert_eq!(rt; ended.text.as_slice(), text(&rt, SAVED)?.as_slice());
-    assert_eq!(rt;
-        ended.images.bytes("town").map(|image| image.len()),
-        Some(24576)
-    );
-    Ok(())
+    ends_so(&rt, &ended, Status::Done, SAVED, Some(24576))
 }
 
 /// Each failing write, and how many bytes the lines before it have.
@@ -51,15 +66,16 @@ const WRITES: [(u64, usize); 6] = [(1, 0), (2, 12), (3, 24), (4, 36), (5, 48), (
 #[test]
 fn tells_failing_writes(rt: HostRuntime) -> Result<(), Fail> {
     for (call, length) in WRITES {
-        let ended = town(
+        let fails = Fails {
+            write: call,
+            ..no_fails()
+        };
+        assert_ended(
             &rt,
-            Fails {
-                write: call,
-                ..no_fails()
-            },
+            &town(&rt, fails)?,
+            Status::WriteFault,
+            &BEFORE[..length],
         )?;
-        assert_eq!(rt; ended.status, Status::WriteFault);
-        assert_eq!(rt; ended.text.as_slice(), &BEFORE[..length]);
     }
     Ok(())
 }
@@ -75,16 +91,11 @@ const PUTS: [(u64, Option<usize>); 4] = [
 #[test]
 fn tells_failing_images(rt: HostRuntime) -> Result<(), Fail> {
     for (call, length) in PUTS {
-        let ended = town(
-            &rt,
-            Fails {
-                image: call,
-                ..no_fails()
-            },
-        )?;
-        assert_eq!(rt; ended.status, Status::ImageFault);
-        assert_eq!(rt; ended.text.as_slice(), text(&rt, FAULT)?.as_slice());
-        assert_eq!(rt; ended.images.bytes("town").map(|image| image.len()), length);
+        let fails = Fails {
+            image: call,
+            ..no_fails()
+        };
+        ends_so(&rt, &town(&rt, fails)?, Status::ImageFault, FAULT, length)?;
     }
     Ok(())
 }
@@ -92,16 +103,13 @@ fn tells_failing_images(rt: HostRuntime) -> Result<(), Fail> {
 #[test]
 fn tells_failing_reads(rt: HostRuntime) -> Result<(), Fail> {
     for call in 1..5 {
-        let ended = town(
-            &rt,
-            Fails {
-                read: call,
-                ..no_fails()
-            },
-        )?;
-        assert_eq!(rt; ended.status, Status::ReadFault);
-        assert_eq!(rt; ended.text.is_empty(), true);
-        assert_eq!(rt; ended.images.bytes("town").is_none(), true);
+        let fails = Fails {
+            read: call,
+            ..no_fails()
+        };
+        let ended = town(&rt, fails)?;
+        assert_ended(&rt, &ended, Status::ReadFault, b"")?;
+        assert_length(&rt, &ended, None)?;
     }
     Ok(())
 }

@@ -1,4 +1,4 @@
-use crate::program::{Fails, joined, no_fails, ran};
+use crate::program::{Fails, assert_ended, assert_run, joined, no_fails, ran};
 use spg_app::Status;
 use std::test::Fail;
 
@@ -47,10 +47,8 @@ const LOADS: [(&[&str], &[&str]); 5] = [
 #[test]
 fn tells_of_generated_loads(rt: HostRuntime) -> Result<(), Fail> {
     for (words, lines) in &LOADS {
-        let ended = ran(&rt, words, b"no script", no_fails())?;
-        assert_eq!(rt; ended.status, Status::Done);
         let summary = joined(rt.alloc(), lines)?;
-        assert_eq!(rt; ended.text.as_slice(), summary.as_bytes());
+        assert_run(&rt, words, b"no script", Status::Done, summary.as_bytes())?;
     }
     Ok(())
 }
@@ -73,7 +71,5 @@ fn tells_where_writing_failed(rt: HostRuntime) -> Result<(), Fail> {
         ..no_fails()
     };
     let ended = ran(&rt, &["gen", "1", "0"], b"", fails)?;
-    assert_eq!(rt; ended.status, Status::WriteFault);
-    assert_eq!(rt; ended.text.as_slice(), b"added 1\nlive 1\n".as_slice());
-    Ok(())
+    assert_ended(&rt, &ended, Status::WriteFault, b"added 1\nlive 1\n")
 }

@@ -1,4 +1,4 @@
-use crate::program::{no_fails, ran, run_word};
+use crate::program::{assert_lines, assert_run, ran_whole, run_word};
 use spg_app::Status;
 use std::alloc::{AllocError, Global};
 use std::test::Fail;
@@ -24,28 +24,25 @@ fn long_texts(alloc: Global, second: usize) -> Result<String, AllocError> {
     Ok(script)
 }
 
+/// The last results of the run of three texts of 3,900 bytes.
+const LONGEST: [&str; 2] = [
+    "4 6 8 found 3 walk 4 1.1 1.2 1.3",
+    "5 8 8 stat pages 4 inner 1 leaf 3 redirect 0 dead 0 placeholder 0 clock 0",
+];
+
 #[test]
 fn takes_texts_of_3900_bytes(rt: HostRuntime) -> Result<(), Fail> {
     let script = long_texts(rt.alloc(), 3900)?;
-    let ended = ran(&rt, &run_word(), script.as_bytes(), no_fails())?;
-    assert_eq!(rt; ended.status, Status::Done);
-    let mut lines = ended.text.as_slice().split(|b| *b == b'\n').skip(3);
-    assert_eq!(rt;
-        lines.next(),
-        Some(b"4 6 8 found 3 walk 4 1.1 1.2 1.3".as_slice())
-    );
-    assert_eq!(rt;
-        lines.next(),
-        Some(
-            b"5 8 8 stat pages 4 inner 1 leaf 3 redirect 0 dead 0 placeholder 0 clock 0".as_slice()
-        )
-    );
+    let text = ran_whole(&rt, &run_word(), script.as_str())?;
+    assert_lines(&rt, text.as_slice(), 3, &LONGEST)?;
     let script = long_texts(rt.alloc(), 3901)?;
-    assert_eq!(rt;
-        ran(&rt, &run_word(), script.as_bytes(), no_fails())?.status,
-        Status::BadScript(3)
-    );
-    Ok(())
+    assert_run(
+        &rt,
+        &run_word(),
+        script.as_bytes(),
+        Status::BadScript(3),
+        b"",
+    )
 }
 
 /// Keys of `b` and so many times `z` that come where a dead tuple stands on a page with little room,
@@ -91,15 +88,10 @@ fn with_comer(alloc: Global, length: usize) -> Result<String, AllocError> {
 
 #[test]
 fn puts_texts_where_a_dead_tuple_stands(rt: HostRuntime) -> Result<(), Fail> {
-    for (length, told) in COMERS {
-        let script = with_comer(rt.alloc(), length)?;
-        let ended = ran(&rt, &run_word(), script.as_bytes(), no_fails())?;
-        assert_eq!(rt; ended.status, Status::Done);
-        let mut lines = ended.text.as_slice().split(|b| *b == b'\n').skip(292);
-        for line in told {
-            let line = String::from_str(rt.alloc(), line)?;
-            assert_eq!(rt; lines.next(), Some(line.as_bytes()));
-        }
+    for (length, told) in &COMERS {
+        let script = with_comer(rt.alloc(), *length)?;
+        let text = ran_whole(&rt, &run_word(), script.as_str())?;
+        assert_lines(&rt, text.as_slice(), 292, told)?;
     }
     Ok(())
 }

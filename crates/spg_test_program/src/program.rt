@@ -2,6 +2,7 @@ use spg_app::{Gate, Status, run};
 use spg_base::{Bytes, List};
 use spg_io::{FaultyImages, FaultySink, FaultySource};
 use std::alloc::{AllocError, Global};
+use std::process::Abort;
 use std::sync::Wait;
 use std::test::Fail;
 use std::thread::Threads;
@@ -100,11 +101,60 @@ pub(crate) fn joined(alloc: Global, lines: &[&str]) -> Result<String, AllocError
     Ok(text)
 }
 
-/// Runs the program on a script of these lines.
-pub(crate) fn ran_lines<R: AllocGlobal + Threads + Wait + Sync>(
+/// Compares how a run ended and what it wrote with what is wanted.
+pub(crate) fn assert_ended<R: Abort>(
     rt: &R,
+    ended: &Ended,
+    status: Status,
+    text: &[u8],
+) -> Result<(), Fail> {
+    assert_eq!(rt; (ended.status, ended.text.as_slice()), (status, text));
+    Ok(())
+}
+
+/// Runs the program on a script, and compares how it ended and what it wrote.
+pub(crate) fn assert_run<R: AllocGlobal + Threads + Wait + Sync + Abort>(
+    rt: &R,
+    words: &[&str],
+    script: &[u8],
+    status: Status,
+    text: &[u8],
+) -> Result<(), Fail> {
+    assert_ended(rt, &ran(rt, words, script, no_fails())?, status, text)
+}
+
+/// Runs the program on a script that it does to its end.
+pub(crate) fn ran_whole<R: AllocGlobal + Threads + Wait + Sync + Abort>(
+    rt: &R,
+    words: &[&str],
+    script: &str,
+) -> Result<Vec<u8>, Fail> {
+    let ended = ran(rt, words, script.as_bytes(), no_fails())?;
+    assert_eq!(rt; ended.status, Status::Done);
+    Ok(ended.text)
+}
+
+/// Compares a line of a text, counted from 0.
+pub(crate) fn assert_line<R: Abort>(
+    rt: &R,
+    text: &[u8],
+    number: usize,
+    line: &str,
+) -> Result<(), Fail> {
+    let mut lines = text.split(|b| *b == b'\n').skip(number);
+    assert_eq!(rt; lines.next(), Some(line.as_bytes()));
+    Ok(())
+}
+
+/// Compares the lines of a text from a number on, counted from 0.
+pub(crate) fn assert_lines<R: Abort>(
+    rt: &R,
+    text: &[u8],
+    first: usize,
     lines: &[&str],
-) -> Result<Ended, Fail> {
-    let script = joined(rt.alloc(), lines)?;
-    ran(rt, &run_word(), script.as_bytes(), no_fails())
+) -> Result<(), Fail> {
+    for (line, number) in lines.iter().zip(first..) {
+        assert_line(rt, text, number, line)?;
+    }
+    Ok(())
 }

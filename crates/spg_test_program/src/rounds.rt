@@ -1,6 +1,6 @@
-use crate::program::{no_fails, ran, run_word};
-use spg_app::Status;
+use crate::program::{assert_line, ran_whole, run_word};
 use std::alloc::{AllocError, Global};
+use std::process::Abort;
 use std::test::Fail;
 
 /// How many rows each round has.
@@ -62,28 +62,45 @@ fn three_rounds(alloc: Global, class: &str, key: &str) -> Result<String, AllocEr
     Ok(script)
 }
 
-/// The lines of the vacuums and counts, for the rounds 0, 1 and 2.
-const VACUUMED: [(&str, &str); 3] = [
-    ("901 1350 1802 vacuumed 450", "902 1802 1802 stat "),
-    ("1803 3152 3604 vacuumed 450", "1804 3604 3604 stat "),
-    ("2705 4954 5406 vacuumed 450", "2706 5406 5406 stat "),
+/// The results of the vacuums and of the counts that follow, each with its place in the text, counted
+/// from 0.
+const VACUUMED: [(usize, &str, usize, &str); 3] = [
+    (
+        900,
+        "901 1350 1802 vacuumed 450",
+        901,
+        "902 1802 1802 stat ",
+    ),
+    (
+        1802,
+        "1803 3152 3604 vacuumed 450",
+        1803,
+        "1804 3604 3604 stat ",
+    ),
+    (
+        2704,
+        "2705 4954 5406 vacuumed 450",
+        2705,
+        "2706 5406 5406 stat ",
+    ),
 ];
+
+/// Compares the results of the vacuums and counts of a run.
+fn assert_rounds<R: AllocGlobal + Abort>(rt: &R, text: &[u8], counts: &str) -> Result<(), Fail> {
+    for (place, vacuumed, next, counted) in &VACUUMED {
+        assert_line(rt, text, *place, vacuumed)?;
+        let counted = format!(in rt.alloc(); "{counted}{counts}")?;
+        assert_line(rt, text, *next, counted.as_str())?;
+    }
+    Ok(())
+}
 
 #[test]
 fn sweeps_rounds_of_rows_and_takes_their_room_again(rt: HostRuntime) -> Result<(), Fail> {
-    for (class, key, counts) in ROUNDS {
+    for (class, key, counts) in &ROUNDS {
         let script = three_rounds(rt.alloc(), class, key)?;
-        let ended = ran(&rt, &run_word(), script.as_bytes(), no_fails())?;
-        assert_eq!(rt; ended.status, Status::Done);
-        let mut lines = ended.text.as_slice().split(|b| *b == b'\n');
-        for (vacuumed, counted) in VACUUMED {
-            for _ in 0..2 * ROWS {
-                let _ = lines.next();
-            }
-            let counted = format!(in rt.alloc(); "{counted}{counts}")?;
-            assert_eq!(rt; lines.next(), Some(vacuumed.as_bytes()));
-            assert_eq!(rt; lines.next(), Some(counted.as_bytes()));
-        }
+        let text = ran_whole(&rt, &run_word(), script.as_str())?;
+        assert_rounds(&rt, text.as_slice(), counts)?;
     }
     Ok(())
 }

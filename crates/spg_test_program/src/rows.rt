@@ -1,6 +1,6 @@
-use crate::program::{no_fails, ran};
-use spg_app::Status;
+use crate::program::{assert_line, ran_whole};
 use std::alloc::{AllocError, Global};
+use std::process::Abort;
 use std::test::Fail;
 
 /// A line of a text: its start, the offsets from, to and apart of the rows of block 1 that follow, and
@@ -270,18 +270,22 @@ fn line_of(alloc: Global, line: Line) -> Result<String, AllocError> {
     Ok(told)
 }
 
+/// Compares the lines from the result of the last insert on.
+fn assert_ends<R: AllocGlobal + Abort>(rt: &R, text: &[u8], filled: &Filled) -> Result<(), Fail> {
+    let first = usize::from(filled.count).saturating_sub(1);
+    for (line, number) in filled.ends.iter().zip(first..) {
+        let line = line_of(rt.alloc(), *line)?;
+        assert_line(rt, text, number, line.as_str())?;
+    }
+    Ok(())
+}
+
 #[test]
 fn fills_pages(rt: HostRuntime) -> Result<(), Fail> {
     for filled in &FILLED {
         let script = script_of(rt.alloc(), filled)?;
-        let ended = ran(&rt, filled.words, script.as_bytes(), no_fails())?;
-        assert_eq!(rt; ended.status, Status::Done);
-        let before = usize::from(filled.count).saturating_sub(1);
-        let mut lines = ended.text.as_slice().split(|b| *b == b'\n').skip(before);
-        for line in filled.ends {
-            let line = line_of(rt.alloc(), *line)?;
-            assert_eq!(rt; lines.next(), Some(line.as_bytes()));
-        }
+        let text = ran_whole(&rt, filled.words, script.as_str())?;
+        assert_ends(&rt, text.as_slice(), filled)?;
     }
     Ok(())
 }

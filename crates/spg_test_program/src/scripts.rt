@@ -1,4 +1,4 @@
-use crate::program::{no_fails, ran, run_word};
+use crate::program::{assert_run, run_word};
 use spg_app::Status;
 use std::test::Fail;
 
@@ -66,10 +66,8 @@ const RUNS: [(&[u8], &[u8]); 16] = [
 
 #[test]
 fn prints_the_run(rt: HostRuntime) -> Result<(), Fail> {
-    for (script, text) in RUNS {
-        let ended = ran(&rt, &run_word(), script, no_fails())?;
-        assert_eq!(rt; ended.status, Status::Done);
-        assert_eq!(rt; ended.text.as_slice(), text);
+    for (script, text) in &RUNS {
+        assert_run(&rt, &run_word(), script, Status::Done, text)?;
     }
     Ok(())
 }
@@ -165,10 +163,8 @@ const BAD: [(&[u8], u32); 82] = [
 
 #[test]
 fn tells_the_first_bad_line(rt: HostRuntime) -> Result<(), Fail> {
-    for (script, line) in BAD {
-        let ended = ran(&rt, &run_word(), script, no_fails())?;
-        assert_eq!(rt; ended.status, Status::BadScript(line));
-        assert_eq!(rt; ended.text.is_empty(), true);
+    for (script, line) in &BAD {
+        assert_run(&rt, &run_word(), script, Status::BadScript(*line), b"")?;
     }
     Ok(())
 }

@@ -1,4 +1,4 @@
-use crate::program::{no_fails, ran};
+use crate::program::assert_run;
 use spg_app::Status;
 use std::test::Fail;
 
@@ -61,15 +61,11 @@ const TAKEN: [&[&str]; 5] = [
 
 #[test]
 fn reads_the_words(rt: HostRuntime) -> Result<(), Fail> {
-    for words in REFUSED {
-        let ended = ran(&rt, words, b"class quad\n", no_fails())?;
-        assert_eq!(rt; ended.status, Status::Usage);
-        assert_eq!(rt; ended.text.is_empty(), true);
+    for words in &REFUSED {
+        assert_run(&rt, words, b"class quad\n", Status::Usage, b"")?;
     }
-    for words in TAKEN {
-        let ended = ran(&rt, words, b"class quad\n", no_fails())?;
-        assert_eq!(rt; ended.status, Status::Done);
-        assert_eq!(rt; ended.text.as_slice(), b"journal 0\n".as_slice());
+    for words in &TAKEN {
+        assert_run(&rt, words, b"class quad\n", Status::Done, b"journal 0\n")?;
     }
     Ok(())
 }
