@@ -91,6 +91,7 @@ fn hold_anew<O: OpClass>(
 /// Settles the latches of an insert after a section that changed pages. Once the row is put all are
 /// given free. Else the insert takes that of the block on which it stands now, and gives that of the
 /// block on which it stood free, unless the tuple above is on it.
+#[inline(always)]
 pub(crate) fn settle_latches<O: OpClass>(
     table: &mut PageTable,
     descent: &Descent<O>,

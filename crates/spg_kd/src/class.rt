@@ -132,6 +132,7 @@ impl OpClass for Kd {
         self.inner_consistent_in_place(alloc, recon, &tuple.in_place(), conds)
     }
 
+    #[inline(always)]
     fn choose_in_place(
         &self,
         alloc: Global,

@@ -134,6 +134,7 @@ impl OpClass for Quad {
         self.inner_consistent_in_place(alloc, recon, &tuple.in_place(), conds)
     }
 
+    #[inline(always)]
     fn choose_in_place(
         &self,
         alloc: Global,

@@ -96,6 +96,7 @@ pub fn nodes_at(tuple: &InnerRef<'_>) -> QuadNodes
 
 /// The node to which a rest goes: the first one where the tuple is all-the-same.
 #[tactic(auto, unfolding(spg_points::specs::PointClass::node_for))]
+#[inline(always)]
 pub fn choose_node(tuple: &InnerRef<'_>, rest: &[u8]) -> u16
     ensures { (recon : Recon) → result ≡ node_for quad recon (shown tuple.now) rest.now }
 {
