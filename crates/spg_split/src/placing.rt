@@ -132,7 +132,7 @@ pub(crate) fn put_range(
         let head = put_list(page, &mut unwritten, leaves, node_of, node as u16);
         links.set(node, link_to(block, head));
     }
-    page.write_rest(&mut unwritten);
+    page.write_rest(unwritten);
 }
 
 /// Adds the leaf tuples of each node to a page, as a chain of its own, and sets the downlinks to
