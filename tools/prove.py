@@ -8,13 +8,12 @@ Each crate has all processors. What was proved is kept beside its sources, so th
 after a change proves only what changed and the crates above."""
 
 import os
-import re
 import subprocess
 import sys
 import time
 
-TOP = os.path.dirname(os.path.dirname(os.path.realpath(__file__)))
-PROGRAM = "spg_main"
+from sources import PROGRAM, PROVED, PROVED_SUM, TOP, crates_of_program, require_toolchain, say, sum_of_sources
+
 # A crate that is kept from an earlier run takes less.
 KEPT_SECONDS = 5
 # Seconds that each crate took in a first run on four processors that did nothing else. What is left is reckoned by them.
@@ -25,29 +24,16 @@ SECONDS = {
     "spg_vacuum": 28, "spg_scan": 94, "spg_seats": 10, "spg_core": 220, "spg_image": 19, "spg_turn": 24,
     "spg_desk": 130, "spg_script": 64, "spg_report": 20, "spg_histories": 10, "spg_perform": 212,
     "spg_app": 165, "spg_main": 153,
+    # Guessed by what they took on a busy machine.
+    "spg_bounds": 30, "spg_clauses": 20, "spg_survey": 60, "spg_keys": 50, "spg_verdict": 16, "spg_adopt": 10,
+    "spg_verify": 10, "spg_whole": 80,
 }
 # A crate that was not measured.
 OTHER_SECONDS = 60
 
 
-def crates_of_program():
-    """The program's crates in the order of crates.txt, which has each behind those that it stands on."""
-    below = {}
-    with open(f"{TOP}/crates.txt", encoding="utf-8") as lines:
-        for line in lines:
-            found = re.match(r"(spg_\w+)[^:]*:(.*)", line)
-            if found:
-                named = re.findall(r"spg_\w+", found[2])
-                below[found[1]] = set(named).union(*(below[it] for it in named))
-    return [crate for crate in below if crate in below[PROGRAM] or crate == PROGRAM]
-
-
 def seconds_of(crates):
     return sum(SECONDS.get(crate, OTHER_SECONDS) for crate in crates)
-
-
-def say(words):
-    print(f"spgist: {words}", file=sys.stderr, flush=True)
 
 
 def prove(crate):
@@ -85,18 +71,42 @@ class Pace:
         return pace * seconds_of(crates) / 60
 
 
-def main():
-    crates = crates_of_program()
-    say(f"proving {len(crates)} crates: this happens once, and after a change of them")
+def prove_all(crates):
     pace = Pace()
     for number, crate in enumerate(crates, start=1):
         began = time.monotonic()
         prove(crate)
         pace.add(crate, time.monotonic() - began)
         left = crates[number:]
-        words = f"; some {pace.minutes(left) + 1:.0f} minutes left" if left else ""
-        say(f"{crate}, {number} of {len(crates)}{words}")
+        if left:
+            say(f"{crate}, {number} of {len(crates)}; some {pace.minutes(left) + 1:.0f} minutes left")
+
+
+def keep(sources, began):
+    """Writes down of which sources the program was built. One that changed meanwhile is newer than the program."""
+    os.makedirs(os.path.dirname(PROVED_SUM), exist_ok=True)
+    with open(PROVED_SUM, "w", encoding="utf-8") as it:
+        it.write(sources)
+    os.utime(PROVED, (began, began))
+
+
+def main():
+    require_toolchain()
+    crates = crates_of_program()
+    say(f"proving {len(crates)} crates: this happens once, and after a change of them")
+    # File systems keep times a little late.
+    began, sources = time.time() - 1, sum_of_sources(with_proofs=True)
+    prove_all(crates)
+    keep(sources, began)
+    if sources != sum_of_sources(with_proofs=True):
+        say("a source changed meanwhile: start again")
+        sys.exit(1)
+    say(f"all {len(crates)} crates are proved and the program is built, in some {(time.time() - began) / 60 + 1:.0f} minutes; `./spgist` runs it")
 
 
 if __name__ == "__main__":
-    main()
+    try:
+        main()
+    except KeyboardInterrupt:
+        say("stopped; the next start goes on there")
+        sys.exit(130)

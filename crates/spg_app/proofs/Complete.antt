@@ -12,12 +12,13 @@ use Rattle.spg_report.specs.declared.outcome.Outcome.TheVariants as outcome
 use Rattle.spg_report.specs.declared.record.Record.{Record}
 use Rattle.spg_histories.specs.Ending.{Writing, all_taken, write_failed, memory_wanting, any_outcome, is_fault, is_memory, status_after}
 use Rattle.spg_histories.specs.declared.status.Status.{Status}
-use Rattle.spg_histories.specs.declared.status.Status.TheVariants.{Done, Usage, BadScript, ReadFault, WriteFault, ImageFault, Memory}
+use Rattle.spg_histories.specs.declared.status.Status.TheVariants.{Done, Usage, BadScript, ReadFault, WriteFault, ImageFault, BadImage, Memory}
 use Rattle.spg_perform.specs.Session.{is_image_fault, image_faults, RoseBy}
 use Rattle.spg_app.specs.declared.end_state.EndState.{EndState}
 use Rattle.spg_app.specs.declared.end_state.EndState.TheVariants as state
 use Rattle.spg_app.specs.Ending.{Outlets}
-use Rattle.spg_app.specs.Headline.{Streams, GaveScript, IsBadScript, EndsRun, IsRun, HoldsScript, HoldsNoScript, NoFault}
+use Rattle.spg_app.specs.Headline.{Streams, GaveScript, IsBadScript, IsRefusal, EndsRun, IsStopped, IsRun, HoldsScript, HoldsNoScript, HoldsImageFor, NoFault}
+use Rattle.spg_app.proofs.Images.{good_fails, refusal_complete}
 use Rattle.spg_script.proofs.Scripts.{exact}
 
 -- ---- what a source that tells its bytes gave
@@ -30,10 +31,17 @@ no_shorter : (all : List ℕ) (left : Option (List ℕ)) (bytes : List ℕ) → 
 no_shorter all None bytes read = absurd read
 no_shorter all (Some rest) bytes read = omega (arith, ap length read, length-append bytes rest)
 
-gave_script : (left left_after : Option (List ℕ)) (n : ℕ) → HoldsScript left → IsBadScript left left_after n → ⊥
-gave_script None left_after n holds gave = holds
-gave_script (Some all) left_after n holds (inl refused) = refused.none holds.0.0 (subst (λ l. IsScript l holds.0.0) (whole all left_after refused.bytes refused.read.0 refused.read.1) holds.0.1)
-gave_script (Some all) left_after n holds (inr more) = omega (arith, no_shorter all left_after more.1.0 more.1.1, more.1.2, holds.1)
+pub gave_script : (left left_after : Option (List ℕ)) (n : ℕ) (P : Script → Type 0) → HoldsScript left P → IsBadScript left left_after n → ⊥
+gave_script None left_after n P holds gave = holds
+gave_script (Some all) left_after n P holds (inl refused) = refused.none holds.0.0 (subst (λ l. IsScript l holds.0.0) (whole all left_after refused.bytes refused.read.0 refused.read.1) holds.0.1)
+gave_script (Some all) left_after n P holds (inr more) = omega (arith, no_shorter all left_after more.1.0 more.1.1, more.1.2, holds.1)
+
+-- the script that was given is the one that is held
+pub same_script : (left left_after : Option (List ℕ)) (P : Script → Type 0) (script : Script) → HoldsScript left P → GaveScript left left_after script → P script
+same_script None left_after P script holds gave = absurd holds
+same_script (Some all) left_after P script holds gave =
+    let is : IsScript all script = subst (λ l. IsScript l script) (sym (whole all left_after gave.bytes gave.read.0 gave.read.1)) gave.is_script in
+    subst P (exact.one all holds.0.0 script holds.0.1 is) holds.0.2
 
 -- ---- completeness
 
@@ -61,23 +69,35 @@ done_or_memory memory_wanting records f f_after g g_after cause by no_write no_i
 done_or_memory all_taken records f f_after g g_after cause by no_write no_image =
     decide (any_outcome is_fault records) (any_outcome is_memory records) (λ is. no_image (rose (image_faults records) g g_after (fault_counts records is) by))
 
-ran_complete : (limit : ℕ) (io : Streams) (out : Outlets) (status : Status) (end : EndState) → EndsRun limit io out status end → NoFault io out → (status ≡ Done) ⊎ (status ≡ Memory)
-ran_complete limit io out status (state.Quad seen) ran no_fault =
+ran_complete : (limit : ℕ) (from : Option (List ℕ)) (io : Streams) (out : Outlets) (status : Status) (end : EndState) → EndsRun limit from io out status end → NoFault io out → (status ≡ Done) ⊎ (status ≡ Memory)
+ran_complete limit from io out status (state.Quad seen) ran no_fault =
     subst (λ s. (s ≡ Done) ⊎ (s ≡ Memory)) (sym ran.run.status_is) (done_or_memory ran.run.writing ran.run.records _ _ _ _ ran.run.cause ran.run.session.faults no_fault.writing no_fault.saving)
-ran_complete limit io out status (state.Kd seen) ran no_fault =
+ran_complete limit from io out status (state.Kd seen) ran no_fault =
     subst (λ s. (s ≡ Done) ⊎ (s ≡ Memory)) (sym ran.run.status_is) (done_or_memory ran.run.writing ran.run.records _ _ _ _ ran.run.cause ran.run.session.faults no_fault.writing no_fault.saving)
-ran_complete limit io out status (state.Radix seen) ran no_fault =
+ran_complete limit from io out status (state.Radix seen) ran no_fault =
     subst (λ s. (s ≡ Done) ⊎ (s ≡ Memory)) (sym ran.run.status_is) (done_or_memory ran.run.writing ran.run.records _ _ _ _ ran.run.cause ran.run.session.faults no_fault.writing no_fault.saving)
 
-pub complete : (limit : ℕ) (io : Streams) (out : Outlets) (status : Status) (end : Option EndState) → IsRun limit io out status end → HoldsScript io.left → NoFault io out → (status ≡ Done) ⊎ (status ≡ Memory)
-complete limit io out status (Some end) run holds no_fault = ran_complete limit io out status end run no_fault
-complete limit io out Done None run holds no_fault = inl refl
-complete limit io out Memory None run holds no_fault = inr refl
-complete limit io out Usage None run holds no_fault = absurd run.0
-complete limit io out (BadScript n) None run holds no_fault = absurd (gave_script io.left io.left_after n holds run.0)
-complete limit io out ReadFault None run holds no_fault = absurd (no_fault.reading run.0)
-complete limit io out WriteFault None run holds no_fault = absurd run.0
-complete limit io out ImageFault None run holds no_fault = absurd run.0
+-- where a script is held and no read fails, memory was wanting
+pub script_refused : (io : Streams) (status : Status) (P : Script → Type 0) → IsRefusal io.left io.left_after io.read_faults io.read_faults_after status → HoldsScript io.left P → (Rose io.read_faults io.read_faults_after → ⊥) → status ≡ Memory
+script_refused io Memory P r holds no_fault = refl
+script_refused io (BadScript n) P r holds no_fault = absurd (gave_script io.left io.left_after n P holds r)
+script_refused io ReadFault P r holds no_fault = absurd (no_fault r)
+script_refused io Done P r holds no_fault = absurd r
+script_refused io Usage P r holds no_fault = absurd r
+script_refused io WriteFault P r holds no_fault = absurd r
+script_refused io ImageFault P r holds no_fault = absurd r
+script_refused io (BadImage block reason) P r holds no_fault = absurd r
+
+stopped_complete : (limit : ℕ) (name : List ℕ) (io : Streams) (out : Outlets) (status : Status) → IsStopped limit name io out status → HoldsScript io.left (HoldsImageFor limit (Some name) out.images.held) → NoFault io out → (status ≡ Done) ⊎ (status ≡ Memory)
+stopped_complete limit name io out status stopped holds no_fault =
+    refusal_complete _ _ (good_fails stopped.script.class limit) name out.images out.images_after status stopped.refusal
+    (same_script io.left io.left_after (HoldsImageFor limit (Some name) out.images.held) stopped.script holds stopped.gave) no_fault.saving
+
+pub complete : (limit : ℕ) (from : Option (List ℕ)) (io : Streams) (out : Outlets) (status : Status) (end : Option EndState) → IsRun limit from io out status end → HoldsScript io.left (HoldsImageFor limit from out.images.held) → NoFault io out → (status ≡ Done) ⊎ (status ≡ Memory)
+complete limit from io out status (Some end) run holds no_fault = ran_complete limit from io out status end run no_fault
+complete limit from io out status None (inl (refusal, left)) holds no_fault = inr (script_refused io status (HoldsImageFor limit from out.images.held) refusal holds no_fault.reading)
+complete limit None io out status None (inr stopped) holds no_fault = absurd stopped
+complete limit (Some name) io out status None (inr stopped) holds no_fault = stopped_complete limit name io out status stopped holds no_fault
 
 -- ---- the first bad line is one line
 
@@ -103,10 +123,10 @@ no_script_given None left_after n script holds gave = holds
 no_script_given (Some all) left_after n script (inl bad) gave = exact.not_bad all n bad.1 script (subst (λ l. IsScript l script) (sym (whole all left_after gave.bytes gave.read.0 gave.read.1)) gave.is_script)
 no_script_given (Some all) left_after n script (inr long) gave = omega (arith, gave.short, long.0, ap length (whole all left_after gave.bytes gave.read.0 gave.read.1))
 
-no_run : (limit : ℕ) (io : Streams) (out : Outlets) (status : Status) (n : ℕ) (end : EndState) → HoldsNoScript io.left n → EndsRun limit io out status end → ⊥
-no_run limit io out status n (state.Quad seen) holds ran = no_script_given io.left io.left_after n ran.script holds ran.gave
-no_run limit io out status n (state.Kd seen) holds ran = no_script_given io.left io.left_after n ran.script holds ran.gave
-no_run limit io out status n (state.Radix seen) holds ran = no_script_given io.left io.left_after n ran.script holds ran.gave
+no_run : (limit : ℕ) (from : Option (List ℕ)) (io : Streams) (out : Outlets) (status : Status) (n : ℕ) (end : EndState) → HoldsNoScript io.left n → EndsRun limit from io out status end → ⊥
+no_run limit from io out status n (state.Quad seen) holds ran = no_script_given io.left io.left_after n ran.script holds ran.gave
+no_run limit from io out status n (state.Kd seen) holds ran = no_script_given io.left io.left_after n ran.script holds ran.gave
+no_run limit from io out status n (state.Radix seen) holds ran = no_script_given io.left io.left_after n ran.script holds ran.gave
 
 same_line : (left left_after : Option (List ℕ)) (m n : ℕ) → HoldsNoScript left n → IsBadScript left left_after m → m ≡ n
 same_line None left_after m n holds gave = absurd holds
@@ -115,13 +135,19 @@ same_line (Some all) left_after m n (inl bad) (inr more) = absurd (omega (arith,
 same_line (Some all) left_after m n (inr long) (inl gave) = absurd (omega (arith, gave.short, long.0, ap length (whole all left_after gave.bytes gave.read.0 gave.read.1)))
 same_line (Some all) left_after m n (inr long) (inr more) = more.0 ∙ sym long.1
 
-pub refused : (limit : ℕ) (io : Streams) (out : Outlets) (status : Status) (end : Option EndState) → IsRun limit io out status end → (n : ℕ) → HoldsNoScript io.left n → (Rose io.read_faults io.read_faults_after → ⊥)
+line_refused : (io : Streams) (status : Status) (n : ℕ) → IsRefusal io.left io.left_after io.read_faults io.read_faults_after status → HoldsNoScript io.left n → (Rose io.read_faults io.read_faults_after → ⊥) → (status ≡ BadScript n) ⊎ (status ≡ Memory)
+line_refused io Memory n r holds no_fault = inr refl
+line_refused io (BadScript m) n r holds no_fault = inl (ap (λ k. BadScript k) (same_line io.left io.left_after m n holds r))
+line_refused io Done n r holds no_fault = absurd r
+line_refused io Usage n r holds no_fault = absurd r
+line_refused io ReadFault n r holds no_fault = absurd (no_fault r)
+line_refused io WriteFault n r holds no_fault = absurd r
+line_refused io ImageFault n r holds no_fault = absurd r
+line_refused io (BadImage block reason) n r holds no_fault = absurd r
+
+pub refused : (limit : ℕ) (from : Option (List ℕ)) (io : Streams) (out : Outlets) (status : Status) (end : Option EndState) → IsRun limit from io out status end → (n : ℕ) → HoldsNoScript io.left n → (Rose io.read_faults io.read_faults_after → ⊥)
     → (status ≡ BadScript n) ⊎ (status ≡ Memory)
-refused limit io out status (Some end) run n holds no_fault = absurd (no_run limit io out status n end holds run)
-refused limit io out Memory None run n holds no_fault = inr refl
-refused limit io out (BadScript m) None run n holds no_fault = inl (ap (λ k. BadScript k) (same_line io.left io.left_after m n holds run.0))
-refused limit io out Done None run n holds no_fault = absurd run.0
-refused limit io out Usage None run n holds no_fault = absurd run.0
-refused limit io out ReadFault None run n holds no_fault = absurd (no_fault run.0)
-refused limit io out WriteFault None run n holds no_fault = absurd run.0
-refused limit io out ImageFault None run n holds no_fault = absurd run.0
+refused limit from io out status (Some end) run n holds no_fault = absurd (no_run limit from io out status n end holds run)
+refused limit from io out status None (inl (refusal, left)) n holds no_fault = line_refused io status n refusal holds no_fault
+refused limit None io out status None (inr stopped) n holds no_fault = absurd stopped
+refused limit (Some name) io out status None (inr stopped) n holds no_fault = absurd (no_script_given io.left io.left_after n stopped.script holds stopped.gave)

@@ -1,4 +1,10 @@
 pub mod Streams
 pub mod Outcomes
+pub mod Begins
+pub mod Earlier
+pub mod Images
 pub mod Complete
+pub mod Refused
+pub mod Lines
+pub mod RunEnds
 pub mod LoadEnds

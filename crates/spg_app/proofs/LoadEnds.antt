@@ -11,10 +11,8 @@ use Rattle.spg_histories.specs.declared.status.Status.{Status}
 use Rattle.spg_histories.specs.declared.status.Status.TheVariants.{Done, Memory}
 use Rattle.spg_app.specs.declared.end_state.EndState.{EndState}
 use Rattle.spg_app.specs.declared.end_state.EndState.TheVariants as state
-use Rattle.spg_app.specs.declared.load.Load.{Load}
+use Rattle.spg_words.specs.declared.load.Load.{Load}
 use Rattle.spg_app.specs.Ending.{Outlets}
-use Rattle.spg_app.specs.Words.{IsRunLine}
-use Rattle.spg_app.specs.LoadWords.{load_of}
 use Rattle.spg_app.specs.Summary.{summary}
 use Rattle.spg_app.specs.Loads.{RanLoad, EndsLoad, script_of, EndsGen, IsGen}
 use Rattle.spg_app.specs.Headline.{Streams, NoFault, ended}
@@ -34,12 +32,6 @@ pub gen_ended : {O Key Recon Cond : Type 0} (m : Meaning Key Recon Cond) (speech
 gen_ended m speech code load out script state of_class (status, Some seen) answer same is ends =
     subst (λ (a : Status × Option EndState). IsGen load out a.0 a.1) (sym is) (of_class status seen (subst (λ (s : Script). RanLoad m speech code s out status seen) same ends))
 gen_ended m speech code load out script state of_class (status, None) answer same is ends = subst (λ (a : Status × Option EndState). IsGen load out a.0 a.1) (sym is) ends
-
--- words of `run` ask for no load
-pub run_is_no_load : (limit : ℕ) (words : List (List ℕ)) → IsRunLine limit words → load_of words ≡ None
-run_is_no_load limit words (inl alone) = ap load_of alone.0
-run_is_no_load limit words (inr (inl apart)) = ap load_of apart.2
-run_is_no_load limit words (inr (inr joined)) = ap load_of joined.2
 
 ran_complete : (load : Load) (io : Streams) (out : Outlets) (status : Status) (end : EndState) → EndsGen load out status end → NoFault io out → (status ≡ Done) ⊎ (status ≡ Memory)
 ran_complete load io out status (state.Quad seen) (is, ran) no_fault =

@@ -15,7 +15,8 @@ use Rattle.std.specs.Io.KnownBytes.{Appends}
 use Rattle.spg_io.specs.Causes.{Rose, HasCauseIfFailed}
 use Rattle.spg_io.specs.declared.sink.IoRefused.{IoRefused}
 use Rattle.spg_io.specs.declared.sink.IoRefused.TheVariants as refused
-use Rattle.spg_histories.specs.Ending.{any_outcome, write_failed}
+use Rattle.spg_histories.specs.Ending.{any_outcome, all_taken, write_failed}
+use Rattle.spg_histories.specs.Exact.{RunFits}
 use Rattle.spg_histories.specs.Answer.{Wrote}
 use Rattle.spg_app.specs.Io.{WroteSome}
 use Rattle.spg_app.specs.Ending.{writing_of}
@@ -39,6 +40,16 @@ cause_of (Err refused.Memory) before now cause is = absurd (cc)
 
 pub wrote_as : (result : Result Unit IoRefused) (old new : Option (List ℕ)) (whole whole2 : List ℕ) → whole ≡ whole2 → OnOk result (Appends old new whole) → OnErr result (WroteSome old new whole) → Wrote (writing_of result) old new whole2
 wrote_as result old new whole whole2 is all some = subst (λ t. Wrote (writing_of result) old new t) is (wrote_of result old new whole all some)
+
+-- the numbers of what was taken whole fit their types
+fits_of : {O Key Recon Cond : Type 0} (result : Result Unit IoRefused) (journal : List (Event O Key Recon Cond)) (records : List Record) → OnOk result (RunFits journal records) → writing_of result ≡ all_taken → RunFits journal records
+fits_of (Ok done) journal records fits is = fits
+fits_of (Err refused.Failed) journal records fits is = absurd (cc)
+fits_of (Err refused.Memory) journal records fits is = absurd (cc)
+
+pub fits_as : {O Key Recon Cond : Type 0} (result : Result Unit IoRefused) (journal journal2 : List (Event O Key Recon Cond)) (records records2 : List Record) → journal ≡ journal2 → records ≡ records2
+    → OnOk result (RunFits journal records) → writing_of result ≡ all_taken → RunFits journal2 records2
+fits_as result journal journal2 records records2 same same2 fits is = subst (λ rs. RunFits journal2 rs) same2 (subst (λ j. RunFits j records) same (fits_of result journal records fits is))
 
 module _ {O Key Recon Cond : Type 0} (speech : Speech Key Cond) where
   pub text_same : (journal journal2 : List (Event O Key Recon Cond)) (records records2 : List Record) → journal ≡ journal2 → records ≡ records2 → text speech journal records ≡ text speech journal2 records2

@@ -1,5 +1,6 @@
 -- Reading and writing in several calls.
-use Rattle.std.proofs.Common.{◌≡◌, ◌<◌, ◌+◌, ℕ, List, [], ◌∷◌, ◌++◌, drop, length, get_or, Result, Ok, Err, OnErr, refl, sym, ap, subst, ◌∙◌}
+use Rattle.std.proofs.Common.{◌≡◌, ◌<◌, ◌+◌, ◌^◌, ℕ, List, [], ◌∷◌, ◌++◌, drop, length, get_or, Result, Ok, Err, OnOk, OnErr, refl, sym, ap, subst, ◌∙◌}
+use Rattle.std.specs.List.{AllByRecursion}
 use Rattle.std.specs.declared.option.Option.{Option}
 use Rattle.std.proofs.lemmas.List.{append_assoc, append-nil, at_drop_more}
 use Rattle.std.specs.Io.KnownBytes.{Appends}
@@ -8,6 +9,8 @@ use Rattle.spg_app.specs.Io.{Wrote, WroteSome}
 use Rattle.spg_rows.specs.declared.event.Event.{Event}
 use Rattle.spg_report.specs.declared.record.Record.{Record}
 use Rattle.spg_script.specs.Speech.{Speech}
+use Rattle.spg_report.specs.Told.{FitsRecord}
+use Rattle.spg_histories.specs.Exact.{FitsTypes, RunFits}
 use Rattle.spg_report.specs.Text.{text, ended, journal_text, result_text, result_lines, event_text, event_lines}
 
 pub ended-append : (xs ys : List (List ℕ)) → ended (xs ++ ys) ≡ ended xs ++ ended ys
@@ -86,3 +89,9 @@ module _ {O Key Recon Cond : Type 0} (speech : Speech Key Cond) where
 
 pub lines_more : (lines : List (List ℕ)) (i : ℕ) (one : List ℕ) → i < length lines → one ≡ get_or lines i one → ended (drop i lines) ≡ (one ++ 10 ∷ []) ++ ended (drop (i + 1) lines)
 lines_more lines i one within is = at_drop_more ended lines i one within ∙ ap (λ (line : List ℕ). (line ++ 10 ∷ []) ++ ended (drop (i + 1) lines)) (sym is)
+
+-- numbers that fit, where all was written
+pub run_fits : {O Key Recon Cond T E : Type 0} (r : Result T E) (journal : List (Event O Key Recon Cond)) (records : List Record) → OnOk r (length journal < 2 ^ 64) → OnOk r (AllByRecursion FitsTypes journal) → 1 + length records < 2 ^ 64 → AllByRecursion FitsRecord records
+    → OnOk r (RunFits journal records)
+run_fits (Ok done) journal records short each few fit = record { short = short; few = few; events = each; records_fit = fit }
+run_fits (Err refused) journal records short each few fit = tt

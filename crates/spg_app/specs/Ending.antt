@@ -1,11 +1,12 @@
 -- How the commands of a script end.
-use Rattle.std.specs.Prelude.{◌≡◌, ℕ, false, List, [], Option, Some, None, Result, Ok, Err}
+use Rattle.std.specs.Prelude.{◌≡◌, ℕ, List, Option, Some, None, Result, Ok, Err}
 use Rattle.spg_base.specs.declared.recorded.Origin.{Origin}
 use Rattle.spg_io.specs.Held.{Holding}
 use Rattle.spg_io.specs.Causes.{Rose}
 use Rattle.spg_io.specs.declared.sink.IoRefused.{IoRefused}
 use Rattle.spg_io.specs.declared.sink.IoRefused.TheVariants as refused
 use Rattle.spg_opclass.specs.Meaning.{Meaning}
+use Rattle.spg_rows.specs.declared.entry.Entry.{Entry}
 use Rattle.spg_core.specs.Seen.{Seen}
 use Rattle.spg_script.specs.Blocks.{Script}
 use Rattle.spg_script.specs.Speech.{Speech}
@@ -14,13 +15,10 @@ use Rattle.spg_report.specs.Text.{text}
 use Rattle.spg_histories.specs.Tasks.{tasks_of}
 use Rattle.spg_histories.specs.Ending.{Writing, all_taken, write_failed, memory_wanting, status_after}
 use Rattle.spg_histories.specs.Answer.{Wrote}
+use Rattle.spg_histories.specs.Exact.{RunFits}
 use Rattle.spg_histories.specs.declared.status.Status.{Status}
-use Rattle.spg_histories.specs.declared.status.Status.TheVariants as answer
 use Rattle.spg_perform.specs.Session.{Outside, Session}
-
--- with what the state of a run is made
-abbrev pub made_with : ℕ → Origin
-made_with limit = record { limit = limit; pages = 3; clock = 0; loaded = false }
+use Rattle.spg_app.specs.Beginning.{Begins, IsUnbegun, IsLeft, outside}
 
 -- what writing the text met
 abbrev pub writing_of : Result Unit IoRefused → Writing
@@ -43,16 +41,21 @@ outlets taken taken_after f f_after held held_after g g_after = record {
   taken_after = taken_after;
   write_faults = f;
   write_faults_after = f_after;
-  images = record { held = held; faults = g };
-  images_after = record { held = held_after; faults = g_after };
+  images = outside held g;
+  images_after = outside held_after g_after;
 }
 
--- The commands of the script were done on a new state of this limit, and led to this one. The sink took the text of the run, or a front of it where it failed or memory was wanting; the status is the first that applies
-pub record RanCommands {O Key Recon Cond : Type 0} (m : Meaning Key Recon Cond) (speech : Speech Key Cond) (code limit : ℕ) (script : Script) (out : Outlets) (status : Status) (seen : Seen O Key Recon Cond) : Type 0 where
+-- The commands of the script were done, on a new state of this limit or on that of an image, and led to this one. The sink took the text of the run, or a front of it where it failed or memory was wanting; the status is the first that applies
+pub record RanCommands {O Key Recon Cond : Type 0} (m : Meaning Key Recon Cond) (speech : Speech Key Cond) (code limit : ℕ) (from : Option (List ℕ)) (script : Script) (out : Outlets) (status : Status) (seen : Seen O Key Recon Cond) : Type 0 where
+  pub loaded : List (Entry Key)
+  pub origin : Origin
+  pub begun : Begins m code limit from out.images.held loaded origin
   pub records : List Record
-  pub session : Session m speech code [] (made_with limit) out.images out.images_after (tasks_of script) seen records
+  pub session : Session m speech code loaded origin out.images out.images_after (tasks_of script) seen records
   pub writing : Writing
   pub wrote : Wrote writing out.taken out.taken_after (text speech seen.journal records)
+  -- numbers of a text that was taken whole fit their types, so it says all of the run
+  pub fits : writing ≡ all_taken → RunFits seen.journal records
   pub cause : writing ≡ write_failed → Rose out.write_faults out.write_faults_after
   pub status_is : status ≡ status_after writing records
 
@@ -61,7 +64,12 @@ pub record LeftAlone (out : Outlets) : Type 0 where
   pub sink : out.taken_after ≡ out.taken
   pub images : out.images_after ≡ out.images
 
--- no state is handed back where memory was wanting before the first command
-abbrev pub Ends : {O Key Recon Cond : Type 0} → Meaning Key Recon Cond → Speech Key Cond → ℕ → ℕ → Script → Outlets → Status → Option (Seen O Key Recon Cond) → Type 0
-Ends m speech code limit script out status (Some seen) = RanCommands m speech code limit script out status seen
-Ends m speech code limit script out status None = (status ≡ answer.Memory) × LeftAlone out
+-- the sink took nothing, and the images were read at most
+pub record Unwritten (from : Option (List ℕ)) (out : Outlets) : Type 0 where
+  pub sink : out.taken_after ≡ out.taken
+  pub images : IsLeft from out.images out.images_after
+
+-- no state is handed back where the commands did not begin
+abbrev pub Ends : {O Key Recon Cond : Type 0} → Meaning Key Recon Cond → Speech Key Cond → ℕ → ℕ → Option (List ℕ) → Script → Outlets → Status → Option (Seen O Key Recon Cond) → Type 0
+Ends m speech code limit from script out status (Some seen) = RanCommands m speech code limit from script out status seen
+Ends m speech code limit from script out status None = IsUnbegun m code limit from out.images out.images_after status × Unwritten from out

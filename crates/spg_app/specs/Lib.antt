@@ -1,7 +1,10 @@
 pub mod Io
-pub mod Words
+pub mod Reasons
+pub mod Beginning
 pub mod Ending
-pub mod LoadWords
+pub mod Checks
 pub mod Summary
 pub mod Loads
 pub mod Headline
+pub mod Farewell
+pub mod Alike

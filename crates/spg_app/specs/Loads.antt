@@ -19,15 +19,16 @@ use Rattle.spg_histories.specs.declared.status.Status.TheVariants as answer
 use Rattle.spg_perform.specs.Session.{Session}
 use Rattle.spg_app.specs.declared.end_state.EndState.{EndState}
 use Rattle.spg_app.specs.declared.end_state.EndState.TheVariants.{Quad, Kd, Radix}
-use Rattle.spg_app.specs.declared.load.Load.{Load}
-use Rattle.spg_app.specs.declared.words.TheConstants.{USUAL_PAGES}
-use Rattle.spg_app.specs.Ending.{Outlets, LeftAlone, made_with}
+use Rattle.spg_words.specs.declared.load.Load.{Load}
+use Rattle.spg_words.specs.Numbers.{usual_pages}
+use Rattle.spg_app.specs.Beginning.{made_with}
+use Rattle.spg_app.specs.Ending.{Outlets, LeftAlone}
 use Rattle.spg_app.specs.Summary.{summary}
 
 -- The commands of the script were done on a new state of the usual limit, and led to this one. The sink took the summary of the run, or a front of it where it failed or memory was wanting; the status is the first that applies
 pub record RanLoad {O Key Recon Cond : Type 0} (m : Meaning Key Recon Cond) (speech : Speech Key Cond) (code : ℕ) (script : Script) (out : Outlets) (status : Status) (seen : Seen O Key Recon Cond) : Type 0 where
   pub records : List Record
-  pub session : Session m speech code [] (made_with USUAL_PAGES) out.images out.images_after (tasks_of script) seen records
+  pub session : Session m speech code [] (made_with usual_pages) out.images out.images_after (tasks_of script) seen records
   pub writing : Writing
   pub wrote : Wrote writing out.taken out.taken_after (summary seen.journal records)
   pub cause : writing ≡ write_failed → Rose out.write_faults out.write_faults_after

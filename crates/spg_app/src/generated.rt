@@ -1,14 +1,12 @@
 ghost use Rattle.std.specs.Prelude.{◌≡◌};
 ghost use Rattle.spg_perform.specs.Session.{IsOfClass};
 ghost use Rattle.spg_app.specs.Ending.{outlets};
-ghost use Rattle.spg_app.specs.LoadWords.{IsLoad};
+ghost use Rattle.spg_words.specs.Lines.{IsLoad};
 ghost use Rattle.spg_app.specs.Loads.{EndsLoad, IsGen};
 
 use crate::end_state::{EndState, kd_ended, quad_ended, radix_ended};
-use crate::load::Load;
 use crate::session::status_after;
 use crate::summary::write_summary;
-use crate::words::USUAL_PAGES;
 use spg_core::State;
 use spg_histories::Status;
 use spg_io::{Images, Sink};
@@ -18,6 +16,7 @@ use spg_perform::{Gate, perform};
 use spg_quad::Quad;
 use spg_radix::Radix;
 use spg_script::{ClassName, Script, Spoken, generate};
+use spg_words::{Load, USUAL_PAGES};
 use std::sync::Wait;
 use std::thread::Threads;
 

@@ -1,18 +1,23 @@
 //! The program: a script in, the text of its run out.
 #![tactic(auto)]
 
+mod beginning;
+mod check;
 mod end_state;
+mod farewell;
 mod generated;
-mod load;
-mod load_words;
+mod laws;
 mod program;
+mod reasons;
 mod session;
 mod stream;
 mod summary;
-mod words;
 mod writing;
 
 pub use end_state::EndState;
+pub use farewell::{Farewell, last_words};
+pub use laws::runs_say_all;
 pub use program::run;
 pub use spg_histories::Status;
 pub use spg_perform::Gate;
+pub use spg_script::BadLine;

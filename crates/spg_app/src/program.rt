@@ -1,30 +1,35 @@
-ghost use Rattle.std.specs.Prelude.{◌≡◌, ◌≤◌, ◌⊎◌, ℕ, Some, None, IfOk, IfErr, map, string_bytes};
+ghost use Rattle.std.specs.Prelude.{◌≡◌, ◌≤◌, ◌⊎◌, ℕ, List, Option, Some, None, IfOk, IfErr, map, string_bytes};
 ghost use Rattle.spg_io.specs.Causes.{Rose};
-ghost use Rattle.spg_app.specs.Words.{IsRunLine};
-ghost use Rattle.spg_app.specs.declared.load.Load.{Load};
-ghost use Rattle.spg_app.specs.LoadWords.{load_of};
+ghost use Rattle.spg_clauses.specs.declared.reason.Fault.{Fault};
+ghost use Rattle.spg_words.specs.Lines.{IsRunLine, IsCheckLine, IsLoadLine};
+ghost use Rattle.spg_words.specs.Reading.{word_in};
+ghost use Rattle.spg_words.specs.declared.load.Load.{Load};
 ghost use Rattle.spg_app.specs.Ending.{outlets};
-ghost use Rattle.spg_app.specs.Headline.{GaveScript, IsRefusal, IsRun, IsAnswer, HoldsScript, HoldsNoScript, NoFault, streams};
+ghost use Rattle.spg_app.specs.Headline.{GaveScript, IsRefusal, IsRun, IsAnswer, HoldsScript, HoldsNoScript, HoldsImageFor, HoldsNoImageFor, HoldsImage, HoldsNoImage, NoFault, streams};
 
+use crate::check::check_image;
 use crate::end_state::{EndState, kd_ended, quad_ended, radix_ended};
 use crate::generated::run_generated;
-use crate::load_words::load_of;
 use crate::session::run_commands;
 use crate::stream::{ReadRefused, read_all};
-use crate::words::limit_of;
 use spg_histories::Status;
 use spg_io::{Images, Sink, Source};
 use spg_kd::Kd;
 use spg_perform::Gate;
 use spg_quad::Quad;
 use spg_radix::Radix;
-use spg_script::{ClassName, Script, ScriptRefused, parse};
+use spg_script::{BadLine, ClassName, Script, ScriptRefused, parse};
+use spg_words::{RunLine, check_of, load_of, run_of};
 use std::alloc::Global;
 use std::sync::Wait;
 use std::thread::Threads;
 
-/// The script of a source, or the answer where there is none.
-fn read_script<S: Source>(alloc: Global, source: &mut S) -> Result<Script, Status>
+/// The script of a source, or the answer where there is none. The gate is told of a bad line.
+fn read_script<S: Source, G: Gate>(
+    alloc: Global,
+    source: &mut S,
+    gate: &G,
+) -> Result<Script, Status>
     ensures script { IfOk result (λ script. GaveScript (S.left source.old) (S.left source.new) script) }
     ensures status { IfErr result (λ status. IsRefusal (S.left source.old) (S.left source.new) (S.faults source.old) (S.faults source.new) status) }
 {
@@ -36,7 +41,10 @@ fn read_script<S: Source>(alloc: Global, source: &mut S) -> Result<Script, Statu
     };
     match parse(alloc, &bytes) {
         Ok(script) => Ok(script),
-        Err(ScriptRefused::BadLine(line)) => Err(Status::BadScript(line)),
+        Err(ScriptRefused::BadLine(line)) => {
+            gate.bad_line(&BadLine::of(&bytes, line));
+            Err(Status::BadScript(line))
+        }
         Err(ScriptRefused::Memory) => Err(Status::Memory),
     }
 }
@@ -44,38 +52,41 @@ fn read_script<S: Source>(alloc: Global, source: &mut S) -> Result<Script, Statu
 /// Reads a script, does its commands and writes the text of the run.
 fn run_script<R: AllocGlobal + Threads + Wait + Sync, S: Source, K: Sink, M: Images, G: Gate>(
     rt: &R,
-    limit: u32,
+    line: RunLine<'_>,
     source: &mut S,
     out: &mut K,
     images: &mut M,
     gate: &G,
 ) -> (Status, Option<EndState>)
-    requires from { 4 ≤ limit }
-    requires to { limit ≤ 131072 }
-    ensures { IsRun limit (streams (S.left source.old) (S.left source.new) (S.faults source.old) (S.faults source.new))
+    requires from { 4 ≤ line.limit }
+    requires to { line.limit ≤ 131072 }
+    ensures { IsRun line.entry.limit (word_in line.entry.from) (streams (S.left source.old) (S.left source.new) (S.faults source.old) (S.faults source.new))
         (outlets (K.contents out.old) (K.contents out.new) (K.faults out.old) (K.faults out.new)
         (M.held images.old) (M.held images.new) (M.faults images.old) (M.faults images.new)) result.0 result.1 }
 {
-    let script = match read_script(rt.alloc(), source) {
+    let script = match read_script(rt.alloc(), source, gate) {
         Ok(script) => script,
         Err(status) => return (status, None),
     };
     match script.class() {
-        ClassName::Quad => quad_ended(run_commands(rt, Quad, limit, &script, out, images, gate)),
-        ClassName::Kd => kd_ended(run_commands(rt, Kd, limit, &script, out, images, gate)),
-        ClassName::Radix => radix_ended(run_commands(rt, Radix, limit, &script, out, images, gate)),
+        ClassName::Quad => quad_ended(run_commands(rt, Quad, line, &script, out, images, gate)),
+        ClassName::Kd => kd_ended(run_commands(rt, Kd, line, &script, out, images, gate)),
+        ClassName::Radix => radix_ended(run_commands(rt, Radix, line, &script, out, images, gate)),
     }
 }
 
 /// The program: reads a script from the source, does its commands and writes the text of the run
-/// to the sink; what the script saves goes to the images. The words are `run`, `run --limit N` or
-/// `run --limit=N`, with N from 4 to 131,072 pages; without it N is 65,536. Or they are `gen COUNT SEED`
-/// with the options `--lanes N` and `--class C`: the script is the generated one, nothing is read, and
-/// the summary of the run is written. `Usage` comes exactly where they are none of these. Lanes run
-/// beside each other, and each asks the gate before each of its commands. `ReadFault` comes only where
-/// the source failed. `BadScript(n)` comes
+/// to the sink; what the script saves goes to the images. The words are `run` with the options
+/// `--limit N`, N from 4 to 131,072 pages, without it 65,536, and `--from NAME`: the run then goes on
+/// from the image of that name. Or they are `check NAME`: no script is read, and how many pages and
+/// entries the image has is written. Or they are `gen COUNT SEED` with the options `--lanes N` and
+/// `--class C`: the script is the generated one, nothing is read, and the summary of the run is written.
+/// `Usage` comes exactly where they are none of these. Lanes run beside each other, and each asks the
+/// gate before each of its commands. `ReadFault` comes only where the source failed. `BadScript(n)` comes
 /// exactly where the bytes are no script, and line `n`, counted from 1, is the first at which none can
-/// go on; `BadScript(0)` exactly where there are more than 67,108,864 bytes. Nothing is written then.
+/// go on; `BadScript(0)` exactly where there are more than 67,108,864 bytes. Behind a script
+/// `BadImage` comes exactly where the image fails a clause, with the first that it fails, as far as the
+/// images tell; `ImageFault` only where they failed. Nothing is written then.
 /// Once the commands have begun the state after the last one is handed back, and the status is the
 /// first of these that applies: `WriteFault` where the sink failed, `Memory` where there was none for
 /// writing, `ImageFault` and `Memory` where a record says so, else `Done`.
@@ -92,27 +103,54 @@ pub fn run<R: AllocGlobal + Threads + Wait + Sync, S: Source, K: Sink, M: Images
         (outlets (K.contents out.old) (K.contents out.new) (K.faults out.old) (K.faults out.new)
         (M.held images.old) (M.held images.new) (M.faults images.old) (M.faults images.new)) result.0 result.1 }
 
-    // A script is run, where no call fails.
-    ensures complete { (limit : ℕ) → IsRunLine limit (map string_bytes words.now) → HoldsScript (S.left script.old)
+    // A script is run, where no call fails, on an image too that fails no clause.
+    ensures complete { (limit : ℕ) → (from : Option (List ℕ)) → IsRunLine limit from (map string_bytes words.now)
+        → HoldsScript (S.left script.old) (HoldsImageFor limit from (M.held images.old))
         → NoFault (streams (S.left script.old) (S.left script.new) (S.faults script.old) (S.faults script.new))
         (outlets (K.contents out.old) (K.contents out.new) (K.faults out.old) (K.faults out.new)
         (M.held images.old) (M.held images.new) (M.faults images.old) (M.faults images.new))
         → (result.0 ≡ Status.Done) ⊎ (result.0 ≡ Status.Memory) }
 
     // What is no script is refused with its first bad line, where no read fails.
-    ensures no_script { (limit : ℕ) → IsRunLine limit (map string_bytes words.now) → (n : ℕ) → HoldsNoScript (S.left script.old) n
+    ensures no_script { (limit : ℕ) → (from : Option (List ℕ)) → IsRunLine limit from (map string_bytes words.now) → (n : ℕ) → HoldsNoScript (S.left script.old) n
         → ¬ Rose (S.faults script.old) (S.faults script.new)
         → (result.0 ≡ Status.BadScript n) ⊎ (result.0 ≡ Status.Memory) }
 
+    // What is no image of the script's class is refused with the first clause that it fails, where no call fails.
+    ensures no_image { (limit : ℕ) → (name : List ℕ) → IsRunLine limit (Some name) (map string_bytes words.now)
+        → (fault : Fault) → HoldsScript (S.left script.old) (HoldsNoImageFor limit name (M.held images.old) fault)
+        → NoFault (streams (S.left script.old) (S.left script.new) (S.faults script.old) (S.faults script.new))
+        (outlets (K.contents out.old) (K.contents out.new) (K.faults out.old) (K.faults out.new)
+        (M.held images.old) (M.held images.new) (M.faults images.old) (M.faults images.new))
+        → (result.0 ≡ Status.BadImage fault.block fault.reason) ⊎ (result.0 ≡ Status.Memory) }
+
     // A generated script is run, where no call fails.
-    ensures complete_load { (load : Load) → load_of (map string_bytes words.now) ≡ Some load
+    ensures complete_load { (load : Load) → IsLoadLine load (map string_bytes words.now)
         → NoFault (streams (S.left script.old) (S.left script.new) (S.faults script.old) (S.faults script.new))
         (outlets (K.contents out.old) (K.contents out.new) (K.faults out.old) (K.faults out.new)
         (M.held images.old) (M.held images.new) (M.faults images.old) (M.faults images.new))
         → (result.0 ≡ Status.Done) ⊎ (result.0 ≡ Status.Memory) }
+
+    // A check tells of an image that it is one, where no call fails.
+    ensures complete_check { (name : List ℕ) → IsCheckLine name (map string_bytes words.now) → HoldsImage name (M.held images.old)
+        → NoFault (streams (S.left script.old) (S.left script.new) (S.faults script.old) (S.faults script.new))
+        (outlets (K.contents out.old) (K.contents out.new) (K.faults out.old) (K.faults out.new)
+        (M.held images.old) (M.held images.new) (M.faults images.old) (M.faults images.new))
+        → (result.0 ≡ Status.Done) ⊎ (result.0 ≡ Status.Memory) }
+
+    // It refuses what is none with the first clause that it fails, where no call fails.
+    ensures refused_check { (name : List ℕ) → IsCheckLine name (map string_bytes words.now)
+        → (fault : Fault) → HoldsNoImage name (M.held images.old) fault
+        → NoFault (streams (S.left script.old) (S.left script.new) (S.faults script.old) (S.faults script.new))
+        (outlets (K.contents out.old) (K.contents out.new) (K.faults out.old) (K.faults out.new)
+        (M.held images.old) (M.held images.new) (M.faults images.old) (M.faults images.new))
+        → (result.0 ≡ Status.BadImage fault.block fault.reason) ⊎ (result.0 ≡ Status.Memory) }
 {
-    if let Some(limit) = limit_of(words) {
-        return run_script(rt, limit, script, out, images, gate);
+    if let Some(line) = run_of(words) {
+        return run_script(rt, line, script, out, images, gate);
+    }
+    if let Some(name) = check_of(words) {
+        return (check_image(rt.alloc(), name, out, images), None);
     }
     match load_of(words) {
         Some(load) => run_generated(rt, load, out, images, gate),

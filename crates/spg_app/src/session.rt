@@ -1,8 +1,10 @@
 ghost use Rattle.std.specs.Prelude.{◌≡◌, ◌≤◌};
 ghost use Rattle.spg_histories.specs.Ending.{any_outcome, is_fault, is_memory, status_after};
 ghost use Rattle.spg_perform.specs.Session.{IsOfClass};
+ghost use Rattle.spg_words.specs.Reading.{word_in};
 ghost use Rattle.spg_app.specs.Ending.{writing_of, outlets, Ends};
 
+use crate::beginning::{begin, status_of};
 use crate::writing::write_text;
 use spg_core::State;
 use spg_histories::Status;
@@ -11,6 +13,7 @@ use spg_opclass::SharedClass;
 use spg_perform::{Gate, perform};
 use spg_report::{Outcome, Record};
 use spg_script::{Script, Spoken};
+use spg_words::RunLine;
 use std::sync::Wait;
 use std::thread::Threads;
 
@@ -69,9 +72,9 @@ pub fn status_after(written: Result<(), IoRefused>, records: &[Record]) -> Statu
     }
 }
 
-/// Does the commands of a script on a new state of at most so many pages, then writes the text of the
-/// run. The state after the last command is handed back; there is none where memory was wanting before
-/// the first one.
+/// Does the commands of a script on a new state or on that of an image, then writes the text of the run.
+/// The state after the last command is handed back; there is none where the image was refused or memory
+/// was wanting before the first one.
 pub fn run_commands<
     R: AllocGlobal + Threads + Wait + Sync,
     O: Spoken + SharedClass,
@@ -81,22 +84,23 @@ pub fn run_commands<
 >(
     rt: &R,
     class: O,
-    limit: u32,
+    line: RunLine<'_>,
     script: &Script,
     out: &mut K,
     images: &mut M,
     gate: &G,
 ) -> (Status, Option<State<O>>)
     requires of_class { IsOfClass O.speech script.now.class }
-    requires from { 4 ≤ limit }
-    requires to { limit ≤ 131072 }
-    ensures { Ends O.meaning O.speech O.code_number limit script.now
+    requires from { 4 ≤ line.limit }
+    requires to { line.limit ≤ 131072 }
+    ensures { Ends O.meaning O.speech O.code_number line.entry.limit (word_in line.entry.from) script.now
         (outlets (K.contents out.old) (K.contents out.new) (K.faults out.old) (K.faults out.new)
         (M.held images.old) (M.held images.new) (M.faults images.old) (M.faults images.new)) result.0 result.1 }
 {
     let alloc = rt.alloc();
-    let Ok(state) = State::new(alloc, class, limit) else {
-        return (Status::Memory, None);
+    let state = match begin(alloc, class, line, images) {
+        Ok(state) => state,
+        Err(refused) => return (status_of(refused), None),
     };
     match perform(rt, state, script, images, gate) {
         Ok((state, records)) => {

@@ -1,7 +1,10 @@
-ghost use Rattle.std.specs.Prelude.{◌++◌, ◌∷◌, [], OnOk, OnErr};
+ghost use Rattle.std.specs.Prelude.{◌<◌, ◌+◌, ◌^◌, ◌++◌, ◌∷◌, [], OnOk, OnErr, length};
 ghost use Rattle.std.specs.Io.KnownBytes.{Appends};
 ghost use Rattle.spg_io.specs.Causes.{HasCauseIfFailed};
+ghost use Rattle.std.specs.List.{AllByRecursion};
 ghost use Rattle.spg_report.specs.Text.{text, ended, result_lines, event_lines};
+ghost use Rattle.spg_report.specs.Told.{FitsRecord};
+ghost use Rattle.spg_histories.specs.Exact.{FitsTypes, RunFits};
 ghost use Rattle.spg_app.specs.Io.{WroteSome};
 
 use crate::stream::write_all;
@@ -29,6 +32,8 @@ fn write_results<K: Sink>(
 ) -> Result<(), IoRefused>
     ensures ok { OnOk result (Appends (K.contents sink.old) (K.contents sink.new) (ended (result_lines 1 records.now))) }
     ensures err { OnErr result (WroteSome (K.contents sink.old) (K.contents sink.new) (ended (result_lines 1 records.now))) }
+    ensures fits { OnOk result (AllByRecursion FitsRecord records.now) }
+    ensures few { OnOk result (1 + length records.now < 2 ^ 64) }
     ensures cause { HasCauseIfFailed (K.faults sink.old) (K.faults sink.new) result }
 {
     for (index, one) in records.iter().enumerate() {
@@ -48,6 +53,8 @@ fn write_events<O: Spoken, K: Sink>(
 ) -> Result<(), IoRefused>
     ensures ok { OnOk result (Appends (K.contents sink.old) (K.contents sink.new) (ended (event_lines O.speech 0 journal.now))) }
     ensures err { OnErr result (WroteSome (K.contents sink.old) (K.contents sink.new) (ended (event_lines O.speech 0 journal.now))) }
+    ensures fits { OnOk result (AllByRecursion FitsTypes journal.now) }
+    ensures short { OnOk result (length journal.now < 2 ^ 64) }
     ensures cause { HasCauseIfFailed (K.faults sink.old) (K.faults sink.new) result }
 {
     for (at, event) in journal.iter().enumerate() {
@@ -68,6 +75,7 @@ pub fn write_text<O: Spoken, K: Sink>(
 ) -> Result<(), IoRefused>
     ensures ok { OnOk result (Appends (K.contents sink.old) (K.contents sink.new) (text O.speech journal.now records.now)) }
     ensures err { OnErr result (WroteSome (K.contents sink.old) (K.contents sink.new) (text O.speech journal.now records.now)) }
+    ensures fits { OnOk result (RunFits journal.now records.now) }
     ensures cause { HasCauseIfFailed (K.faults sink.old) (K.faults sink.new) result }
 {
     let mut line = Line::new(alloc);

@@ -1,5 +1,5 @@
 -- A section of an insert, and what the sections before it have left of the state.
-use Rattle.std.proofs.Common.{◌≡◌, ◌≢◌, ◌⊎◌, ⊎_elim, inl, inr, ℕ, zero, suc, ◌+◌, ◌^◌, ◌≤◌, ◌<◌, List, ◌++◌, [], ◌∷◌, Option, Some, None, refl, sym, ap, ◌∙◌, subst, arith}
+use Rattle.std.proofs.Common.{◌≡◌, ◌≢◌, ◌⊎◌, ⊎_elim, inl, inr, ℕ, zero, suc, ◌+◌, ◌^◌, ◌≤◌, ◌<◌, List, ◌++◌, [], ◌∷◌, Option, Some, None, refl, sym, ap, ◌∙◌, subst, arith, set, get_or-set_other}
 use Rattle.std.proofs.lemmas.Bool.{cases_eq}
 use Rattle.spg_base.specs.Row.{RowAt}
 use Rattle.spg_opclass.specs.Meaning.{Meaning}
@@ -12,11 +12,12 @@ use Rattle.spg_tree.specs.Descents.{Descending}
 use Rattle.spg_seats.specs.Descending.{ChangesHeld}
 use Rattle.spg_core.specs.declared.answer.InsertOut.{InsertOut}
 use Rattle.spg_core.specs.declared.answer.InsertOut.TheVariants.{Descended, Restructured, Restarted, Put}
+use Rattle.spg_seats.specs.Slots.{stage_in}
 use Rattle.spg_core.specs.Stage.{Stage, free, descending, reading, sweeping, IsInserting}
 use Rattle.spg_core.specs.Seen.{Seen, stage_at, moved}
 use Rattle.spg_core.specs.Sections.{IsAfterSection, IsOutOf, IsInsertOut, OthersHold}
 use Rattle.spg_core.specs.Ends.{StageEnds, SeatEnds, SeatThenEnds}
-use Rattle.spg_core.specs.Through.{IsInsertOf, StillInserts, PutsRow}
+use Rattle.spg_core.specs.Through.{IsInsertOf, StillInserts, PutsRow, IsOnItsWay, DoesSection, DoesSections, StepsOn, OthersStay}
 use Rattle.spg_core.proofs.Ends.{ends_somewhere, none_left}
 
 -- a table has at most 131,072 pages
@@ -48,6 +49,13 @@ changes_then t t1 t2 seat others a c b = go (latch_at t b) refl
 -- the insert was not sent back to its start
 abbrev IsNoRestart : InsertOut → Type 0
 IsNoRestart out = (block by : ℕ) → out ≡ Restarted block by → ⊥
+
+-- an insert that is neither at its end nor at its start again goes on
+pub on_its_way : (out : InsertOut) → (out ≡ Put → ⊥) → IsNoRestart out → IsOnItsWay out
+on_its_way Descended no_put on = tt
+on_its_way Restructured no_put on = tt
+on_its_way (Restarted block by) no_put on = absurd (on block by refl)
+on_its_way Put no_put on = absurd (no_put refl)
 
 module _ {O Key Recon Cond : Type 0} where
   pub still_there : (s : Seen O Key Recon Cond) (seat : ℕ) → StillInserts s s seat
@@ -163,3 +171,39 @@ module _ {O Key Recon Cond : Type 0} where
       (j : ℕ) × (j + (turn + 1) < top) × SeatEnds m s2 seat j
   fewer_come m s1 s2 seat zero turn top out few h takes no_put on = absurd (one_comes m s1 seat h)
   fewer_come m s1 s2 seat (suc n) turn top out few h takes no_put on = (n, omega arith, open_still m s2 seat n out (takes n h) no_put on)
+
+  -- ---- one section after another
+
+  more_sections : (m : Meaning Key Recon Cond) (before : List InsertOut) (s0 s1 s2 : Seen O Key Recon Cond) (seat : ℕ) (out : InsertOut) → DoesSections m s0 s1 seat before → IsOnItsWay out → DoesSection m s1 s2 seat out → DoesSections m s0 s2 seat (before ++ out ∷ [])
+  more_sections m [] s0 s1 s2 seat out same on D = (on, s2, subst (λ (s : Seen O Key Recon Cond). DoesSection m s s2 seat out) same D, refl)
+  more_sections m (first ∷ before) s0 s1 s2 seat out (on_way, next, D0, more) on D = (on_way, next, D0, more_sections m before next s1 s2 seat out more on D)
+
+  pub steps_none : (m : Meaning Key Recon Cond) (s : Seen O Key Recon Cond) (seat : ℕ) → StepsOn m s s seat
+  steps_none m s seat = ([], refl)
+
+  -- one more section
+  pub steps_more : (m : Meaning Key Recon Cond) (s0 s1 s2 : Seen O Key Recon Cond) (seat : ℕ) (out : InsertOut) → StepsOn m s0 s1 seat → IsOnItsWay out → DoesSection m s1 s2 seat out → StepsOn m s0 s2 seat
+  steps_more m s0 s1 s2 seat out (before, D0) on D = (before ++ out ∷ [], more_sections m before s0 s1 s2 seat out D0 on D)
+
+  -- ---- what the other seats have open
+
+  pub stay_same : (s : Seen O Key Recon Cond) (seat : ℕ) → OthersStay s s seat
+  stay_same s seat other apart = refl
+
+  stay_set : (s1 s2 : Seen O Key Recon Cond) (seat : ℕ) (stage : Stage O Key Recon Cond) → s2.stages ≡ set s1.stages seat stage → OthersStay s1 s2 seat
+  stay_set s1 s2 seat stage is other apart = ap (λ (l : List (Stage O Key Recon Cond)). stage_in l other) is ∙ get_or-set_other s1.stages seat other stage free apart
+
+  stay_section : (s1 s2 : Seen O Key Recon Cond) (seat : ℕ) (k : Option Key) (d : Descending Recon) (out : InsertOut) → IsAfterSection s1 s2 seat k d out → OthersStay s1 s2 seat
+  stay_section s1 s2 seat k d Descended (d2, same, pages, is, stage) = stay_set s1 s2 seat (descending k d2) (ap (λ (s : Seen O Key Recon Cond). s.stages) is)
+  stay_section s1 s2 seat k d Restructured (d2, same, is, stage) = stay_set s1 s2 seat (descending k d2) (ap (λ (s : Seen O Key Recon Cond). s.stages) is)
+  stay_section s1 s2 seat k d (Restarted block by) (d2, same, start, pages, is, stage) = stay_set s1 s2 seat (descending k d2) (ap (λ (s : Seen O Key Recon Cond). s.stages) is)
+  stay_section s1 s2 seat k d Put (is, stage) = stay_set s1 s2 seat free (ap (λ (s : Seen O Key Recon Cond). s.stages) is)
+
+  stay_of : (s1 s2 : Seen O Key Recon Cond) (seat : ℕ) (out : InsertOut) (stage : Stage O Key Recon Cond) → IsOutOf s1 s2 seat out stage → OthersStay s1 s2 seat
+  stay_of s1 s2 seat out free is = absurd is
+  stay_of s1 s2 seat out (descending k d) is = stay_section s1 s2 seat k d out is.1
+  stay_of s1 s2 seat out (reading s) is = absurd is
+  stay_of s1 s2 seat out (sweeping v) is = absurd is
+
+  pub stay_then : (s0 s1 s2 : Seen O Key Recon Cond) (seat : ℕ) (out : InsertOut) → OthersStay s0 s1 seat → IsInsertOut s1 s2 seat out → OthersStay s0 s2 seat
+  stay_then s0 s1 s2 seat out stay is other apart = stay_of s1 s2 seat out (stage_at s1 seat) is other apart ∙ stay other apart

@@ -58,6 +58,9 @@ module _ {O Key Recon Cond : Type 0} (m : Meaning Key Recon Cond) (s : Inside O 
   pub finds_seen : FindsNoPageFor m s.table seat (stage_of (get_or s.slots.items seat Free)) → SeatFindsNoPage m seen seat
   finds_seen h = subst (λ (x : Stage O Key Recon Cond). FindsNoPageFor m seen.table seat x) (sym (stage_is s seen view seat)) (subst (λ (t : pages.Table). FindsNoPageFor m t seat (stage_of (get_or s.slots.items seat Free))) (sym (table_is s seen view 0)) h)
 
+  pub finds_kept : SeatFindsNoPage m seen seat → FindsNoPageFor m s.table seat (stage_of (get_or s.slots.items seat Free))
+  finds_kept h = subst (λ (t : pages.Table). FindsNoPageFor m t seat (stage_of (get_or s.slots.items seat Free))) (table_is s seen view 0) (subst (λ (x : Stage O Key Recon Cond). FindsNoPageFor m seen.table seat x) (stage_is s seen view seat) h)
+
   pub ticks_seen : TicksFor m s.table (stage_of (get_or s.slots.items seat Free)) → SeatTicks m seen seat
   ticks_seen h = subst (λ (x : Stage O Key Recon Cond). TicksFor m seen.table x) (sym (stage_is s seen view seat)) (subst (λ (t : pages.Table). TicksFor m t (stage_of (get_or s.slots.items seat Free))) (sym (table_is s seen view 0)) h)
 
@@ -139,9 +142,9 @@ module _ {O Key Recon Cond : Type 0} (m : Meaning Key Recon Cond) (codes : CodeL
 
   pub heavy_for : (seen : Seen O Key Recon Cond) → seen_of s ≡ seen → (slot : Slot O Key Recon Cond) → StageFits m s.table before seat (stage_of slot) → IsOutgrownBy s.table slot → IsHeavyFor m seen (stage_of slot)
   heavy_for seen view Free has out = absurd out
-  heavy_for seen view (Insert key d) has out =
+  heavy_for seen view (Insert key d) has out = λ fresh.
       subst (λ (h : History O Key Recon Cond). 8160 < weight_of m (is_none key) (opened_keys h)) (sym (past_is s seen view 0))
-      (subst (λ (b : Bool). 8160 < weight_of m b (opened_keys before)) (nulls_key m (sheets_of s.table) d key has.1) (outgrown_heavy m codes (fields_of s) I seat key d has out))
+      (subst (λ (b : Bool). 8160 < weight_of m b (opened_keys before)) (nulls_key m (sheets_of s.table) d key has.1) (outgrown_heavy m codes (fields_of s) I seat key d has out (ap (λ (v : Seen O Key Recon Cond). v.origin.loaded) view ∙ fresh)))
   heavy_for seen view (Scan x) has out = absurd out
   heavy_for seen view (Vacuum x) has out = absurd out
 

@@ -26,17 +26,21 @@ use Rattle.spg_seats.proofs.Calls as calls
 use Rattle.spg_seats.proofs.Holding.{latches_law}
 use Rattle.spg_core.specs.declared.answer.InsertOut.{InsertOut}
 use Rattle.spg_core.specs.declared.answer.InsertOut.TheVariants as outs
-use Rattle.spg_core.specs.Stepping.{Grows, GoesOn, RootsGrow, IsOutgrown}
+use Rattle.spg_core.specs.Stepping.{Grows, GoesOn, RootsGrow, IsRootFull, IsOutgrown}
 use Rattle.spg_core.specs.Telling.{StepDone}
 use Rattle.spg_core.proofs.Growing.{step_grows}
 use Rattle.spg_core.proofs.Weights.{root_heavy}
 
 module _ {O Key Recon Cond : Type 0} (m : Meaning Key Recon Cond) (codes : CodeLaw m) (s : Fields O Key Recon Cond) (kept : IsKept m s) (seat : ℕ) where
-  -- a tree that has outgrown its root page has heavy keys
-  pub outgrown_heavy : (key : Option Key) (d : Descending Recon) → StageFits m s.table (reverse s.journal) seat (descending key d) → IsOutgrown s.table d → 8160 < weight_of m (in_nulls d) (opened_keys (reverse s.journal))
-  outgrown_heavy key d has out = ⊎_elim
-      (λ h. kept.tells.heavy (in_nulls d) h)
-      (λ f. root_heavy m codes (reverse s.journal) (sane_from_legal (reverse s.journal) kept.right.legal) s.table d key seat kept.tells.holds has.1 has.0 f)
+  -- a tree whose root page is full has heavy keys
+  pub full_heavy : (key : Option Key) (d : Descending Recon) → StageFits m s.table (reverse s.journal) seat (descending key d) → IsRootFull s.table d → 8160 < weight_of m (in_nulls d) (opened_keys (reverse s.journal))
+  full_heavy key d has f = root_heavy m codes (reverse s.journal) (sane_from_legal (reverse s.journal) kept.right.legal) s.table d key seat kept.tells.holds has.1 has.0 f
+
+  -- a tree that has outgrown its root page too, where the state was not loaded
+  pub outgrown_heavy : (key : Option Key) (d : Descending Recon) → StageFits m s.table (reverse s.journal) seat (descending key d) → IsOutgrown s.table d → s.origin.loaded ≡ false → 8160 < weight_of m (in_nulls d) (opened_keys (reverse s.journal))
+  outgrown_heavy key d has out fresh = ⊎_elim
+      (λ h. kept.tells.heavy fresh (in_nulls d) h)
+      (λ f. full_heavy key d has f)
       out
 
 module _ {O Key Recon Cond : Type 0} (m : Meaning Key Recon Cond) (s : Fields O Key Recon Cond) (kept : IsKept m s) where
@@ -78,7 +82,7 @@ module _ {O Key Recon Cond : Type 0} (m : Meaning Key Recon Cond) (codes : CodeL
   its = its_held m s kept seat key d here
 
   grown : RootsGrow s.table s2.table d → (nulls : Bool) → HasInnerRoot s2.table nulls → HasInnerRoot s.table nulls ⊎ (8160 < weight_of m nulls (opened_keys past))
-  grown grow nulls h = ⊎_elim (λ a. inl a) (λ (q, f). inr (subst (λ (b : Bool). 8160 < weight_of m b (opened_keys past)) (sym q) (outgrown_heavy m codes s kept seat key d has (inr f)))) (grow nulls h)
+  grown grow nulls h = ⊎_elim (λ a. inl a) (λ (q, f). inr (subst (λ (b : Bool). 8160 < weight_of m b (opened_keys past)) (sym q) (full_heavy m codes s kept seat key d has f))) (grow nulls h)
 
   -- the insert goes on
   goes : GoesOn m s.table s2.table d d2 → StageFits m s2.table past seat (descending key d2)

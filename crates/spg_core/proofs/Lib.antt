@@ -11,6 +11,7 @@ pub mod Inners
 pub mod Rewriting
 pub mod Settles
 pub mod Ticks
+pub mod Finds
 pub mod Refusals
 pub mod Slots
 pub mod Seeking
@@ -20,6 +21,7 @@ pub mod Steps
 pub mod Growing
 pub mod Keeping
 pub mod Inserts
+pub mod Changing
 pub mod Going
 pub mod Opens
 pub mod Scans
@@ -29,3 +31,11 @@ pub mod Sweepers
 pub mod Vacuumed
 pub mod Runs
 pub mod Counting
+pub mod Promised
+pub mod Paid
+pub mod Bounded
+pub mod Bounding
+pub mod Books
+pub mod Calls
+pub mod Calling
+pub mod Loads

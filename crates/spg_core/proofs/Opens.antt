@@ -46,7 +46,7 @@ use Rattle.spg_core.proofs.Slots.{seen_as, past_is, set_itself, stages_set, stag
 use Rattle.spg_core.proofs.Steps.{with_all, with_fields, held_on, past, stages, sane, seats, fits, free_held, free_open, room_ended, insert_claimed, unclaimed_fresh, low}
 
 -- a row in the state of one that is live is live
-live_state : {Key : Type 0} (state : RowState) (ls : List (Life Key)) → StateSays state ls → state ≡ row_state.Live → live_in ls ≡ true
+pub live_state : {Key : Type 0} (state : RowState) (ls : List (Life Key)) → StateSays state ls → state ≡ row_state.Live → live_in ls ≡ true
 live_state {Key} state ls says is = go ls (subst (λ (x : RowState). StateSays x ls) is says)
   where
     go : (ls : List (Life Key)) → StateSays row_state.Live ls → live_in ls ≡ true

@@ -1,5 +1,6 @@
 -- What calls of any seats keep, one after another.
-use Rattle.std.proofs.Common.{◌≡◌, ◌++◌, inl, ℕ, Bool, true, false, cond, nat_eq, List, [], ◌∷◌, Option, Some, length, reverse, refl, sym, ap, ◌∙◌, subst}
+use Rattle.std.proofs.Common.{◌≡◌, ◌++◌, inl, inr, ℕ, Bool, true, false, cond, nat_eq, List, [], ◌∷◌, Option, Some, length, reverse, refl, sym, ap, ◌∙◌, subst}
+use Rattle.std.specs.Prelude.{slice_get}
 use Rattle.std.proofs.lemmas.List.{append_assoc, append-nil, length-reverse}
 use Rattle.spg_base.specs.Row.{RowAt}
 use Rattle.spg_forest.specs.Pages.{IsFresh}
@@ -15,8 +16,12 @@ use Rattle.spg_tree.specs.Table as pages
 use Rattle.spg_tree.specs.Table.{sheets_of, latch_at}
 use Rattle.spg_tree.specs.Descents.{Descending}
 use Rattle.spg_descend.specs.Enters.{opened_for}
-use Rattle.spg_scan.specs.Scanning.{Scanning, opened}
-use Rattle.spg_scan.specs.Reading.{IsReadOut}
+use Rattle.spg_scan.specs.Items.{Item}
+use Rattle.spg_scan.specs.Scanning.{Scanning, opened, replaced}
+use Rattle.spg_scan.specs.Copying.{IsCopyOut}
+use Rattle.spg_scan.specs.declared.scan_copy.ScanCopy.{ScanCopy}
+use Rattle.spg_scan.specs.declared.scan_copy.ScanCopy.TheVariants as copy_out
+use Rattle.spg_scan.specs.Reading.{IsReadOut, DoesItem}
 use Rattle.spg_scan.specs.declared.walk.ReadOut.{ReadOut}
 use Rattle.spg_scan.specs.declared.walk.ReadOut.TheVariants.{Read, Latched}
 use Rattle.spg_seats.specs.Latching.{AreHeld, HoldsNone, rest_of}
@@ -35,8 +40,8 @@ use Rattle.spg_core.specs.declared.answer.VacuumOut.{VacuumOut}
 use Rattle.spg_core.specs.declared.answer.VacuumOut.TheVariants as work
 use Rattle.spg_core.specs.Seen.{untouched}
 use Rattle.spg_core.specs.Sweeping.{DoesWork, KeepsWork}
-use Rattle.spg_core.specs.Telling.{StepDone}
-use Rattle.spg_core.specs.Runs.{Call, refused, opens_insert, steps, kills, opens_scan, reads, closes, drops, leaves, opens_vacuum, works, put_by, work_events, events_of, Goes, StepsTo, WorksTo, IsLeft, Does, events_by, RunsKeep}
+use Rattle.spg_core.specs.Telling.{StepDone, IsButLatches}
+use Rattle.spg_core.specs.Runs.{Call, refused, opens_insert, steps, kills, opens_scan, reads, copies, sifts, closes, drops, leaves, opens_vacuum, works, put_by, work_events, events_of, Goes, StepsTo, WorksTo, IsLeft, Does, events_by, RunsKeep}
 use Rattle.spg_core.proofs.Keeping.{fresh_row, stage_held, stage_fits, step_keeps, put_keeps}
 use Rattle.spg_core.proofs.Opens.{opened_row, opened_stands, opened_holds}
 use Rattle.spg_core.proofs.Scans.{once_taken}
@@ -50,7 +55,7 @@ holds_as t at rest g k e h = record { latch = λ b. h.latch b ∙ ap (λ x. cond
 -- ---- what a seat did
 
 module _ {O Key Recon Cond : Type 0} where
-  own_append : (seat : ℕ) (xs ys : List (Event O Key Recon Cond)) → own seat (xs ++ ys) ≡ own seat xs ++ own seat ys
+  pub own_append : (seat : ℕ) (xs ys : List (Event O Key Recon Cond)) → own seat (xs ++ ys) ≡ own seat xs ++ own seat ys
   own_append seat [] ys = refl
   own_append seat (x ∷ xs) ys = elim (nat_eq (seat_of x) seat) as (λ b. cond b (x ∷ own seat (xs ++ ys)) (own seat (xs ++ ys)) ≡ cond b (x ∷ own seat xs) (own seat xs) ++ own seat ys) [
     | true ↦ ap (λ l. x ∷ l) (own_append seat xs ys)
@@ -84,13 +89,15 @@ module _ {O Key Recon Cond : Type 0} where
   own_work seat by swept (work.Latched block other) = none_either (nat_eq by seat)
   own_work seat by swept (work.Finished count) = own_one seat by (event.CloseVacuum by count) refl
 
-  own_events : (seat by : ℕ) (call : Call O Key Recon Cond) → own seat (events_of by call) ≡ cond (nat_eq by seat) (events_of by call) []
+  pub own_events : (seat by : ℕ) (call : Call O Key Recon Cond) → own seat (events_of by call) ≡ cond (nat_eq by seat) (events_of by call) []
   own_events seat by refused = none_either (nat_eq by seat)
   own_events seat by (opens_insert row key) = own_one seat by (event.OpenInsert by row key) refl
   own_events seat by (steps row out) = own_put seat by row out
   own_events seat by (kills row) = own_one seat by (event.Kill by row) refl
   own_events seat by (opens_scan query) = own_one seat by (event.OpenScan by query) refl
   own_events seat by (reads item out) = none_either (nat_eq by seat)
+  own_events seat by (copies item out) = none_either (nat_eq by seat)
+  own_events seat by (sifts item copied) = none_either (nat_eq by seat)
   own_events seat by (closes closed) = own_one seat by (event.CloseScan by closed.rows) refl
   own_events seat by (drops row why) = own_one seat by (event.Drop by row why) refl
   own_events seat by leaves = own_one seat by (event.Leave by) refl
@@ -114,16 +121,18 @@ module _ {O Key Recon Cond : Type 0} (m : Meaning Key Recon Cond) where
   same_work s s2 seat v v2 swept (work.Finished count) to = to.0.journal
 
   -- the journal is longer by the events of the call
-  longer : (s s2 : Fields O Key Recon Cond) (seat : ℕ) (call : Call O Key Recon Cond) → Does m s s2 seat call → s2.journal ≡ s.journal ++ events_of seat call
+  pub longer : (s s2 : Fields O Key Recon Cond) (seat : ℕ) (call : Call O Key Recon Cond) → Does m s s2 seat call → s2.journal ≡ s.journal ++ events_of seat call
   longer s s2 seat refused (spare, more, is) = ap (λ (f : Fields O Key Recon Cond). f.journal) is ∙ no_more s.journal
   longer s s2 seat (opens_insert row key) (none, unclaimed, carries, G, table, rows) = G.journal
   longer s s2 seat (steps row out) (key, d, d2, here, r, S, to) = same_put s s2 seat key d d2 row out r to
   longer s s2 seat (kills row) (none, live, G, table, rows) = G.journal
   longer s s2 seat (opens_scan query) (none, G, table, rows) = G.journal
   longer s s2 seat (reads item out) (q, q2, here, R, G, table, rows) = G.journal
+  longer s s2 seat (copies item out) (q, q2, here, C, G, table, rows) = G.journal
+  longer s s2 seat (sifts item copied) (q, q2, here, T, G, table, rows) = G.journal
   longer s s2 seat (closes closed) (q, here, empty, C, G, table, rows) = G.journal
   longer s s2 seat (drops row why) (key, d, here, r, may, G, table, none, rows) = G.journal
-  longer s s2 seat leaves (left, G, table, rows) = G.journal
+  longer s s2 seat leaves (left, G, table, none, rows) = G.journal
   longer s s2 seat opens_vacuum (none, alone, G, table, rows) = G.journal
   longer s s2 seat (works out swept) (v, v2, here, D, K, to) = same_work s s2 seat v v2 swept out to
 
@@ -133,12 +142,12 @@ module _ {O Key Recon Cond : Type 0} (m : Meaning Key Recon Cond) where
   held_then : (s s2 : Fields O Key Recon Cond) → IsKept m s → (seat : ℕ) (stage : Stage O Key Recon Cond) → stage_in s.stages seat ≡ stage → ((b : ℕ) → stage_holds stage b ≡ false) → s2.table.latches ≡ s.table.latches → HoldsNone s2.table seat (rest_of s.table seat)
   held_then s s2 kept seat stage here none latches = held_on s.table s2.table seat (rest_of s.table seat) (λ b. false) (λ b. ap (λ (l : List (Option ℕ)). latch_at (record s.table { latches = l }) b) latches) (holds_as s.table seat (rest_of s.table seat) (stage_holds stage) (λ b. false) none (stage_held m s kept seat stage here))
 
-  -- a scan or a vacuum that is open may be left, and has nothing latched
-  left_fits : (s : Fields O Key Recon Cond) → IsKept m s → (seat : ℕ) (stage : Stage O Key Recon Cond) → stage_in s.stages seat ≡ stage → IsLeft stage → ((b : ℕ) → stage_holds stage b ≡ false) × IsLeavable (open_of seat (reverse s.journal))
+  -- a scan or a vacuum that is open may be left
+  left_fits : (s : Fields O Key Recon Cond) → IsKept m s → (seat : ℕ) (stage : Stage O Key Recon Cond) → stage_in s.stages seat ≡ stage → IsLeft stage → IsLeavable (open_of seat (reverse s.journal))
   left_fits s kept seat free here left = absurd left
   left_fits s kept seat (descending key d) here left = absurd left
-  left_fits s kept seat (reading q) here left = (λ b. refl, subst IsLeavable (sym (stage_fits m s kept seat (reading q) here).1) tt)
-  left_fits s kept seat (sweeping v) here left = (λ b. refl, subst IsLeavable (sym (stage_fits m s kept seat (sweeping v) here).1) tt)
+  left_fits s kept seat (reading q) here left = subst IsLeavable (sym (stage_fits m s kept seat (reading q) here).1) tt
+  left_fits s kept seat (sweeping v) here left = subst IsLeavable (sym (stage_fits m s kept seat (sweeping v) here).1) tt
 
   none_then : (s s2 : Fields O Key Recon Cond) → IsKept m s → (seat : ℕ) (stage : Stage O Key Recon Cond) → stage_in s.stages seat ≡ stage → ((b : ℕ) → stage_holds stage b ≡ false) → s2.table ≡ untouched s.table → HoldsNone s2.table seat (rest_of s.table seat)
   none_then s s2 kept seat stage here none table = subst (λ (t : pages.Table). HoldsNone t seat (rest_of s.table seat)) (sym table)
@@ -150,18 +159,32 @@ module _ {O Key Recon Cond : Type 0} (m : Meaning Key Recon Cond) where
   steps_keep codes s s2 kept seat key d d2 here (outs.Restarted block by) S (G, rows) = step_keeps m codes s kept seat key d here s2 d2 G.stages G.here G.room G.origin (G.journal ∙ append-nil s.journal) rows (outs.Restarted block by) (λ e. cc e) S
   steps_keep codes s s2 kept seat key d d2 here outs.Put S (G, rows) = put_keeps m codes s kept seat key d here s2 d2 G.stages G.here G.room G.origin d.row refl G.journal rows S
 
-  reads_keep : KeptLaw m → CodeLaw m → (s s2 : Fields O Key Recon Cond) → IsKept m s → (seat item : ℕ) (q q2 : Scanning O Key Recon Cond) → stage_in s.stages seat ≡ reading q → (out : ReadOut) → IsReadOut m s.table s.rows q q2 item seat out → Goes s s2 seat (reading q2) [] → s2.table ≡ untouched s.table → SameRows s s2 → IsKept m s2
-  reads_keep K L s s2 kept seat item q q2 here Read (alone, R) G table rows =
-      calls.kept_reads m s s2 seat (reading q2) kept G.stages G.here (none_then s s2 kept seat (reading q) here (λ b. refl) table) G.room (ap (λ (t : pages.Table). t.limit) table) G.origin K L q item R.item R.items R.found _ here (ap reading R.after) R.at (inl R.reads) (ap sheets_of table) (G.journal ∙ append-nil s.journal) rows
-  reads_keep K L s s2 kept seat item q q2 here (Latched block by) (place, latched, other, same) G table rows =
+  -- a scan did this with an item, and the pages stay
+  item_keeps : KeptLaw m → CodeLaw m → (s s2 : Fields O Key Recon Cond) → IsKept m s → (seat item : ℕ) (q q2 : Scanning O Key Recon Cond) → stage_in s.stages seat ≡ reading q → Goes s s2 seat (reading q2) [] → s2.table ≡ untouched s.table → SameRows s s2 →
+      (it : Item Recon) (ys : List (Item Recon)) (found : List RowAt) (met : ℕ) → slice_get q.items item ≡ Some it → DoesItem m (sheets_of s.table) s.rows q.query it ys found → q2 ≡ replaced q item ys found met → IsKept m s2
+  item_keeps K L s s2 kept seat item q q2 here G table rows it ys found met at does after =
+      calls.kept_reads m s s2 seat (reading q2) kept G.stages G.here (none_then s s2 kept seat (reading q) here (λ b. refl) table) G.room (ap (λ (t : pages.Table). t.limit) table) G.origin K L q item it ys found met here (ap reading after) at does (ap sheets_of table) (G.journal ∙ append-nil s.journal) rows
+
+  -- it stays as it is
+  rests_keep : (s s2 : Fields O Key Recon Cond) → IsKept m s → (seat : ℕ) (q q2 : Scanning O Key Recon Cond) → stage_in s.stages seat ≡ reading q → q2 ≡ q → Goes s s2 seat (reading q2) [] → s2.table ≡ untouched s.table → SameRows s s2 → IsKept m s2
+  rests_keep s s2 kept seat q q2 here same G table rows =
       calls.kept_still m s s2 seat (reading q2) kept G.stages G.here (none_then s s2 kept seat (reading q) here (λ b. refl) table) G.room (ap (λ (t : pages.Table). t.limit) table) G.origin (ap sheets_of table) (G.journal ∙ append-nil s.journal) rows
       (subst (λ (t : pages.Table). StageFits m t (reverse s.journal) seat (reading q2)) (sym table) (subst (λ (z : Scanning O Key Recon Cond). StageFits m s.table (reverse s.journal) seat (reading z)) (sym same) (stage_fits m s kept seat (reading q) here)))
 
+  reads_keep : KeptLaw m → CodeLaw m → (s s2 : Fields O Key Recon Cond) → IsKept m s → (seat item : ℕ) (q q2 : Scanning O Key Recon Cond) → stage_in s.stages seat ≡ reading q → (out : ReadOut) → IsReadOut m s.table s.rows q q2 item seat out → Goes s s2 seat (reading q2) [] → s2.table ≡ untouched s.table → SameRows s s2 → IsKept m s2
+  reads_keep K L s s2 kept seat item q q2 here Read (alone, R) G table rows = item_keeps K L s s2 kept seat item q q2 here G table rows R.item R.items R.found _ R.at (inl R.reads) R.after
+  reads_keep K L s s2 kept seat item q q2 here (Latched block by) (place, latched, other, same) G table rows = rests_keep s s2 kept seat q q2 here same G table rows
+
+  copies_keep : KeptLaw m → CodeLaw m → (s s2 : Fields O Key Recon Cond) → IsKept m s → (seat item : ℕ) (q q2 : Scanning O Key Recon Cond) → stage_in s.stages seat ≡ reading q → (out : ScanCopy O Key Recon Cond) → IsCopyOut m s.table s.rows q q2 item seat out → Goes s s2 seat (reading q2) [] → s2.table ≡ untouched s.table → SameRows s s2 → IsKept m s2
+  copies_keep K L s s2 kept seat item q q2 here copy_out.Read (alone, plain, R) G table rows = item_keeps K L s s2 kept seat item q q2 here G table rows R.item R.items R.found _ R.at (inl R.reads) R.after
+  copies_keep K L s s2 kept seat item q q2 here (copy_out.Latched block by) (place, latched, other, same) G table rows = rests_keep s s2 kept seat q q2 here same G table rows
+  copies_keep K L s s2 kept seat item q q2 here (copy_out.Sift copied) (inl (has, same)) G table rows = rests_keep s s2 kept seat q q2 here same G table rows
+  copies_keep K L s s2 kept seat item q q2 here (copy_out.Sift copied) (inr (alone, C)) G table rows = item_keeps K L s s2 kept seat item q q2 here G table rows _ (C.item ∷ []) [] _ C.at (inr C.copies) C.after
+
   -- a scan or a vacuum is given up
-  leaves_keep : (s s2 : Fields O Key Recon Cond) → IsKept m s → (seat : ℕ) (stage : Stage O Key Recon Cond) → stage_in s.stages seat ≡ stage → IsLeft stage → Goes s s2 seat free (event.Leave seat ∷ []) → s2.table ≡ untouched s.table → ChangesRows (event.Leave seat) (reverse s.journal) s s2 → IsKept m s2
-  leaves_keep s s2 kept seat stage here left G table rows =
-      let (none, may) = left_fits s kept seat stage here left in
-      calls.kept_event m s s2 seat free kept G.stages G.here (none_then s s2 kept seat stage here none table) G.room (ap (λ (t : pages.Table). t.limit) table) G.origin (event.Leave seat) refl tt tt may tt G.journal (ap sheets_of table) rows
+  leaves_keep : (s s2 : Fields O Key Recon Cond) → IsKept m s → (seat : ℕ) (stage : Stage O Key Recon Cond) → stage_in s.stages seat ≡ stage → IsLeft stage → Goes s s2 seat free (event.Leave seat ∷ []) → (t : pages.Table) → IsButLatches s.table t → s2.table ≡ untouched t → HoldsNone s2.table seat (rest_of s.table seat) → ChangesRows (event.Leave seat) (reverse s.journal) s s2 → IsKept m s2
+  leaves_keep s s2 kept seat stage here left G t but is none rows =
+      calls.kept_event m s s2 seat free kept G.stages G.here none G.room (ap (λ (t : pages.Table). t.limit) is ∙ ap (λ (t : pages.Table). t.limit) but) G.origin (event.Leave seat) refl tt tt (left_fits s kept seat stage here left) tt G.journal (ap sheets_of is ∙ ap sheets_of but) rows
       (itself_opens (event.Leave seat) (reverse s.journal))
 
   -- ---- a section of a vacuum
@@ -181,7 +204,7 @@ module _ {O Key Recon Cond : Type 0} (m : Meaning Key Recon Cond) where
   works_keep s s2 kept seat v v2 swept here (work.Finished count) (none, next, is, table, same) K (G, rows) =
       vacuum_calls.kept_closes_vacuum m s s2 seat free kept G.stages G.here (none_then s s2 kept seat (sweeping v) here (λ b. refl) table) G.room (ap (λ (t : pages.Table). t.limit) table) G.origin v (ap sheets_of table) refl here K (G.journal ∙ ap (λ n. s.journal ++ event.CloseVacuum seat n ∷ []) is) rows
 
-  one_keeps : KeptLaw m → CodeLaw m → (s s2 : Fields O Key Recon Cond) → IsKept m s → (seat : ℕ) (call : Call O Key Recon Cond) → Does m s s2 seat call → IsKept m s2
+  pub one_keeps : KeptLaw m → CodeLaw m → (s s2 : Fields O Key Recon Cond) → IsKept m s → (seat : ℕ) (call : Call O Key Recon Cond) → Does m s s2 seat call → IsKept m s2
   one_keeps K L s s2 kept seat refused (spare, more, is) = subst (IsKept m) (sym is) (more_room m s spare more kept)
   one_keeps K L s s2 kept seat (opens_insert row key) (none, unclaimed, carries, G, table, rows) =
       let free_now : HoldsNone s2.table seat (rest_of s.table seat) = none_then s s2 kept seat free none (λ b. refl) table in
@@ -196,13 +219,15 @@ module _ {O Key Recon Cond : Type 0} (m : Meaning Key Recon Cond) where
       calls.kept_opens_scan m s s2 seat stage kept G.stages G.here (none_then s s2 kept seat free none (λ b. refl) table) G.room (ap (λ (t : pages.Table). t.limit) table) G.origin (ap sheets_of table) query
       (ap (λ n. reading (opened m query n s.table.clock)) (sym (length-reverse s.journal))) (stage_fits m s kept seat free none) G.journal rows
   one_keeps K L s s2 kept seat (reads item out) (q, q2, here, R, G, table, rows) = reads_keep K L s s2 kept seat item q q2 here out R G table rows
+  one_keeps K L s s2 kept seat (copies item out) (q, q2, here, C, G, table, rows) = copies_keep K L s s2 kept seat item q q2 here out C G table rows
+  one_keeps K L s s2 kept seat (sifts item copied) (q, q2, here, T, G, table, rows) = item_keeps K L s s2 kept seat item q q2 here G table rows T.item T.items T.found 0 T.at (inl (T.reads (sheets_of s.table) s.rows)) T.after
   one_keeps K L s s2 kept seat (closes closed) (q, here, empty, C, G, table, rows) =
       let (before, has, D) = stage_fits m s kept seat (reading q) here in
       calls.kept_closes_scan m s s2 seat free kept G.stages G.here (none_then s s2 kept seat (reading q) here (λ b. refl) table) G.room (ap (λ (t : pages.Table). t.limit) table) G.origin (ap sheets_of table) q closed.rows refl here empty C.same (C.ascending (once_taken q D)) G.journal rows
   one_keeps K L s s2 kept seat (drops row why) (key, d, here, r, may, G, (t, but, is), none, rows) =
       calls.kept_drops m s s2 seat free kept G.stages G.here none G.room (ap (λ (t : pages.Table). t.limit) is ∙ ap (λ (t : pages.Table). t.limit) but) G.origin (ap sheets_of is ∙ ap sheets_of but) row key why may refl
       ((stage_fits m s kept seat (descending key d) here).0 ∙ ap (λ (x : RowAt). inserting x key) r) G.journal rows
-  one_keeps K L s s2 kept seat leaves (left, G, table, rows) = leaves_keep s s2 kept seat (stage_in s.stages seat) refl left G table rows
+  one_keeps K L s s2 kept seat leaves (left, G, (t, but, is), none, rows) = leaves_keep s s2 kept seat (stage_in s.stages seat) refl left G t but is none rows
   one_keeps K L s s2 kept seat opens_vacuum (none, alone, G, table, rows) =
       vacuum_calls.kept_opens_vacuum m s s2 seat (sweeping (opened_vacuum (length s.journal) s.table.clock)) kept G.stages G.here (none_then s s2 kept seat free none (λ b. refl) table) G.room (ap (λ (t : pages.Table). t.limit) table) G.origin (ap sheets_of table)
       (ap (λ n. sweeping (opened_vacuum n s.table.clock)) (sym (length-reverse s.journal))) (stage_fits m s kept seat free none) alone G.journal rows

@@ -15,6 +15,11 @@ use Rattle.spg_core.specs.Refusing.{Ticks}
 use Rattle.spg_core.proofs.Ends.{one_answer}
 
 module _ {Key Recon Cond : Type 0} (m : Meaning Key Recon Cond) (t : Table) (d : Descending Recon) where
+  pub put_ticks : IsRuleFor t d rules.Put → Ticks m t d → ⊥
+  put_ticks (off, fits) (inl (off2, room, short)) = room fits
+  put_ticks (off, fits) (inr (inl ((off2, room, long), below))) = room fits
+  put_ticks (off, fits) (inr (inr (i, asks))) = off.1 i
+
   pub root_ticks : IsRuleFor t d rules.Divide → IsAtRoot d.stand → Ticks m t d → ⊥
   root_ticks (off, room, long) low (inl (off2, room2, short)) = long short
   root_ticks (off, room, long) low (inr (inl (rule, below))) = below low

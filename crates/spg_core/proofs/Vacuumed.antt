@@ -204,7 +204,7 @@ module _ {O Key Recon Cond : Type 0} (m : Meaning Key Recon Cond) (s : Inside O 
         (subst (λ (x : Slot O Key Recon Cond). AreHeld s.table seat (rest_of s.table seat) (stage_holds (stage_of x))) here (held m s I seat))
 
     -- the targets, as the journal tells
-    targets_told : AreTargets test v.at (seen_of s)
+    pub targets_told : AreTargets test v.at (seen_of s)
     targets_told row =
         let (before, opens, V) = has in
         I.tells.kills.early seat before opens row ∙ ap (λ n. killed_before n (state_of row (past m s I))) (sym V.at)
@@ -348,7 +348,7 @@ module _ {O Key Recon Cond : Type 0} (m : Meaning Key Recon Cond) (s : Inside O 
               (logged_is s (seen_of s) refl seat (CloseVacuum seat count) slot.Free slots events t2 all ev, stage_set slots s.slots.items seat slot.Free all (seats m s I) (inside v here)),
         )
 
-    after_work : (v v2 : Vacuum) → slot_now ≡ slot.Vacuum v → (slots : List (Slot O Key Recon Cond)) → slots ≡ set s.slots.items seat (slot.Vacuum v2) → (swept : List RowAt) → events ≡ s.journal.events ++ sweeps seat swept → (out : VacuumOut) → ((count : ℕ) → out ≡ outs.Finished count → ⊥) → ((block by : ℕ) → out ≡ outs.Latched block by → swept ≡ []) →
+    pub after_work : (v v2 : Vacuum) → slot_now ≡ slot.Vacuum v → (slots : List (Slot O Key Recon Cond)) → slots ≡ set s.slots.items seat (slot.Vacuum v2) → (swept : List RowAt) → events ≡ s.journal.events ++ sweeps seat swept → (out : VacuumOut) → ((count : ℕ) → out ≡ outs.Finished count → ⊥) → ((block by : ℕ) → out ≡ outs.Latched block by → swept ≡ []) →
         IsAfterWork (seen_of s) (shown slots) seat v2 swept out
     after_work v v2 here slots items swept ev outs.Block k none = (logged_all_is s (seen_of s) refl seat (sweeps seat swept) (slot.Vacuum v2) slots events t2 items ev, stage_set slots s.slots.items seat (slot.Vacuum v2) items (seats m s I) (inside v here))
     after_work v v2 here slots items swept ev outs.Pending k none = (logged_all_is s (seen_of s) refl seat (sweeps seat swept) (slot.Vacuum v2) slots events t2 items ev, stage_set slots s.slots.items seat (slot.Vacuum v2) items (seats m s I) (inside v here))
@@ -358,7 +358,7 @@ module _ {O Key Recon Cond : Type 0} (m : Meaning Key Recon Cond) (s : Inside O 
     after_work v v2 here slots items swept ev (outs.Finished count) k none = absurd (k count refl)
 
     -- a section that has latched nothing out of the way sweeps nothing
-    none_latched : (v v2 : Vacuum) (out : VacuumOut) (swept : List RowAt) (horizon : ℕ) → DoesWork s.table t2 v v2 test horizon seat out swept → (block by : ℕ) → out ≡ outs.Latched block by → swept ≡ []
+    pub none_latched : (v v2 : Vacuum) (out : VacuumOut) (swept : List RowAt) (horizon : ℕ) → DoesWork s.table t2 v v2 test horizon seat out swept → (block by : ℕ) → out ≡ outs.Latched block by → swept ≡ []
     none_latched v v2 out swept horizon D block by e = (subst (λ (o : VacuumOut). DoesWork s.table t2 v v2 test horizon seat o swept) e D).0
 
     pub going_seen : (x : Slot O Key Recon Cond) → slot_now ≡ x → (slots : List (Slot O Key Recon Cond)) (stepped : Stepped) → ((count : ℕ) → stepped.out ≡ outs.Finished count → ⊥) → Sweeps t2 slots stepped x → events ≡ s.journal.events ++ sweeps seat stepped.rows → StepsFor (seen_of s) (shown slots) seat stepped.out (stage_of x)

@@ -19,3 +19,7 @@ pub mod Runs
 pub mod Guides
 pub mod Looking
 pub mod Sifting
+pub mod RunsBounded
+pub mod Calls
+pub mod Since
+pub mod Loading

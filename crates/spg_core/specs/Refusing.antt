@@ -1,5 +1,5 @@
 -- Where a section of an insert is refused.
-use Rattle.std.specs.Prelude.{◌≡◌, ◌⊎◌, ◌+◌, ◌^◌, ℕ, ℤ, false, List, Result, OnErr, IsErrOf}
+use Rattle.std.specs.Prelude.{◌≡◌, ◌⊎◌, ◌+◌, ◌^◌, ℕ, ℤ, false, List, Result, OnOk, OnErr, IsErrOf}
 use Rattle.spg_opclass.specs.Meaning.{Meaning}
 use Rattle.spg_opclass.specs.declared.view.Choice.TheVariants as choice
 use Rattle.spg_tree.specs.Table.{Table}
@@ -44,12 +44,13 @@ Ticks m t d =
 -- ---- the whole of a refusal
 
 -- A section is refused for a full index or clock only where the tree has outgrown its root page, near the limit or at the last clock, and where a pick finds no page or the clock is raised.
--- One that raises the last clock is refused for that or for want of memory, and one that is refused leaves table and insert as they were
+-- One that raises the last clock is refused for that or for want of memory; one whose pick finds no page is refused; and one that is refused leaves table and insert as they were
 pub record Refuses {Key Recon Cond : Type 0} (m : Meaning Key Recon Cond) (t t2 : Table) (d d2 : Descending Recon) (seat : ℕ) (result : Result InsertOut StepRefused) : Type 0 where
   pub full : IsErrOf result IndexFull → IsOutgrown t d × IsNearLimit t
   pub clock : IsErrOf result ClockFull → IsOutgrown t d × (t.clock + 1 ≡ 2 ^ 48)
   pub full_where : IsErrOf result IndexFull → FindsNoPage m t d seat
   pub clock_where : IsErrOf result ClockFull → Ticks m t d
   pub clock_first : Ticks m t d → t.clock + 1 ≡ 2 ^ 48 → IsErrOf result ClockFull ⊎ IsErrOf result Memory
+  pub not_full : OnOk result (FindsNoPage m t d seat → ⊥)
   pub err : OnErr result (t2 ≡ t)
   pub err_descent : OnErr result (d2 ≡ d)

@@ -2,6 +2,7 @@
 use Rattle.std.specs.Prelude.{◌≡◌, ◌<◌, ◌≤◌, ◌^◌, ◌++◌, ℕ, true, false, List, [], ◌∷◌, Option, length, reverse, slice_set, if◌then◌else◌, ◌==◌, ⊤}
 use Rattle.spg_base.specs.Row.{RowAt}
 use Rattle.spg_opclass.specs.Meaning.{Meaning}
+use Rattle.spg_opclass.specs.declared.copied.Copied.{Copied}
 use Rattle.spg_opclass.specs.declared.query.Query.{Query}
 use Rattle.spg_rows.specs.declared.event.Event.{Event}
 use Rattle.spg_rows.specs.declared.event.Event.TheVariants as event
@@ -13,6 +14,8 @@ use Rattle.spg_tree.specs.Descents.{Descending}
 use Rattle.spg_descend.specs.Enters.{opened_for, CarriesNew}
 use Rattle.spg_scan.specs.Scanning.{Scanning, IsClosing, opened}
 use Rattle.spg_scan.specs.Reading.{IsReadOut}
+use Rattle.spg_scan.specs.Copying.{IsCopyOut, TakesIn}
+use Rattle.spg_scan.specs.declared.scan_copy.ScanCopy.{ScanCopy}
 use Rattle.spg_scan.specs.declared.walk.ReadOut.{ReadOut}
 use Rattle.spg_scan.specs.declared.walk.Closed.{Closed}
 use Rattle.spg_seats.specs.Drops.{MayDrop}
@@ -36,6 +39,8 @@ pub data Call (O Key Recon Cond : Type 0) : Type 0 where
   kills : RowAt → Call O Key Recon Cond
   opens_scan : Query O Key Recon Cond → Call O Key Recon Cond
   reads : ℕ → ReadOut → Call O Key Recon Cond
+  copies : ℕ → ScanCopy O Key Recon Cond → Call O Key Recon Cond
+  sifts : ℕ → Copied O Key Recon Cond → Call O Key Recon Cond
   closes : Closed → Call O Key Recon Cond
   drops : RowAt → Why → Call O Key Recon Cond
   leaves : Call O Key Recon Cond
@@ -62,6 +67,8 @@ events_of seat (steps row out) = put_by seat row out
 events_of seat (kills row) = event.Kill seat row ∷ []
 events_of seat (opens_scan query) = event.OpenScan seat query ∷ []
 events_of seat (reads item out) = []
+events_of seat (copies item out) = []
+events_of seat (sifts item copied) = []
 events_of seat (closes closed) = event.CloseScan seat closed.rows ∷ []
 events_of seat (drops row why) = event.Drop seat row why ∷ []
 events_of seat leaves = event.Leave seat ∷ []
@@ -112,13 +119,17 @@ Does m s s2 seat (opens_scan query) =
     (stage_in s.stages seat ≡ free) × Goes s s2 seat (reading (opened m query (length s.journal) s.table.clock)) (event.OpenScan seat query ∷ []) × (s2.table ≡ untouched s.table) × SameRows s s2
 Does {O} {Key} {Recon} {Cond} m s s2 seat (reads item out) =
     (q q2 : Scanning O Key Recon Cond) × (stage_in s.stages seat ≡ reading q) × IsReadOut m s.table s.rows q q2 item seat out × Goes s s2 seat (reading q2) [] × (s2.table ≡ untouched s.table) × SameRows s s2
+Does {O} {Key} {Recon} {Cond} m s s2 seat (copies item out) =
+    (q q2 : Scanning O Key Recon Cond) × (stage_in s.stages seat ≡ reading q) × IsCopyOut m s.table s.rows q q2 item seat out × Goes s s2 seat (reading q2) [] × (s2.table ≡ untouched s.table) × SameRows s s2
+Does {O} {Key} {Recon} {Cond} m s s2 seat (sifts item copied) =
+    (q q2 : Scanning O Key Recon Cond) × (stage_in s.stages seat ≡ reading q) × TakesIn m q q2 item copied × Goes s s2 seat (reading q2) [] × (s2.table ≡ untouched s.table) × SameRows s s2
 Does {O} {Key} {Recon} {Cond} m s s2 seat (closes closed) =
     (q : Scanning O Key Recon Cond) × (stage_in s.stages seat ≡ reading q) × (q.items ≡ []) × IsClosing q closed × Goes s s2 seat free (event.CloseScan seat closed.rows ∷ []) × (s2.table ≡ untouched s.table) × SameRows s s2
 Does {O} {Key} {Recon} {Cond} m s s2 seat (drops row why) =
     (key : Option Key) × (d : Descending Recon) × (stage_in s.stages seat ≡ descending key d) × (d.row ≡ row) × MayDrop s.table why × Goes s s2 seat free (event.Drop seat row why ∷ []) × ((t : Table) × IsButLatches s.table t × (s2.table ≡ untouched t)) × HoldsNone s2.table seat (rest_of s.table seat)
     × ChangesRows (event.Drop seat row why) (reverse s.journal) s s2
 Does {O} {Key} {Recon} {Cond} m s s2 seat leaves =
-    IsLeft (stage_in s.stages seat) × Goes s s2 seat free (event.Leave seat ∷ []) × (s2.table ≡ untouched s.table) × ChangesRows (event.Leave seat) (reverse s.journal) s s2
+    IsLeft (stage_in s.stages seat) × Goes s s2 seat free (event.Leave seat ∷ []) × ((t : Table) × IsButLatches s.table t × (s2.table ≡ untouched t)) × HoldsNone s2.table seat (rest_of s.table seat) × ChangesRows (event.Leave seat) (reverse s.journal) s s2
 Does {O} {Key} {Recon} {Cond} m s s2 seat opens_vacuum =
     (stage_in s.stages seat ≡ free) × NoneSweeps s.stages × Goes s s2 seat (sweeping (opened_vacuum (length s.journal) s.table.clock)) (event.OpenVacuum seat ∷ []) × (s2.table ≡ untouched s.table) × ChangesRows (event.OpenVacuum seat) (reverse s.journal) s s2
 Does m s s2 seat (works out swept) =

@@ -109,10 +109,10 @@ abbrev pub KillsRow : {O Key Recon Cond : Type 0} → Seen O Key Recon Cond → 
 KillsRow old new seat row true = (state_of row (past_of old) ≡ row_state.Live) × (new ≡ logged old seat (Kill seat row) free (untouched old.table)) × (stage_at new seat ≡ free)
 KillsRow old new seat row false = (state_of row (past_of old) ≢ row_state.Live) × (new ≡ old)
 
--- the keys of the insert's tree that were ever inserted take more than 8,160 bytes
+-- the keys of the insert's tree that were ever inserted take more than 8,160 bytes, where the state was not loaded
 abbrev pub IsHeavyFor : {O Key Recon Cond : Type 0} → Meaning Key Recon Cond → Seen O Key Recon Cond → Stage O Key Recon Cond → Type 0
 IsHeavyFor m seen free = ⊥
-IsHeavyFor m seen (descending key d) = 8160 < weight_of m (is_none key) (opened_keys (past_of seen))
+IsHeavyFor m seen (descending key d) = seen.origin.loaded ≡ false → 8160 < weight_of m (is_none key) (opened_keys (past_of seen))
 IsHeavyFor m seen (reading s) = ⊥
 IsHeavyFor m seen (sweeping v) = ⊥
 

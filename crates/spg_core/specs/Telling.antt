@@ -24,9 +24,10 @@ use Rattle.spg_descend.specs.PutTables.{PutsTable}
 use Rattle.spg_descend.specs.Rules.{IsRule}
 use Rattle.spg_split.specs.declared.split.SplitOut.{SplitOut}
 use Rattle.spg_split.specs.declared.split.SplitOut.TheVariants as splits
-use Rattle.spg_split.specs.Splits.{IsAtRoot, PartsWithout, IsSplitOut}
+use Rattle.spg_split.specs.Splits.{IsAtRoot, IsSplitOut}
+use Rattle.spg_split.specs.Cases.{NotesRoot}
 use Rattle.spg_split.specs.Below.{SplitsWithout, IsChainSplit}
-use Rattle.spg_split.specs.Causes.{IsCause, root_bytes, root_in_one, chain_bytes, chain_in_one}
+use Rattle.spg_split.specs.Causes.{IsCause, root_bytes, chain_bytes, chain_in_one}
 use Rattle.spg_split.specs.Tables.{RootTable, ChainTable}
 use Rattle.spg_move.specs.Moves.{MovesCarried}
 use Rattle.spg_move.specs.Nodes.{IsNodeAdded}
@@ -69,10 +70,10 @@ ChangesTuple m t t2 d d2 seat =
     ⊎ ((up : List ℕ) × (labels : List ℤ) × (child : ℕ) × (low : List ℕ) × IsAnswered m t d (choice.Split up labels child low) × PartsTuple m t t2 d d2 up labels child
     × IsParted t t2 (tuple_place d.stand) child seat (upper_at up labels) (lower_at t d low))
 
--- the leaves of the root page are divided; where that of the insert is left out, the rise is noted only where the others are in one node
+-- the leaves of the root page are divided; the insert notes a rise exactly where its leaf is left out and the others are all in one list
 abbrev pub DividesRoot : {Key Recon Cond : Type 0} → Meaning Key Recon Cond → Table → Table → Descending Recon → Descending Recon → ℕ → SplitOut → Type 0
 DividesRoot m t t2 d d2 seat out =
-    IsAtRoot d.stand × IsSplitOut m t t2 d d2 out × RootTable m t t2 d seat × IsCause (root_bytes m t d) out × ((out ≡ splits.LeftOut → PartsWithout m t t2 d d2 0) ⊎ root_in_one m t d)
+    IsAtRoot d.stand × IsSplitOut m t t2 d d2 out × RootTable m t t2 d seat × IsCause (root_bytes m t d) out × NotesRoot m t d d2 out
 
 -- so are those of the chain
 abbrev pub DividesChain : {Key Recon Cond : Type 0} → Meaning Key Recon Cond → Table → Table → Descending Recon → Descending Recon → ℕ → SplitOut → Type 0

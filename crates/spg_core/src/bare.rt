@@ -1,6 +1,8 @@
 ghost use Rattle.std.specs.Prelude.{false, ◌≡◌, ◌≢◌, ◌<◌, ◌≤◌, ◌+◌, ◌^◌, ◌↔◌, ◌⊎◌, [], ℕ, suc, Option, Some, None, IfOk, OnOk, OnErr, IsErrOf, IsTrue};
 ghost use Rattle.spg_base.specs.declared.recorded.Origin.{Origin};
-ghost use Rattle.spg_forest.specs.Shape.{Represents};
+ghost use Rattle.spg_forest.specs.Shape.{Shape, Represents};
+ghost use Rattle.spg_verdict.specs.Entries.{AreEntries};
+ghost use Rattle.spg_core.specs.Loading.{IsLoaded};
 ghost use Rattle.spg_base.specs.Row.{RowAt};
 ghost use Rattle.spg_rows.specs.Table.{state_in, key_in};
 ghost use Rattle.spg_rows.specs.Rows.{state_of, held_by, is_claimed};
@@ -9,11 +11,14 @@ ghost use Rattle.spg_rows.specs.Right.{Right};
 ghost use Rattle.spg_rows.specs.declared.table.RowState.TheVariants as row_state;
 ghost use Rattle.spg_rows.specs.declared.event.Event.TheVariants as event;
 ghost use Rattle.spg_rows.specs.History.{open_of};
-ghost use Rattle.spg_tree.specs.Table.{sheets_of};
+ghost use Rattle.spg_tree.specs.Table.{sheets_of, latch_at};
 ghost use Rattle.spg_seats.specs.Slots.{StageFits, LatchesAre, kept_key};
+ghost use Rattle.spg_scan.specs.Others.{ChangesPages};
 ghost use Rattle.spg_seats.specs.Descending.{ChangesHeld};
+ghost use Rattle.spg_bounds.specs.Bounds.{AreBounded, DropsAreLate};
 ghost use Rattle.spg_seats.specs.Drops.{HaveCauses};
 ghost use Rattle.spg_core.specs.Stage.{free, IsInserting, IsReading, IsSweeping, IsRead, IsStageOf, MayGiveUp, held_count, kind_of};
+ghost use Rattle.spg_core.specs.Since.{opened_at};
 ghost use Rattle.spg_core.specs.Seen.{stage_at, past_of, IsPresentWith};
 ghost use Rattle.spg_core.specs.Stepping.{IsNearLimit, Grows, MakesAtMostOne};
 ghost use Rattle.spg_core.specs.Ends.{SeatEnds, SeatThenEnds};
@@ -23,20 +28,24 @@ ghost use Rattle.spg_core.specs.Waiting.{is_used};
 ghost use Rattle.spg_core.specs.Looking.{LooksAt, StepsInsert, Asks, IsSpotted, IsBunch, CopiesItem, KeptIn, SiftsItem};
 ghost use Rattle.spg_core.specs.Guides.{GuidedIn};
 ghost use Rattle.spg_core.specs.Sections.{IsNew, OpensInsert, IsInsertOut, TellsSection, LatchesAfter, OthersHold, IsHeavy, SeatFindsNoPage, SeatTicks, KillsRow, OpensScan, ReadsItem, ClosesScan, OpensVacuum, StepsVacuum, GivesUp};
+ghost use Rattle.spg_core.specs.Runs.{opens_insert, opens_scan, reads, copies, sifts, closes, opens_vacuum};
+ghost use Rattle.spg_core.specs.Calls.{IsCall, Inserts, Looks, WorksOn, SweepsPages, IsWhole, kill_of, given};
 
 use crate::answer::{InsertOut, OpenKind, OpenRefused, VacuumOut, VacuumRefused};
 use crate::found::{Found, is_bunch, is_spotted, look_at};
 use crate::guide::Guide;
+use crate::loading::load_entries;
 use crate::look::{ApplyRefused, Look};
 use crate::operations::{close_slot, end_insert, end_vacuum, read_slot, release_slot, step_slot};
 use crate::sifting::{copy_slot, sift_slot};
-use crate::slot::{SEATS, Slot, descent_at, free_slots, give_up, kind, set_slot, slot_at};
+use crate::slot::{SEATS, Slot, descent_at, free_slots, give_up, kind, opened, set_slot, slot_at};
 use crate::stat::stat_of;
 use crate::sweeping::{are_empty, sweep_slot, tell_sweeps};
 use crate::vacuums::Vacuums;
 use crate::waiting::{scan_seat, vacuum_seat};
 use spg_base::{Memory, Origin, Row, RowSet, Same, SeatNo, Stamp, Stat};
 use spg_descend::open_descent;
+use spg_keys::Listed;
 use spg_opclass::{Chosen, OpClass, Parted, Query, Sifted, Started};
 use spg_rows::{Event, Journal, RowState, RowTable, Why};
 use spg_scan::{Closed, Liveness, ReadOut, Scan, ScanCopy, SiftRefused};
@@ -70,13 +79,14 @@ pub struct Bare<O: OpClass> {
 
 impl<O: OpClass> Model for Bare<O> {
     ghost use Rattle.spg_core.specs.Seen.{Seen};
-    ghost use Rattle.spg_core.specs.Kept.{seen_of, IsState};
+    ghost use Rattle.spg_core.specs.Kept.{seen_of, fields_of, IsState};
+    ghost use Rattle.spg_bounds.specs.Bounds.{IsBounded};
 
     ghost Value = { Seen O O.Key O.Recon O.Cond };
 
     ghost view = { seen_of };
 
-    ghost invariant = { λ s. IsState O.meaning s };
+    ghost invariant = { λ s. IsState O.meaning s × IsBounded O.meaning (fields_of s) };
 }
 
 impl<O: OpClass> Bare<O> {
@@ -104,6 +114,38 @@ impl<O: OpClass> Bare<O> {
         })
     }
 
+    /// The index of a table of well formed pages on which nobody has a latch, and of the list of their
+    /// entries. Its journal opens and puts each entry, in their order, by seat 0.
+    pub fn adopt(
+        alloc: Global,
+        table: PageTable,
+        listed: &[Listed<O::Key>],
+    ) -> Result<Bare<O>, Memory>
+        requires shape { Shape O.meaning (sheets_of table) }
+        requires entries { AreEntries O.meaning (sheets_of table) listed.now }
+        requires latches { (b : ℕ) → latch_at table b ≡ None }
+        ensures { IfOk result (λ state. IsLoaded table listed.now state) }
+    {
+        let (rows, journal) = load_entries(alloc, listed)?;
+        let origin = Origin {
+            limit: table.limit(),
+            pages: table.page_count(),
+            clock: table.clock(),
+            loaded: true,
+        };
+        Ok(Bare {
+            alloc,
+            table,
+            rows,
+            slots: free_slots(alloc)?,
+            journal,
+            vacuums: Vacuums::new(alloc),
+            targets: RowSet::new(alloc),
+            later: RowSet::new(alloc),
+            origin,
+        })
+    }
+
     /// With what the state was made. The limit is that of the pages.
     pub fn origin(&self) -> Origin
         ensures value { result ≡ self.now.origin }
@@ -112,10 +154,12 @@ impl<O: OpClass> Bare<O> {
         self.origin
     }
 
-    /// The journal. It is legal, and each closed scan and each closed vacuum is right.
+    /// The journal. It is legal, and each closed scan and each closed vacuum is right. The state keeps
+    /// all that a state keeps, so any calls may follow (`seen_laws`).
     pub fn journal(&self) -> &Journal<O>
         ensures events { result.now.events ≡ self.now.journal }
         ensures right { Right O.meaning self.now.journal }
+        ensures whole { IsWhole O.meaning self.now }
     {
         &self.journal
     }
@@ -130,22 +174,27 @@ impl<O: OpClass> Bare<O> {
 
     /// The pages. They are well formed and hold just the rows that are present, each with its key. A
     /// root is an inner tuple only where the keys of its tree that were ever inserted take more than
-    /// 8,160 bytes. A block is latched by a seat exactly where the seat's open insert stands on it or
+    /// 8,160 bytes, unless the state was made of an image. A block is latched by a seat exactly where the seat's open insert stands on it or
     /// has the tuple above on it. Where an insert was given up as the index was full, fewer than 4
-    /// blocks are left below the limit; where one was as the clock was at its end, it is there.
+    /// blocks are left below the limit; where one was as the clock was at its end, it is there. There
+    /// are at most 8 pages more than at the origin for each insert that was opened, and the clock has
+    /// gone on by 3 at most for each; so an insert was given up only where enough were opened.
     pub fn pages(&self) -> &PageTable
         ensures value { result.now ≡ self.now.table }
         ensures represents { Represents O.meaning (sheets_of self.now.table) (IsPresentWith (past_of self.now)) }
-        ensures heavy { RootsAreHeavy O.meaning self.now.table (past_of self.now) }
+        ensures heavy { self.now.origin.loaded ≡ false → RootsAreHeavy O.meaning self.now.table (past_of self.now) }
         ensures latches { LatchesAre self.now.table self.now.stages }
         ensures drops { HaveCauses (past_of self.now) self.now.table }
+        ensures bounds { AreBounded self.now.origin self.now.table (past_of self.now) }
+        ensures late { DropsAreLate self.now.origin (past_of self.now) }
     {
         &self.table
     }
 
     /// The clock, below 2^48.
     pub fn clock(&self) -> u64
-        ensures { result ≡ self.now.table.clock }
+        ensures value { result ≡ self.now.table.clock }
+        ensures in_range { self.now.table.clock < 2 ^ 48 }
     {
         self.table.clock()
     }
@@ -175,6 +224,14 @@ impl<O: OpClass> Bare<O> {
         ensures fits { StageFits O.meaning self.now.table (past_of self.now) seat (stage_at self.now seat) }
     {
         kind(slot_at(&self.slots, seat))
+    }
+
+    /// The position in the journal and the clock at which the seat's scan or vacuum opened. None exactly
+    /// where it has neither open.
+    pub fn opened(&self, seat: SeatNo) -> Option<(u64, Stamp)>
+        ensures { result ≡ opened_at (stage_at self.now seat) }
+    {
+        opened(slot_at(&self.slots, seat))
     }
 
     /// The seat that is waited for until the row may be inserted again: that of the vacuum that swept
@@ -218,6 +275,7 @@ impl<O: OpClass> Bare<O> {
     ) -> Result<(), OpenRefused>
         requires free { stage_at self.old seat ≡ free }
         ensures ok { OnOk result (OpensInsert O.meaning self.old self.new seat row started) }
+        ensures call { OnOk result (IsCall O.meaning self.old self.new seat (opens_insert row started)) }
         ensures row_used { IsErrOf result OpenRefused.RowUsed ↔ IsUsed (past_of self.old) row }
         ensures row_held { (by : ℕ) → IsErrOf result (OpenRefused.RowHeld by) ↔ (held_by row (past_of self.old) ≡ Some by) }
         ensures err { OnErr result (self.new ≡ self.old) }
@@ -249,7 +307,9 @@ impl<O: OpClass> Bare<O> {
         requires inserting { IsInserting (stage_at self.old seat) }
         requires guided { GuidedIn O.meaning self.old.table (stage_at self.old seat) guide }
         ensures ok { IfOk result (λ out. IsInsertOut self.old self.new seat out) }
+        ensures call { IfOk result (λ out. Inserts O.meaning self.old self.new seat out) }
         ensures told { IfOk result (λ out. TellsSection O.meaning self.old self.new seat out) }
+        ensures changes { IfOk result (λ _. ChangesPages O.meaning (past_of self.old) seat (sheets_of self.old.table) (sheets_of self.new.table) self.new.table.touched 0) }
         ensures latches { IfOk result (λ out. LatchesAfter self.new seat out) }
         ensures others { OthersHold self.old.table self.new.table seat }
         ensures within { ChangesHeld self.old.table self.new.table seat }
@@ -261,6 +321,7 @@ impl<O: OpClass> Bare<O> {
         ensures full_where { IsErrOf result StepRefused.IndexFull → SeatFindsNoPage O.meaning self.old seat }
         ensures clock_where { IsErrOf result StepRefused.ClockFull → SeatTicks O.meaning self.old seat }
         ensures clock_first { SeatTicks O.meaning self.old seat → self.old.table.clock + 1 ≡ 2 ^ 48 → IsErrOf result StepRefused.ClockFull ⊎ IsErrOf result StepRefused.Memory }
+        ensures no_page { SeatFindsNoPage O.meaning self.old seat → (SeatTicks O.meaning self.old seat → self.old.table.clock + 1 ≡ 2 ^ 48 → ⊥) → IsErrOf result StepRefused.IndexFull ⊎ IsErrOf result StepRefused.Memory }
         ensures err { OnErr result (self.new ≡ self.old) }
     {
         let out = step_slot(self.alloc, &mut self.table, &mut self.slots, seat, guide)?;
@@ -275,21 +336,24 @@ impl<O: OpClass> Bare<O> {
     /// The next section of an insert. `Descended` where it comes to the root, or from an inner
     /// tuple to the child or the empty downlink of a node. `Restructured` where the leaves are
     /// divided without its own, where a node is put into the inner tuple at which it stands, and
-    /// where that tuple is split. `Put` where the row is put, and the insert has ended. `IndexFull`
-    /// only where a pick of the section finds no page, and fewer than 4 blocks are left below the
-    /// limit. `ClockFull` where a chain moves, one below a root is divided, or a tuple with one
-    /// more node does not fit in its place, and the clock is 2^48 - 1. Both only where the keys of
-    /// its tree that were ever inserted take more than 8,160 bytes. `Restarted` exactly where the
-    /// root or child to be visited stands on a block that another seat has latched: the insert is
-    /// at its start then. It changes only blocks that the seat had latched or that nobody had; at
-    /// its start, and once its row is put, the seat has latched none. The latches of the other
-    /// seats stay. No page is lost, and the clock does not go back. It makes one inner tuple at
-    /// most, and takes one of the sections that may come yet.
+    /// where that tuple is split. `Put` where the row is put, and the insert has ended. `ClockFull`
+    /// exactly where a chain moves, one below a root is divided, or a tuple with one more node does
+    /// not fit in its place, and the clock is 2^48 - 1, unless memory is short before. `IndexFull`
+    /// exactly where a pick of the section finds no page, unless the clock or want of memory stops
+    /// it before; fewer than 4 blocks are left below the limit then. Both only where the keys of its
+    /// tree that were ever inserted take more than 8,160 bytes. `Restarted` exactly where the root
+    /// or child to be visited stands on a block that another seat has latched: the insert is at its
+    /// start then. It changes only blocks that the seat had latched or that nobody had; at its
+    /// start, and once its row is put, the seat has latched none. The latches of the other seats
+    /// stay. No page is lost, and the clock does not go back. It makes one inner tuple at most, and
+    /// takes one of the sections that may come yet.
     #[inline(always)]
     pub(crate) fn insert_step(&mut self, class: &O, seat: SeatNo) -> Result<InsertOut, StepRefused>
         requires inserting { IsInserting (stage_at self.old seat) }
         ensures ok { IfOk result (λ out. IsInsertOut self.old self.new seat out) }
+        ensures call { IfOk result (λ out. Inserts O.meaning self.old self.new seat out) }
         ensures told { IfOk result (λ out. TellsSection O.meaning self.old self.new seat out) }
+        ensures changes { IfOk result (λ _. ChangesPages O.meaning (past_of self.old) seat (sheets_of self.old.table) (sheets_of self.new.table) self.new.table.touched 0) }
         ensures latches { IfOk result (λ out. LatchesAfter self.new seat out) }
         ensures others { OthersHold self.old.table self.new.table seat }
         ensures within { ChangesHeld self.old.table self.new.table seat }
@@ -301,6 +365,7 @@ impl<O: OpClass> Bare<O> {
         ensures full_where { IsErrOf result StepRefused.IndexFull → SeatFindsNoPage O.meaning self.old seat }
         ensures clock_where { IsErrOf result StepRefused.ClockFull → SeatTicks O.meaning self.old seat }
         ensures clock_first { SeatTicks O.meaning self.old seat → self.old.table.clock + 1 ≡ 2 ^ 48 → IsErrOf result StepRefused.ClockFull ⊎ IsErrOf result StepRefused.Memory }
+        ensures no_page { SeatFindsNoPage O.meaning self.old seat → (SeatTicks O.meaning self.old seat → self.old.table.clock + 1 ≡ 2 ^ 48 → ⊥) → IsErrOf result StepRefused.IndexFull ⊎ IsErrOf result StepRefused.Memory }
         ensures err { OnErr result (self.new ≡ self.old) }
     {
         self.go_on(seat, Guide::Class(class))
@@ -311,6 +376,7 @@ impl<O: OpClass> Bare<O> {
         requires inserting { IsInserting (stage_at self.old seat) }
         requires guided { GuidedIn O.meaning self.old.table (stage_at self.old seat) guide }
         ensures ok { IfOk result (λ out. StepsInsert O.meaning self.old self.new seat out) }
+        ensures call { IfOk result (λ out. Inserts O.meaning self.old self.new seat out) }
         ensures unchanged { IsErrOf result ApplyRefused.Changed → ⊥ }
         ensures others { OthersHold self.old.table self.new.table seat }
         ensures within { ChangesHeld self.old.table self.new.table seat }
@@ -320,6 +386,7 @@ impl<O: OpClass> Bare<O> {
         ensures full_where { IsErrOf result ApplyRefused.IndexFull → SeatFindsNoPage O.meaning self.old seat }
         ensures clock_where { IsErrOf result ApplyRefused.ClockFull → SeatTicks O.meaning self.old seat }
         ensures clock_first { SeatTicks O.meaning self.old seat → self.old.table.clock + 1 ≡ 2 ^ 48 → IsErrOf result ApplyRefused.ClockFull ⊎ IsErrOf result ApplyRefused.Memory }
+        ensures no_page { SeatFindsNoPage O.meaning self.old seat → (SeatTicks O.meaning self.old seat → self.old.table.clock + 1 ≡ 2 ^ 48 → ⊥) → IsErrOf result ApplyRefused.IndexFull ⊎ IsErrOf result ApplyRefused.Memory }
         ensures err { OnErr result (self.new ≡ self.old) }
     {
         match self.go_on(seat, guide) {
@@ -337,6 +404,7 @@ impl<O: OpClass> Bare<O> {
     pub fn insert_look(&mut self, seat: SeatNo) -> Result<Look<O>, StepRefused>
         requires inserting { IsInserting (stage_at self.old seat) }
         ensures ok { IfOk result (λ look. LooksAt O.meaning self.old self.new seat look) }
+        ensures call { IfOk result (λ look. Looks O.meaning self.old self.new seat look) }
         ensures others { OthersHold self.old.table self.new.table seat }
         ensures within { ChangesHeld self.old.table self.new.table seat }
         ensures grows { Grows self.old.table self.new.table }
@@ -345,6 +413,7 @@ impl<O: OpClass> Bare<O> {
         ensures full_where { IsErrOf result StepRefused.IndexFull → SeatFindsNoPage O.meaning self.old seat }
         ensures clock_where { IsErrOf result StepRefused.ClockFull → SeatTicks O.meaning self.old seat }
         ensures clock_first { (Asks self.old seat → ⊥) → SeatTicks O.meaning self.old seat → self.old.table.clock + 1 ≡ 2 ^ 48 → IsErrOf result StepRefused.ClockFull ⊎ IsErrOf result StepRefused.Memory }
+        ensures no_page { (Asks self.old seat → ⊥) → SeatFindsNoPage O.meaning self.old seat → (SeatTicks O.meaning self.old seat → self.old.table.clock + 1 ≡ 2 ^ 48 → ⊥) → IsErrOf result StepRefused.IndexFull ⊎ IsErrOf result StepRefused.Memory }
         ensures full_asks { IsErrOf result StepRefused.IndexFull → Asks self.old seat → ⊥ }
         ensures clock_asks { IsErrOf result StepRefused.ClockFull → Asks self.old seat → ⊥ }
         ensures err { OnErr result (self.new ≡ self.old) }
@@ -371,6 +440,7 @@ impl<O: OpClass> Bare<O> {
     ) -> Result<InsertOut, ApplyRefused>
         requires inserting { IsInserting (stage_at self.old seat) }
         ensures ok { IfOk result (λ out. IsSpotted self.old seat chosen.now × StepsInsert O.meaning self.old self.new seat out) }
+        ensures call { IfOk result (λ out. Inserts O.meaning self.old self.new seat out) }
         ensures changed { IsErrOf result ApplyRefused.Changed → IsSpotted self.old seat chosen.now → ⊥ }
         ensures others { OthersHold self.old.table self.new.table seat }
         ensures within { ChangesHeld self.old.table self.new.table seat }
@@ -380,6 +450,7 @@ impl<O: OpClass> Bare<O> {
         ensures full_where { IsErrOf result ApplyRefused.IndexFull → SeatFindsNoPage O.meaning self.old seat }
         ensures clock_where { IsErrOf result ApplyRefused.ClockFull → SeatTicks O.meaning self.old seat }
         ensures clock_first { IsSpotted self.old seat chosen.now → SeatTicks O.meaning self.old seat → self.old.table.clock + 1 ≡ 2 ^ 48 → IsErrOf result ApplyRefused.ClockFull ⊎ IsErrOf result ApplyRefused.Memory }
+        ensures no_page { IsSpotted self.old seat chosen.now → SeatFindsNoPage O.meaning self.old seat → (SeatTicks O.meaning self.old seat → self.old.table.clock + 1 ≡ 2 ^ 48 → ⊥) → IsErrOf result ApplyRefused.IndexFull ⊎ IsErrOf result ApplyRefused.Memory }
         ensures err { OnErr result (self.new ≡ self.old) }
     {
         let descent = descent_at(&self.slots, seat);
@@ -399,6 +470,7 @@ impl<O: OpClass> Bare<O> {
     ) -> Result<InsertOut, ApplyRefused>
         requires inserting { IsInserting (stage_at self.old seat) }
         ensures ok { IfOk result (λ out. IsBunch self.old seat parted.now × StepsInsert O.meaning self.old self.new seat out) }
+        ensures call { IfOk result (λ out. Inserts O.meaning self.old self.new seat out) }
         ensures changed { IsErrOf result ApplyRefused.Changed → IsBunch self.old seat parted.now → ⊥ }
         ensures others { OthersHold self.old.table self.new.table seat }
         ensures within { ChangesHeld self.old.table self.new.table seat }
@@ -408,6 +480,7 @@ impl<O: OpClass> Bare<O> {
         ensures full_where { IsErrOf result ApplyRefused.IndexFull → SeatFindsNoPage O.meaning self.old seat }
         ensures clock_where { IsErrOf result ApplyRefused.ClockFull → SeatTicks O.meaning self.old seat }
         ensures clock_first { IsBunch self.old seat parted.now → SeatTicks O.meaning self.old seat → self.old.table.clock + 1 ≡ 2 ^ 48 → IsErrOf result ApplyRefused.ClockFull ⊎ IsErrOf result ApplyRefused.Memory }
+        ensures no_page { IsBunch self.old seat parted.now → SeatFindsNoPage O.meaning self.old seat → (SeatTicks O.meaning self.old seat → self.old.table.clock + 1 ≡ 2 ^ 48 → ⊥) → IsErrOf result ApplyRefused.IndexFull ⊎ IsErrOf result ApplyRefused.Memory }
         ensures err { OnErr result (self.new ≡ self.old) }
     {
         let descent = descent_at(&self.slots, seat);
@@ -421,6 +494,7 @@ impl<O: OpClass> Bare<O> {
     pub fn kill(&mut self, seat: SeatNo, row: Row) -> Result<bool, Memory>
         requires free { stage_at self.old seat ≡ free }
         ensures ok { IfOk result (λ killed. KillsRow self.old self.new seat row killed) }
+        ensures call { IfOk result (λ killed. IsCall O.meaning self.old self.new seat (kill_of row killed)) }
         ensures err { OnErr result (self.new ≡ self.old) }
     {
         if !is_live(self.rows.state(row)) {
@@ -444,6 +518,7 @@ impl<O: OpClass> Bare<O> {
         requires free { stage_at self.old seat ≡ free }
         requires start { start ≡ O.meaning.start }
         ensures ok { OnOk result (OpensScan O.meaning self.old self.new seat query) }
+        ensures call { OnOk result (IsCall O.meaning self.old self.new seat (opens_scan query)) }
         ensures err { OnErr result (self.new ≡ self.old) }
     {
         let told = query.copy()?;
@@ -467,6 +542,7 @@ impl<O: OpClass> Bare<O> {
     ) -> Result<ReadOut, Memory>
         requires held { item < held_count (stage_at self.old seat) }
         ensures ok { IfOk result (λ out. ReadsItem O.meaning self.old self.new seat item out) }
+        ensures call { IfOk result (λ out. IsCall O.meaning self.old self.new seat (reads item out)) }
         ensures err { OnErr result (self.new ≡ self.old) }
     {
         let liveness = Liveness {
@@ -494,6 +570,7 @@ impl<O: OpClass> Bare<O> {
     pub fn scan_copy(&mut self, seat: SeatNo, item: usize) -> Result<ScanCopy<O>, Memory>
         requires held { item < held_count (stage_at self.old seat) }
         ensures ok { IfOk result (λ out. CopiesItem O.meaning self.old self.new seat item out) }
+        ensures call { IfOk result (λ out. IsCall O.meaning self.old self.new seat (copies item out)) }
         ensures err { OnErr result (self.new ≡ self.old) }
     {
         let out = copy_slot(&self.table, &self.rows, &mut self.slots, seat, item)?;
@@ -512,6 +589,7 @@ impl<O: OpClass> Bare<O> {
     ) -> Result<(), SiftRefused>
         requires reading { IsReading (stage_at self.old seat) }
         ensures ok { OnOk result (SiftsItem O.meaning self.old self.new seat item sifted.now) }
+        ensures call { OnOk result (IsCall O.meaning self.old self.new seat (sifts item sifted.now)) }
         ensures changed { IsErrOf result SiftRefused.Changed ↔ (KeptIn (stage_at self.old seat) item sifted.now → ⊥) }
         ensures err { OnErr result (self.new ≡ self.old) }
     {
@@ -524,6 +602,7 @@ impl<O: OpClass> Bare<O> {
     pub fn close_scan(&mut self, seat: SeatNo) -> Result<Closed, Memory>
         requires read { IsRead (stage_at self.old seat) }
         ensures ok { IfOk result (λ closed. ClosesScan self.old self.new seat closed) }
+        ensures call { IfOk result (λ closed. IsCall O.meaning self.old self.new seat (closes closed)) }
         ensures err { OnErr result (self.new ≡ self.old) }
     {
         let (told, closed) = close_slot(self.alloc, &mut self.slots, seat)?;
@@ -538,6 +617,7 @@ impl<O: OpClass> Bare<O> {
     pub fn open_vacuum(&mut self, seat: SeatNo) -> Result<(), VacuumRefused>
         requires free { stage_at self.old seat ≡ free }
         ensures ok { OnOk result (OpensVacuum self.old self.new seat) }
+        ensures call { OnOk result (IsCall O.meaning self.old self.new seat opens_vacuum) }
         ensures open { (by : ℕ) → IsErrOf result (VacuumRefused.Open by) ↔ IsSweeping (stage_at self.old by) }
         ensures err { OnErr result (self.new ≡ self.old) }
     {
@@ -560,10 +640,13 @@ impl<O: OpClass> Bare<O> {
     /// block; `Finished` exactly where there is no next block either, and the vacuum has ended then.
     /// `Latched` exactly where another seat has latched the block to be handled, and nothing changes.
     /// The rows that it sweeps are told in the order of the offsets that they had. Redirects become
-    /// placeholders whose stamps are below the opening stamp of the vacuum and of each open scan.
+    /// placeholders whose stamps are below the opening stamp of the vacuum and of each open scan, so
+    /// what began at such a stamp takes no harm.
     pub fn vacuum_step(&mut self, seat: SeatNo) -> Result<VacuumOut, Memory>
         requires sweeping { IsSweeping (stage_at self.old seat) }
         ensures ok { IfOk result (λ out. StepsVacuum self.old self.new seat out) }
+        ensures call { IfOk result (λ out. WorksOn O.meaning self.old self.new seat out) }
+        ensures changes { IfOk result (λ _. SweepsPages O.meaning self.old self.new seat) }
         ensures others { OthersHold self.old.table self.new.table seat }
         ensures within { ChangesHeld self.old.table self.new.table seat }
         ensures grows { Grows self.old.table self.new.table }
@@ -604,7 +687,8 @@ impl<O: OpClass> Bare<O> {
     pub fn abandon(&mut self, seat: SeatNo, why: Why)
         requires open { stage_at self.old seat ≢ free }
         requires why { MayGiveUp self.old.table (stage_at self.old seat) why }
-        ensures { GivesUp self.old self.new seat why }
+        ensures up { GivesUp self.old self.new seat why }
+        ensures call { IsCall O.meaning self.old self.new seat (given (stage_at self.old seat) why) }
     {
         let slot = set_slot(&mut self.slots, seat, Slot::Free);
         release_slot(&mut self.table, &mut self.rows, &slot, seat);
@@ -615,7 +699,7 @@ impl<O: OpClass> Bare<O> {
 }
 
 /// An equal key, or a null.
-fn copy_key<O: OpClass>(key: &Option<O::Key>) -> Result<Option<O::Key>, Memory>
+pub(crate) fn copy_key<O: OpClass>(key: &Option<O::Key>) -> Result<Option<O::Key>, Memory>
     ensures { IfOk result (λ copied. copied ≡ key.now) }
 {
     match key {

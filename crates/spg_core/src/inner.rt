@@ -5,7 +5,7 @@ ghost use Rattle.spg_descend.specs.Answers.{IsAnswered};
 ghost use Rattle.spg_descend.specs.Follows.{IsAtInner};
 ghost use Rattle.spg_core.specs.Stepping.{MayStep, IsToFollow};
 ghost use Rattle.spg_core.specs.Telling.{Does};
-ghost use Rattle.spg_core.specs.Refusing.{Refuses};
+ghost use Rattle.spg_core.specs.Refusing.{Refuses, FindsNoPage};
 
 use crate::answer::InsertOut;
 use spg_base::{Bytes, Labels, SeatNo};
@@ -29,7 +29,8 @@ pub(crate) fn go_down<O: OpClass>(
     requires can { MayStep O.meaning table.old descent.old }
     requires inner { IsAtInner table.old descent.old.stand }
     requires chosen { IsToFollow O.meaning table.old descent.old node rest by_turn below }
-    ensures { Does O.meaning table.old table.new descent.old descent.new seat result }
+    ensures does { Does O.meaning table.old table.new descent.old descent.new seat result }
+    ensures found { FindsNoPage O.meaning table.old descent.old seat → ⊥ }
 {
     let _count = table.page_count();
     let entered = follow(table, descent, seat, node, rest, below);
@@ -52,7 +53,8 @@ pub(crate) fn go_by_counter<O: OpClass>(
     requires can { MayStep O.meaning table.old descent.old }
     requires inner { IsAtInner table.old descent.old.stand }
     requires nulls { descent.old.recon ≡ Nil }
-    ensures { Does O.meaning table.old table.new descent.old descent.new seat result }
+    ensures does { Does O.meaning table.old table.new descent.old descent.new seat result }
+    ensures found { FindsNoPage O.meaning table.old descent.old seat → ⊥ }
 {
     let node = u16::from(table.counter());
     go_down(table, descent, seat, node, Bytes::new(alloc), true, None)

@@ -9,7 +9,7 @@ ghost use Rattle.spg_seats.specs.Descending.{Stands, HoldsIts, ChangesHeld};
 ghost use Rattle.spg_seats.specs.Latching.{InsertHolds};
 ghost use Rattle.spg_core.specs.Stepping.{MayStep, IsStepOut, MakesAtMostOne};
 ghost use Rattle.spg_core.specs.Telling.{IsRuleFor, StepTells, Does};
-ghost use Rattle.spg_core.specs.Refusing.{Refuses};
+ghost use Rattle.spg_core.specs.Refusing.{Refuses, FindsNoPage};
 ghost use Rattle.spg_core.specs.Guides.{IsGuided};
 ghost use Rattle.spg_core.specs.Ends.{TakesOne};
 ghost use Rattle.spg_core.specs.Latches.{HoldsAfter};
@@ -32,7 +32,8 @@ fn begin<O: OpClass>(table: &mut PageTable, descent: &mut Descent<O>, seat: Seat
     requires shape { Shape O.meaning (sheets_of table.old) }
     requires start { descent.old.stand ≡ Start }
     requires stands { Stands table.old descent.old }
-    ensures { Does O.meaning table.old table.new descent.old descent.new seat result }
+    ensures does { Does O.meaning table.old table.new descent.old descent.new seat result }
+    ensures found { FindsNoPage O.meaning table.old descent.old seat → ⊥ }
 {
     let _count = table.page_count();
     match enter_root(table, descent, seat) {

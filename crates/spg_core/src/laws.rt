@@ -1,4 +1,6 @@
 ghost use Rattle.spg_core.specs.Runs.{RunsKeep};
+ghost use Rattle.spg_core.specs.RunsBounded.{RunsBounded};
+ghost use Rattle.spg_core.specs.Calls.{CallsKeep};
 
 use spg_opclass::OpClass;
 
@@ -8,4 +10,15 @@ use spg_opclass::OpClass;
 /// seat are those of its calls, in order.
 pub fn call_laws<O: OpClass>()
     ensures { RunsKeep O O.Key O.Recon O.Cond O.meaning }
+{}
+
+/// So do any calls that a clause `call` of a state or an index tells, one after another, from a state
+/// on of which `journal` tells that it is whole.
+pub fn seen_laws<O: OpClass>()
+    ensures { CallsKeep O O.Key O.Recon O.Cond O.meaning }
+{}
+
+/// They keep the account of pages and clock too.
+pub fn bound_laws<O: OpClass>()
+    ensures { RunsBounded O O.Key O.Recon O.Cond O.meaning }
 {}

@@ -10,6 +10,7 @@ mod inner;
 mod insert;
 mod latches;
 mod laws;
+mod loading;
 mod look;
 mod operations;
 mod recorded;
@@ -24,8 +25,9 @@ mod waiting;
 
 pub use answer::{InsertOut, InsertRan, OpenKind, OpenRefused, VacuumOut, VacuumRefused};
 pub use bare::Bare;
-pub use laws::call_laws;
+pub use laws::{bound_laws, call_laws, seen_laws};
 pub use look::{ApplyRefused, Look};
 pub use spg_scan::{Closed, ReadOut, ScanCopy, SiftRefused};
 pub use spg_tree::StepRefused;
+pub use stat::stat_of;
 pub use state::State;

@@ -48,6 +48,7 @@ pub(crate) fn step_slot<O: OpClass>(
     ensures full_where { IsErrOf result IndexFull → FindsNoPageFor O.meaning table.old seat (stage_of (slice_index_or slots.old.items seat kept.Free)) }
     ensures clock_where { IsErrOf result ClockFull → TicksFor O.meaning table.old (stage_of (slice_index_or slots.old.items seat kept.Free)) }
     ensures clock_first { TicksFor O.meaning table.old (stage_of (slice_index_or slots.old.items seat kept.Free)) → table.old.clock + 1 ≡ 2 ^ 48 → IsErrOf result ClockFull ⊎ IsErrOf result NoMemory }
+    ensures no_page { FindsNoPageFor O.meaning table.old seat (stage_of (slice_index_or slots.old.items seat kept.Free)) → (TicksFor O.meaning table.old (stage_of (slice_index_or slots.old.items seat kept.Free)) → table.old.clock + 1 ≡ 2 ^ 48 → ⊥) → IsErrOf result IndexFull ⊎ IsErrOf result NoMemory }
     ensures err { OnErr result (table.new ≡ table.old) }
     ensures err_slots { OnErr result (slots.new.items ≡ slots.old.items) }
 {

@@ -1,11 +1,12 @@
 ghost use Rattle.std.specs.Prelude.{◌≡◌, ◌<◌, length, replicate, slice_set, slice_index_or, IfOk};
 ghost use Rattle.spg_core.specs.declared.slot.Slot.TheVariants as kept;
 ghost use Rattle.spg_core.specs.Stage.{kind_of, given_up};
+ghost use Rattle.spg_core.specs.Since.{opened_at};
 ghost use Rattle.spg_core.specs.Slot.{stage_of};
 ghost use Rattle.spg_core.specs.Operations.{IsInsert, IsDescentOf};
 
 use crate::answer::OpenKind;
-use spg_base::{Memory, SeatNo};
+use spg_base::{Memory, SeatNo, Stamp};
 use spg_opclass::OpClass;
 use spg_rows::{Event, Why};
 use spg_scan::{Scan, Walk};
@@ -78,6 +79,18 @@ pub fn kind<O: OpClass>(slot: &Slot<O>) -> OpenKind
         Slot::Insert { .. } => OpenKind::Insert,
         Slot::Scan(scan) => OpenKind::Scan { held: scan.held() },
         Slot::Vacuum(_) => OpenKind::Vacuum,
+    }
+}
+
+/// The position in the journal and the clock at which the scan or the vacuum of the slot opened. None
+/// exactly where it has neither.
+pub fn opened<O: OpClass>(slot: &Slot<O>) -> Option<(u64, Stamp)>
+    ensures { result ≡ opened_at (stage_of slot.now) }
+{
+    match slot {
+        Slot::Scan(scan) => Some((scan.at(), scan.stamp())),
+        Slot::Vacuum(vacuum) => Some((vacuum.at(), vacuum.stamp())),
+        _ => None,
     }
 }
 

@@ -5,7 +5,7 @@ ghost use Rattle.spg_core.specs.Seen.{stage_at};
 ghost use Rattle.spg_core.specs.Stepping.{IsNearLimit, Grows};
 ghost use Rattle.spg_seats.specs.Descending.{ChangesHeld};
 ghost use Rattle.spg_core.specs.Sections.{IsHeavy, OthersHold, SeatFindsNoPage, SeatTicks};
-ghost use Rattle.spg_core.specs.Through.{StillInserts, RunsThrough};
+ghost use Rattle.spg_core.specs.Through.{StillInserts, RunsThrough, StepsOn, StepsThrough, OthersStay};
 
 use crate::answer::{InsertOut, InsertRan};
 use crate::state::State;
@@ -15,16 +15,20 @@ use spg_tree::StepRefused;
 
 impl<O: OpClass> State<O> {
     /// The sections of an insert one after another, until its row is put, another seat holds the block
-    /// to be visited, or a section is refused. It returns, since each section takes one of those that
-    /// may come yet. After a refusal the sections before it stand, and the insert is open as they left
-    /// it. `IndexFull` only where fewer than 4 blocks are left below the
-    /// limit, `ClockFull` only where the clock is 2^48 - 1, and both only where the keys of its tree
-    /// that were ever inserted take more than 8,160 bytes. After `Put` and `Restarted` the seat has
-    /// nothing latched. Only blocks change that the seat had latched or that nobody had, and the latches
-    /// of the other seats stay. No page is lost, and the clock does not go back. It waits for nobody.
+    /// to be visited, or a section is refused: each is one that `insert_step` does from the state that
+    /// the one before it left, and nothing else is done. It returns, since each section takes one of
+    /// those that may come yet. After a refusal the sections before it stand, and the insert is open as
+    /// they left it. What the other seats have open stays. `IndexFull` only where fewer than 4 blocks
+    /// are left below the limit, `ClockFull` only where the clock is 2^48 - 1, and both only where the
+    /// keys of its tree that were ever inserted take more than 8,160 bytes. After `Put` and `Restarted`
+    /// the seat has nothing latched. Only blocks change that the seat had latched or that nobody had,
+    /// and the latches of the other seats stay. No page is lost, and the clock does not go back. It
+    /// waits for nobody.
     pub fn insert_through(&mut self, seat: SeatNo) -> Result<InsertRan, StepRefused>
         requires inserting { IsInserting (stage_at self.old seat) }
         ensures ok { IfOk result (λ ran. RunsThrough self.old self.new seat ran) }
+        ensures steps { IfOk result (λ ran. StepsThrough O.meaning self.old self.new seat ran) }
+        ensures stay { OthersStay self.old self.new seat }
         ensures others { OthersHold self.old.table self.new.table seat }
         ensures within { ChangesHeld self.old.table self.new.table seat }
         ensures grows { Grows self.old.table self.new.table }
@@ -33,6 +37,7 @@ impl<O: OpClass> State<O> {
         ensures full_where { IsErrOf result IndexFull → SeatFindsNoPage O.meaning self.new seat }
         ensures clock_where { IsErrOf result ClockFull → SeatTicks O.meaning self.new seat }
         ensures err { OnErr result (StillInserts self.old self.new seat) }
+        ensures err_steps { OnErr result (StepsOn O.meaning self.old self.new seat) }
     {
         // Each section takes one of those that may come yet, and these are fewer than 2^64, so a return
         // leaves the loop.

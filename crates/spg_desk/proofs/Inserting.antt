@@ -1,8 +1,9 @@
 -- The sections of an insert.
-use Rattle.std.proofs.Common.{◌≡◌, ◌≢◌, ◌<◌, ◌⊎◌, inl, inr, ℕ, List, [], ◌∷◌, ◌++◌, length, drop, Option, Some, None, refl, sym, ap, ◌∙◌, subst}
+use Rattle.std.proofs.Common.{◌≡◌, ◌≢◌, ◌<◌, ◌⊎◌, inl, inr, ℕ, List, [], ◌∷◌, ◌++◌, length, drop, Option, Some, None, Err, refl, sym, ap, ◌∙◌, subst}
 use Rattle.std.specs.Prelude.{is_none}
 use Rattle.std.specs.List.{AllByRecursion}
 use Rattle.std.proofs.lemmas.Bool.{eq-eqb}
+use Rattle.spg_base.specs.declared.recorded.Origin.{Origin}
 use Rattle.spg_base.specs.Row.{RowAt}
 use Rattle.spg_base.specs.declared.names.Span.{Span}
 use Rattle.spg_opclass.specs.Meaning.{Meaning}
@@ -16,9 +17,11 @@ use Rattle.spg_core.specs.Stage.{IsInserting}
 use Rattle.spg_core.specs.Weight.{opened_keys}
 use Rattle.spg_calls.specs.Calls.{past_at, Watched, span_at, joined}
 use Rattle.spg_calls.specs.Doing.{Doing, idle, puts, scans, sweeps, doing_after}
+use Rattle.spg_core.specs.declared.answer.OpenRefused.{OpenRefused}
+use Rattle.spg_core.specs.declared.answer.OpenRefused.TheVariants as open_refused
 use Rattle.spg_desk.specs.Knowing.{doing_at}
 use Rattle.spg_desk.specs.Told.{Told}
-use Rattle.spg_desk.specs.Acting.{Adds, IsPutting, IsStageFor, IsPut, IsOn, endings, ending, IsDue, StepsPut, LooksPut, TellsPut, TellsLook}
+use Rattle.spg_desk.specs.Acting.{Adds, IsPutting, IsStageFor, IsPut, IsOn, endings, ending, IsDue, StepsPut, LooksPut, TellsPut, TellsLook, OpensPut}
 use Rattle.spg_desk.specs.Answers.{DidInsert, ended_insert}
 use Rattle.spg_desk.specs.declared.ended.Ended.{Ended}
 use Rattle.spg_desk.specs.declared.ended.Ended.TheVariants as ended
@@ -89,14 +92,15 @@ module _ {O Key Recon Cond : Type 0} (m : Meaning Key Recon Cond) where
       (looks, section_did m v h w lent old new seat span (λ n. look_events n row l) view is number watched (look_adds old new seat row key l looks) told)
 
   pub look_told : (v h w : View (Event O Key Recon Cond)) (lent old new : Seen O Key Recon Cond) (seat : ℕ) (span : Span) (l : Looked O Key Recon Cond) → h ≡ record v { seen = lent.journal } → old ≡ lent → seat ≡ h.number → Watched v.number v.seen lent.journal → IsStageFor (doing_at v) (stage_at lent v.number) → IsPut (doing_at v)
-      → ((row : RowAt) (key : Option Key) → IsPutting row key (stage_at old seat) → LooksPut m old new seat row key l) → w.seen ≡ new.journal → span ≡ span_at (length h.seen) (length w.seen) → Told m h w span (drop (length h.seen) new.journal) → TellsLook m v w span l
-  look_told v h w lent old new seat span (looked.Stepped end) view is number watched stage putting did seen at told = λ row key does.
+      → ((row : RowAt) (key : Option Key) → IsPutting row key (stage_at old seat) → LooksPut m old new seat row key l) → lent.origin ≡ h.origin → w.seen ≡ new.journal → span ≡ span_at (length h.seen) (length w.seen) → Told m h w span (drop (length h.seen) new.journal) → TellsLook m v w span l
+  look_told v h w lent old new seat span (looked.Stepped end) view is number watched stage putting did origin seen at told = λ row key does.
       let both = look_one v h w lent old new seat span (looked.Stepped end) row key view is number watched stage does did told in
-      (both.1, due_then m h w old new seat row key end span both.0.0 seen at both.0.1)
-  look_told v h w lent old new seat span (looked.Choose spotted) view is number watched stage putting did seen at told =
+      let same : old.origin ≡ v.origin = ap (λ (o : Seen O Key Recon Cond). o.origin) is ∙ (origin ∙ ap (λ (z : View (Event O Key Recon Cond)). z.origin) view) in
+      (both.1, due_then m h w old new seat row key end span both.0.0 seen at v.origin same both.0.1)
+  look_told v h w lent old new seat span (looked.Choose spotted) view is number watched stage putting did origin seen at told =
       let (row, key, does) = put_is (doing_at v) putting in
       (look_one v h w lent old new seat span (looked.Choose spotted) row key view is number watched stage does did told).1
-  look_told v h w lent old new seat span (looked.Part bunch) view is number watched stage putting did seen at told =
+  look_told v h w lent old new seat span (looked.Part bunch) view is number watched stage putting did origin seen at told =
       let (row, key, does) = put_is (doing_at v) putting in
       let both = look_one v h w lent old new seat span (looked.Part bunch) row key view is number watched stage does did told in
       (both.1, both.0.1)
@@ -111,7 +115,8 @@ module _ {O Key Recon Cond : Type 0} (m : Meaning Key Recon Cond) where
   on_puts v w x span end on tells = λ row key does.
       let number : w.number ≡ v.number = ap (λ (z : View (Event O Key Recon Cond)). z.number) on.0 in
       let both = tells row key (on_doing v w on ∙ does) in
-      (on_told m v w x span (endings v.number row end) on (subst (λ (n : ℕ). Told m w x span (endings n row end)) number both.0), both.1)
+      let origin : w.origin ≡ v.origin = ap (λ (z : View (Event O Key Recon Cond)). z.origin) on.0 in
+      (on_told m v w x span (endings v.number row end) on (subst (λ (n : ℕ). Told m w x span (endings n row end)) number both.0), subst (λ (o : Origin). IsDue m o key (past_at span.to x.seen) end) origin both.1)
 
   -- a section that did not end the insert was only a look
   pub puts_on : (u v w : View (Event O Key Recon Cond)) (span : Span) → IsOn u v → IsPut (doing_at v) → TellsPut m v w span None → IsOn u w
@@ -126,13 +131,20 @@ module _ {O Key Recon Cond : Type 0} (m : Meaning Key Recon Cond) where
   pub insert_doing : (v w : View (Event O Key Recon Cond)) (span : Span) (row : RowAt) (key : Option Key) → Told m v w span (OpenInsert v.number row key ∷ []) → doing_at w ≡ puts row key
   insert_doing v w span row key told = told_doing m v w span (OpenInsert v.number row key ∷ []) told ∙ (rw (eq-eqb v.number v.number refl) refl)
 
-  insert_both : (v w x : View (Event O Key Recon Cond)) (first last : Span) (row : RowAt) (key : Option Key) (end : Ended) → Told m v w first (OpenInsert v.number row key ∷ []) → TellsPut m w x last (Some end) → Told m v x (joined first last) (OpenInsert v.number row key ∷ ending v.number row end ∷ []) × IsDue m key (past_at (joined first last).to x.seen) (Some end)
+  -- one that was not opened has done nothing
+  pub refused_told : (v w : View (Event O Key Recon Cond)) (span : Span) (row : RowAt) (key : Option Key) (refused : OpenRefused) → OpensPut m v w span row key (Err refused) → Told m v w span []
+  refused_told v w span row key open_refused.RowUsed h = h.0
+  refused_told v w span row key (open_refused.RowHeld by) h = h.0
+  refused_told v w span row key open_refused.Memory h = h
+
+  insert_both : (v w x : View (Event O Key Recon Cond)) (first last : Span) (row : RowAt) (key : Option Key) (end : Ended) → Told m v w first (OpenInsert v.number row key ∷ []) → TellsPut m w x last (Some end) → Told m v x (joined first last) (OpenInsert v.number row key ∷ ending v.number row end ∷ []) × IsDue m v.origin key (past_at (joined first last).to x.seen) (Some end)
   insert_both v w x first last row key end told tells =
       let number : w.number ≡ v.number = ap (λ (z : View (Event O Key Recon Cond)). z.number) told.same in
+      let origin : w.origin ≡ v.origin = ap (λ (z : View (Event O Key Recon Cond)). z.origin) told.same in
       let both = tells row key (insert_doing v w first row key told) in
       let to : (joined first last).to ≡ last.to = joined_to w.number w.seen x.seen first last (ending w.number row end) [] both.0.called in (
         told_add m v w x first last (OpenInsert v.number row key ∷ []) (ending v.number row end ∷ []) told (subst (λ (n : ℕ). Told m w x last (ending n row end ∷ [])) number both.0),
-        subst (λ (n : ℕ). IsDue m key (past_at n x.seen) (Some end)) (sym to) both.1,
+        subst (λ (n : ℕ). IsDue m v.origin key (past_at n x.seen) (Some end)) (sym to) (subst (λ (o : Origin). IsDue m o key (past_at last.to x.seen) (Some end)) origin both.1),
       )
 
   pub inserted : (v w x : View (Event O Key Recon Cond)) (first last : Span) (row : RowAt) (key : Option Key) (end : Ended) → Told m v w first (OpenInsert v.number row key ∷ []) → TellsPut m w x last (Some end) → DidInsert m v x row key (ended_insert end (joined first last))

@@ -3,6 +3,7 @@ use Rattle.std.proofs.Common.{◌≡◌, ◌≢◌, ◌<◌, ◌≤◌, ◌+◌,
 use Rattle.std.specs.Prelude.{is_none}
 use Rattle.std.specs.List.{AllByRecursion}
 use Rattle.std.proofs.lemmas.List.{append-nil, drop_at, take_at, take_all, reverse-append}
+use Rattle.spg_base.specs.declared.recorded.Origin.{Origin}
 use Rattle.spg_base.specs.Row.{RowAt}
 use Rattle.spg_base.specs.declared.names.Span.{Span}
 use Rattle.spg_base.specs.declared.memory.Memory.{Memory}
@@ -274,25 +275,25 @@ module _ {O Key Recon Cond : Type 0} where
   keys_then w old new seat row end adds after = ap (λ l. opened_keys (reverse l)) (after ∙ adds.0) ∙ (ap opened_keys (reverse-append old.journal (ending seat row end ∷ [])) ∙ ended_keys seat row end (past_of old))
 
   pub due_then : (m : Meaning Key Recon Cond) (h w : View (Event O Key Recon Cond)) (old new : Seen O Key Recon Cond) (seat : ℕ) (row : RowAt) (key : Option Key) (end : Option Ended) (span : Span) → Adds old new (endings seat row end) → w.seen ≡ new.journal → span ≡ span_at (length h.seen) (length w.seen)
-      → IsDue m key (past_of old) end → IsDue m key (past_at span.to w.seen) end
-  due_then m h w old new seat row key None span adds after is due = tt
-  due_then m h w old new seat row key (Some ended.Put) span adds after is due = tt
-  due_then m h w old new seat row key (Some ended.Full) span adds after is due = subst (λ (l : List (Option Key)). 8160 < weight_of m (is_none key) l) (sym (ap opened_keys (whole_past h w span is) ∙ keys_then w old new seat row ended.Full adds after)) due
-  due_then m h w old new seat row key (Some ended.Clock) span adds after is due = subst (λ (l : List (Option Key)). 8160 < weight_of m (is_none key) l) (sym (ap opened_keys (whole_past h w span is) ∙ keys_then w old new seat row ended.Clock adds after)) due
-  due_then m h w old new seat row key (Some ended.Refused) span adds after is due = tt
+      → (origin : Origin) → old.origin ≡ origin → IsDue m old.origin key (past_of old) end → IsDue m origin key (past_at span.to w.seen) end
+  due_then m h w old new seat row key None span adds after is origin same due = tt
+  due_then m h w old new seat row key (Some ended.Put) span adds after is origin same due = tt
+  due_then m h w old new seat row key (Some ended.Full) span adds after is origin same due = λ fresh. subst (λ (l : List (Option Key)). 8160 < weight_of m (is_none key) l) (sym (ap opened_keys (whole_past h w span is) ∙ keys_then w old new seat row ended.Full adds after)) (due (ap (λ (o : Origin). o.loaded) same ∙ fresh))
+  due_then m h w old new seat row key (Some ended.Clock) span adds after is origin same due = λ fresh. subst (λ (l : List (Option Key)). 8160 < weight_of m (is_none key) l) (sym (ap opened_keys (whole_past h w span is) ∙ keys_then w old new seat row ended.Clock adds after)) (due (ap (λ (o : Origin). o.loaded) same ∙ fresh))
+  due_then m h w old new seat row key (Some ended.Refused) span adds after is origin same due = tt
 
   -- an insert at the stage of its row
-  pub heavy_due : (m : Meaning Key Recon Cond) (seen : Seen O Key Recon Cond) (row : RowAt) (key : Option Key) (stage : Stage O Key Recon Cond) → IsPutting row key stage → IsHeavyFor m seen stage → 8160 < weight_of m (is_none key) (opened_keys (past_of seen))
+  pub heavy_due : (m : Meaning Key Recon Cond) (seen : Seen O Key Recon Cond) (row : RowAt) (key : Option Key) (stage : Stage O Key Recon Cond) → IsPutting row key stage → IsHeavyFor m seen stage → seen.origin.loaded ≡ false → 8160 < weight_of m (is_none key) (opened_keys (past_of seen))
   heavy_due m seen row key free is heavy = absurd is
-  heavy_due m seen row key (descending k d) is heavy = subst (λ (x : Option Key). 8160 < weight_of m (is_none x) (opened_keys (past_of seen))) is.1 heavy
+  heavy_due m seen row key (descending k d) is heavy = λ fresh. subst (λ (x : Option Key). 8160 < weight_of m (is_none x) (opened_keys (past_of seen))) is.1 (heavy fresh)
   heavy_due m seen row key (reading s) is heavy = absurd is
   heavy_due m seen row key (sweeping v) is heavy = absurd is
 
-  pub never_due : (m : Meaning Key Recon Cond) (key : Option Key) (past : History O Key Recon Cond) (out : InsertOut) → IsDue m key past (ended_of out)
-  never_due m key past outs.Descended = tt
-  never_due m key past outs.Restructured = tt
-  never_due m key past (outs.Restarted block by) = tt
-  never_due m key past outs.Put = tt
+  pub never_due : (m : Meaning Key Recon Cond) (origin : Origin) (key : Option Key) (past : History O Key Recon Cond) (out : InsertOut) → IsDue m origin key past (ended_of out)
+  never_due m origin key past outs.Descended = tt
+  never_due m origin key past outs.Restructured = tt
+  never_due m origin key past (outs.Restarted block by) = tt
+  never_due m origin key past outs.Put = tt
 
   -- ---- the calls of the index
 

@@ -141,6 +141,16 @@ module _ {O Key Recon Cond : Type 0} (m : Meaning Key Recon Cond) where
   vacuumed v w span (Ok count) ends = ends
   vacuumed v w span (Err e) ends = inr ends
 
+  -- one that was not opened has done nothing
+  pub not_opened : (v w : View (Event O Key Recon Cond)) (span : Span) (refused : VacuumRefused) → OpensSweep m v w span (Err refused) → Told m v w span []
+  not_opened v w span (vacuum_refused.Open by) h = h.0
+  not_opened v w span vacuum_refused.Memory h = h
+
+  -- the events that it is told with
+  pub vacuum_told : (v w : View (Event O Key Recon Cond)) (span : Span) (r : Result ℕ Memory) → EndsSweep m v w span r → (events : List (Event O Key Recon Cond)) × Told m v w span events
+  vacuum_told v w span (Ok count) (rows, long, told) = (swept_then m v w rows (CloseVacuum v.number count), told)
+  vacuum_told v w span (Err e) (rows, told) = (swept_then m v w rows (Leave v.number), told)
+
   then_idle : (n : ℕ) (d : Doing O Key Recon Cond) (xs : List (Event O Key Recon Cond)) (last : Event O Key Recon Cond) → ((d2 : Doing O Key Recon Cond) → doing_after n d2 (last ∷ []) ≡ idle) → doing_after n d (xs ++ last ∷ []) ≡ idle
   then_idle n d xs last ends = doing_parts n d xs (last ∷ []) ∙ ends (doing_after n d xs)
 

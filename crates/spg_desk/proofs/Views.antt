@@ -17,7 +17,7 @@ use Rattle.spg_calls.specs.Doing.{Doing, idle, doing_after, doing_of}
 use Rattle.spg_calls.proofs.Journals.{own-append, own-all}
 use Rattle.spg_calls.proofs.Calls.{call_one, call_after, call_add}
 use Rattle.spg_calls.proofs.Doing.{doing_parts, doing_alone, doing_whole}
-use Rattle.spg_desk.specs.Knowing.{doing_at, own_since, IsPassed, IsLent}
+use Rattle.spg_desk.specs.Knowing.{doing_at, own_since, IsAtRest, IsPassed, IsLent}
 use Rattle.spg_desk.specs.Told.{Told}
 
 pub all_each : {X : Type 0} (P : X → Type 0) (xs : List X) → AllByRecursion P xs → All P xs
@@ -190,6 +190,14 @@ module _ {O Key Recon Cond : Type 0} where
   idle_nothing (inserting row key) does = absurd (cc)
   idle_nothing (scanning before query) does = absurd (cc)
   idle_nothing (vacuuming before) does = absurd (cc)
+
+  -- once its call has ended the seat has nothing open
+  pub at_rest : (m : Meaning Key Recon Cond) (v w : View (Event O Key Recon Cond)) (span : Span) (events : List (Event O Key Recon Cond)) → IsPassed w → Told m v w span events → doing_at w ≡ idle → IsAtRest w
+  at_rest m v w span events p told done = idle_nothing (open_of w.number (reverse w.seen)) (lent_doing w (record { based = p.based; whole = told.whole; before = p.before; kept = p.kept }) ∙ done)
+
+  -- so it is after a call that did nothing
+  pub rest_on : (m : Meaning Key Recon Cond) (v w : View (Event O Key Recon Cond)) (span : Span) → IsPassed w → Told m v w span [] → doing_at v ≡ idle → IsAtRest w
+  rest_on m v w span p told done = at_rest m v w span [] p told (told_doing m v w span [] told ∙ done)
 
   -- nothing is open in the journal that a first pass has seen, once each other pass was joined
   pub closed_idle : (v : View (Event O Key Recon Cond)) (journal : List (Event O Key Recon Cond)) → journal ≡ v.seen → v.number ≡ 0 → IsPassed v → doing_at v ≡ idle

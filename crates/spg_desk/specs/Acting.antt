@@ -1,5 +1,6 @@
 -- What the sections of a call do to the index, and what its seat is doing between them.
 use Rattle.std.specs.Prelude.{◌≡◌, ◌<◌, ◌++◌, ℕ, Bool, true, false, List, [], ◌∷◌, length, map, is_none, Option, Some, None, Result, Ok, Err, ⊤}
+use Rattle.spg_base.specs.declared.recorded.Origin.{Origin}
 use Rattle.spg_base.specs.Row.{RowAt}
 use Rattle.spg_base.specs.declared.names.Span.{Span}
 use Rattle.spg_base.specs.declared.memory.Memory.{Memory}
@@ -168,17 +169,17 @@ module _ {O Key Recon Cond : Type 0} where
   StepsSweep old new n out = (rows : List RowAt) × Adds old new (sweepings n rows out)
 
 module _ {O Key Recon Cond : Type 0} (m : Meaning Key Recon Cond) where
-  -- for `Full` and `Clock` the keys of the insert's tree that were ever inserted take more than 8,160 bytes
-  abbrev pub IsDue : Option Key → History O Key Recon Cond → Option Ended → Type 0
-  IsDue key past None = ⊤
-  IsDue key past (Some ended.Put) = ⊤
-  IsDue key past (Some ended.Full) = 8160 < weight_of m (is_none key) (opened_keys past)
-  IsDue key past (Some ended.Clock) = 8160 < weight_of m (is_none key) (opened_keys past)
-  IsDue key past (Some ended.Refused) = ⊤
+  -- for `Full` and `Clock` the keys of the insert's tree that were ever inserted take more than 8,160 bytes, where the state was not loaded
+  abbrev pub IsDue : Origin → Option Key → History O Key Recon Cond → Option Ended → Type 0
+  IsDue origin key past None = ⊤
+  IsDue origin key past (Some ended.Put) = ⊤
+  IsDue origin key past (Some ended.Full) = origin.loaded ≡ false → 8160 < weight_of m (is_none key) (opened_keys past)
+  IsDue origin key past (Some ended.Clock) = origin.loaded ≡ false → 8160 < weight_of m (is_none key) (opened_keys past)
+  IsDue origin key past (Some ended.Refused) = ⊤
 
   -- a section of the insert of a row ended it so, or did not end it
   abbrev pub StepsPut : Seen O Key Recon Cond → Seen O Key Recon Cond → ℕ → RowAt → Option Key → Option Ended → Type 0
-  StepsPut old new n row key end = Adds old new (endings n row end) × IsDue key (past_of old) end
+  StepsPut old new n row key end = Adds old new (endings n row end) × IsDue old.origin key (past_of old) end
 
   -- or the class is asked first, on a copy
   abbrev pub LooksPut : Seen O Key Recon Cond → Seen O Key Recon Cond → ℕ → RowAt → Option Key → Looked O Key Recon Cond → Type 0
@@ -195,7 +196,7 @@ module _ {O Key Recon Cond : Type 0} (m : Meaning Key Recon Cond) where
   OpensPut v w span row key (Err open_refused.Memory) = Told m v w span []
 
   abbrev pub TellsPut : View (Event O Key Recon Cond) → View (Event O Key Recon Cond) → Span → Option Ended → Type 0
-  TellsPut v w span end = (row : RowAt) (key : Option Key) → doing_at v ≡ puts row key → Told m v w span (endings v.number row end) × IsDue key (past_at span.to w.seen) end
+  TellsPut v w span end = (row : RowAt) (key : Option Key) → doing_at v ≡ puts row key → Told m v w span (endings v.number row end) × IsDue v.origin key (past_at span.to w.seen) end
 
   abbrev pub TellsLook : View (Event O Key Recon Cond) → View (Event O Key Recon Cond) → Span → Looked O Key Recon Cond → Type 0
   TellsLook v w span (looked.Stepped end) = TellsPut v w span end

@@ -1,5 +1,6 @@
 -- What a call of the desk answers, and what it has done then.
 use Rattle.std.specs.Prelude.{◌≡◌, ◌<◌, ◌⊎◌, ◌++◌, ℕ, Bool, true, false, List, [], ◌∷◌, length, map, is_none, Option, Some, Result, Ok, Err}
+use Rattle.spg_base.specs.declared.recorded.Origin.{Origin}
 use Rattle.spg_base.specs.Row.{RowAt}
 use Rattle.spg_base.specs.declared.names.Span.{Span}
 use Rattle.spg_base.specs.declared.memory.Memory.{Memory}
@@ -61,9 +62,9 @@ ended_vacuum (Ok swept) span = vacuums.Vacuumed swept span
 ended_vacuum (Err e) span = vacuums.Memory span
 
 module _ {O Key Recon Cond : Type 0} (m : Meaning Key Recon Cond) (v w : View (Event O Key Recon Cond)) where
-  -- the keys of the tree of the insert that were ever inserted take more than 8,160 bytes
+  -- the keys of the tree of the insert that were ever inserted take more than 8,160 bytes, where the state was not loaded
   abbrev pub IsOutgrown : Option Key → ℕ → Type 0
-  IsOutgrown key at = 8160 < weight_of m (is_none key) (opened_keys (past_at at w.seen))
+  IsOutgrown key at = v.origin.loaded ≡ false → 8160 < weight_of m (is_none key) (opened_keys (past_at at w.seen))
 
   -- `RowUsed` and `RowHeld` are told of the journal where the span begins, `IndexFull` and `ClockFull` of that where it ends
   abbrev pub DidInsert : RowAt → Option Key → InsertAnswer → Type 0

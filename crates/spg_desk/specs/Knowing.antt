@@ -1,5 +1,5 @@
 -- What a pass knows of its seat and of the others, between calls and between the sections of a call.
-use Rattle.std.specs.Prelude.{◌≡◌, ◌≤◌, ℕ, List, length, take, drop}
+use Rattle.std.specs.Prelude.{◌≡◌, ◌≤◌, ℕ, List, length, take, drop, reverse}
 use Rattle.spg_rows.specs.declared.event.Event.{Event}
 use Rattle.spg_rows.specs.History.{nothing, open_of, own}
 use Rattle.spg_turn.specs.declared.rule.View.{View}
@@ -15,6 +15,10 @@ module _ {O Key Recon Cond : Type 0} where
   -- of its seat's events since the lock was made
   abbrev pub own_since : View (Event O Key Recon Cond) → List (Event O Key Recon Cond)
   own_since v = own v.number (drop v.base v.seen)
+
+  -- by the journal that the pass has seen, its seat has nothing open
+  abbrev pub IsAtRest : View (Event O Key Recon Cond) → Type 0
+  IsAtRest v = open_of v.number (reverse v.seen) ≡ nothing
 
 -- nothing was open when the lock was made, no seat that was joined has anything open, and what the pass added stands in what it has seen
 pub record IsPassed {O Key Recon Cond : Type 0} (v : View (Event O Key Recon Cond)) : Type 0 where

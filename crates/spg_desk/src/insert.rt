@@ -1,7 +1,7 @@
 ghost use Rattle.std.specs.Prelude.{◌≡◌, ◌<◌, Some, length};
 ghost use Rattle.spg_turn.specs.Passes.{pass_turn, pass_view};
 ghost use Rattle.spg_calls.specs.Doing.{idle};
-ghost use Rattle.spg_desk.specs.Knowing.{doing_at};
+ghost use Rattle.spg_desk.specs.Knowing.{IsAtRest, doing_at};
 ghost use Rattle.spg_desk.specs.Acting.{IsPut, TellsPut, TellsLook, OpensPut};
 ghost use Rattle.spg_desk.specs.Passes.{desk_id, desk_of, view_of};
 ghost use Rattle.spg_desk.specs.Answers.{DidInsert, refused_insert, ended_insert};
@@ -173,6 +173,7 @@ impl<O: OpClass> Desk<O> {
         requires own { desk_of pass ≡ desk_id self.now }
         ensures own { desk_of result.0 ≡ desk_of pass }
         ensures did { DidInsert O.meaning (view_of pass) (view_of result.0) row key result.1 }
+        ensures free { IsAtRest (view_of result.0) }
     {
         let Pass { going } = pass;
         let Ok(started) = start_at(self.alloc, &self.class, key) else {

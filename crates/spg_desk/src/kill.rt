@@ -1,4 +1,5 @@
 ghost use Rattle.std.specs.Prelude.{◌≡◌};
+ghost use Rattle.spg_desk.specs.Knowing.{IsAtRest};
 ghost use Rattle.spg_desk.specs.Passes.{desk_id, desk_of, view_of};
 ghost use Rattle.spg_desk.specs.Answers.{DidKill, kill_answer};
 
@@ -26,6 +27,7 @@ impl<O: OpClass> Desk<O> {
         requires own { desk_of pass ≡ desk_id self.now }
         ensures own { desk_of result.0 ≡ desk_of pass }
         ensures did { DidKill O.meaning (view_of pass) (view_of result.0) row result.1 }
+        ensures free { IsAtRest (view_of result.0) }
     {
         let Pass { going } = pass;
         let mut held = self.enter(rt, going);

@@ -7,7 +7,7 @@ ghost use Rattle.spg_calls.specs.Doing.{idle, sweeps};
 ghost use Rattle.spg_core.specs.Seen.{stage_at, past_of};
 ghost use Rattle.spg_core.specs.Stage.{free, IsSweeping};
 ghost use Rattle.spg_core.specs.Sections.{OpensVacuum};
-ghost use Rattle.spg_desk.specs.Knowing.{doing_at};
+ghost use Rattle.spg_desk.specs.Knowing.{IsAtRest, doing_at};
 ghost use Rattle.spg_desk.specs.Told.{Told};
 ghost use Rattle.spg_desk.specs.Acting.{HasVacuum, sweep_end, StepsSweep, OpensSweep, TellsSweep, EndsSweep};
 ghost use Rattle.spg_desk.specs.Passes.{desk_id, desk_of, view_of};
@@ -153,6 +153,7 @@ impl<O: OpClass> Desk<O> {
         requires own { desk_of pass ≡ desk_id self.now }
         ensures own { desk_of result.0 ≡ desk_of pass }
         ensures did { DidVacuum O.meaning (view_of pass) (view_of result.0) result.1 }
+        ensures free { IsAtRest (view_of result.0) }
     {
         let Pass { going } = pass;
         let (going, first, opened) = self.open_vacuum(rt, going);

@@ -14,6 +14,7 @@ code_of (status.BadScript line) = 3
 code_of status.ReadFault = 4
 code_of status.WriteFault = 5
 code_of status.ImageFault = 6
+code_of (status.BadImage block reason) = 7
 code_of status.Memory = 8
 
 -- what writing the text met

@@ -3,10 +3,12 @@ use Rattle.std.specs.Prelude.{◌≡◌, ◌<◌, ◌≤◌, ◌⊎◌, ◌-◌,
 use Rattle.std.specs.List.{AllZip, AllByRecursion}
 use Rattle.spg_base.specs.Row.{RowAt}
 use Rattle.spg_opclass.specs.declared.query.Query.{Query}
+pub use Rattle.spg_rows.specs.declared.entry.Entry.{Entry}
 use Rattle.spg_rows.specs.declared.event.Event.{Event}
 use Rattle.spg_rows.specs.declared.event.Event.TheVariants.{OpenInsert, Put, Drop, Kill, OpenScan, CloseScan, OpenVacuum, Sweep, CloseVacuum, Leave}
 use Rattle.spg_rows.specs.declared.event.Why.TheVariants as cause
 use Rattle.spg_rows.specs.History.{History, vacuuming, open_of, own}
+pub use Rattle.spg_rows.specs.Loads.{load_events}
 use Rattle.spg_rows.specs.Rows.{held_by, is_live}
 use Rattle.spg_rows.specs.Told.{IsUsed}
 pub use Rattle.spg_calls.specs.Calls.{between, past_at, IsBySeat}
@@ -120,16 +122,6 @@ abbrev pub IsOwned : {O Key Recon Cond : Type 0} → List (Event O Key Recon Con
 IsOwned journal at [] records = ⊥
 IsOwned journal at (t ∷ tasks) [] = ⊥
 IsOwned journal at (t ∷ tasks) (r ∷ records) = Owns journal at t r ⊎ IsOwned journal at tasks records
-
--- an entry of a loaded image: its row, and its key or null
-pub record Entry (Key : Type 0) : Type 0 where
-  pub row : RowAt
-  pub key : Option Key
-
--- the events of a load, each entry opened and put by seat 0
-abbrev pub load_events : {O Key Recon Cond : Type 0} → List (Entry Key) → List (Event O Key Recon Cond)
-load_events [] = []
-load_events (e ∷ entries) = OpenInsert 0 e.row e.key ∷ Put 0 e.row ∷ load_events entries
 
 -- the journal begins with the load of these entries
 abbrev pub BeginsWith : {O Key Recon Cond : Type 0} → List (Entry Key) → List (Event O Key Recon Cond) → Type 0

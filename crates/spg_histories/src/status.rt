@@ -1,6 +1,8 @@
 ghost use Rattle.std.specs.Prelude.{◌≡◌};
 ghost use Rattle.spg_histories.specs.Ending.{code_of};
 
+use spg_clauses::Reason;
+
 /// How a run of the program ended.
 #[derive(Clone, Copy, Debug, PartialEq, Eq)]
 pub enum Status {
@@ -16,6 +18,9 @@ pub enum Status {
     WriteFault,
     /// The images failed.
     ImageFault,
+    /// The bytes under a name are no image that the command can take: the clause of this name fails at
+    /// this block, and no earlier one.
+    BadImage { block: u32, reason: Reason },
     /// There was no memory.
     Memory,
 }
@@ -32,6 +37,7 @@ impl Status {
             Status::ReadFault => 4,
             Status::WriteFault => 5,
             Status::ImageFault => 6,
+            Status::BadImage { .. } => 7,
             Status::Memory => 8,
         }
     }

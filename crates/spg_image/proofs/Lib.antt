@@ -5,3 +5,5 @@ mod Firsts
 mod Changing
 mod Steps
 pub mod MetaOut
+pub mod Classes
+pub mod Apart

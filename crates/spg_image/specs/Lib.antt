@@ -4,3 +4,4 @@ pub mod Meta
 pub mod Image
 pub mod Refusals
 pub mod Saving
+pub mod Verifying

@@ -2,9 +2,12 @@
 #![tactic(auto)]
 
 mod blocks;
+mod loading;
 mod numbers;
 mod refused;
 mod saving;
 
+pub use loading::{load, verify};
 pub use refused::SaveRefused;
 pub use saving::save;
+pub use spg_verify::{ImageRefused, Verified};

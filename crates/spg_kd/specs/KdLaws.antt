@@ -9,14 +9,18 @@ use Rattle.std.proofs.lemmas.Bool.{cases_lt, ltb-true, lt-ltb}
 use Rattle.std.proofs.lemmas.List.Elements.{All-map}
 use Rattle.std.proofs.lemmas.Grind.{common_steps}
 use Rattle.spg_base.specs.declared.point.Point.{Point}
+use Rattle.spg_base.specs.declared.point.PointCond.{PointCond}
 use Rattle.spg_base.specs.Points.{is_between}
-use Rattle.spg_opclass.specs.Laws.{MatchLaw, AddLaw, SplitLaw, PickLaw, KeptLaw, PlainLaw, CodeLaw}
+use Rattle.spg_opclass.specs.declared.view.InnerView.{InnerView}
+use Rattle.spg_opclass.specs.Included.{BareLaw, has_room}
+use Rattle.spg_opclass.specs.Exact.{KeepsExactly}
+use Rattle.spg_opclass.specs.Laws.{MatchLaw, AddLaw, SplitLaw, PickLaw, ApartLaw, KeptLaw, PlainLaw, CodeLaw}
 use Rattle.spg_points.specs.declared.area.Area.{Area}
 use Rattle.spg_points.specs.Codec.{lowest, highest, is_coordinate, is_point, point_of, bytes_of_coordinate, coordinate_at}
 use Rattle.spg_points.specs.Heights.{raised, lowered}
 use Rattle.spg_points.specs.Areas.{in_area}
 use Rattle.spg_points.proofs.PointLemmas.{lt_to, same_test, raised_bound, lt_from, is_coordinate-lowered, length-bytes_of_coordinate, coordinate_at-bytes_of_coordinate, is_coordinate-coordinate_at, raised_is, between_from, between_to, and_true, true_and, is_point-point_of}
-use Rattle.spg_points.proofs.ClassLaws.{IsPointClass, IsSound, matches_of, adds_of, splits_of, picks_of, keeps_of, plain_of, codes_of}
+use Rattle.spg_points.proofs.ClassLaws.{IsPointClass, IsSound, matches_of, adds_of, splits_of, picks_of, apart_of, exact_of, keeps_of, plain_of, codes_of, bare_of}
 use Rattle.spg_kd.specs.declared.class.KdRecon.{KdRecon}
 use Rattle.spg_kd.specs.Kd.{level_of, half, half_for, median_of, halves, levels, kd, kd_meaning}
 use Rattle.spg_kd.specs.Ties.{ties_of, sides}
@@ -194,6 +198,12 @@ kd_splits = splits_of kd
 pub kd_picks : PickLaw kd_meaning
 kd_picks = picks_of kd kd_areas kd_sound
 
+pub kd_apart : ApartLaw kd_meaning
+kd_apart = apart_of kd kd_sound
+
+pub kd_exact : (recon : KdRecon) (tuple : InnerView) (conds : List PointCond) → KeepsExactly kd_meaning is_point recon tuple conds (kd_meaning.kept recon tuple conds)
+kd_exact = exact_of kd kd_areas
+
 pub kd_keeps : KeptLaw kd_meaning
 kd_keeps = keeps_of kd kd_areas
 
@@ -202,3 +212,10 @@ kd_plain = plain_of kd
 
 pub kd_codes : CodeLaw kd_meaning
 kd_codes = codes_of kd kd_areas
+
+pub kd_bare : BareLaw kd_meaning
+kd_bare = bare_of kd
+
+pub kd_room : has_room kd_meaning ≡ true
+unfolding has_room
+kd_room = refl

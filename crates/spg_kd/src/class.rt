@@ -1,11 +1,14 @@
-ghost use Rattle.std.specs.Prelude.{false, refl};
+ghost use Rattle.std.specs.Prelude.{◌≡◌, All, IfOk, true, false, refl};
+ghost use Rattle.spg_opclass.specs.InPlace.{shown};
+ghost use Rattle.spg_opclass.specs.Exact.{KeepsExactly};
+ghost use Rattle.spg_points.specs.Codec.{is_point};
 ghost use Rattle.spg_kd.specs.Kd.{kd_meaning};
 
 use crate::division::divide;
 use crate::half::{choose_node, nodes_at};
 use smallvec::SmallVec;
 use spg_base::{Bytes, Memory, Point, PointCond, Same};
-use spg_opclass::{Choice, InnerRef, InnerView, OpClass, Picked, SharedClass};
+use spg_opclass::{Choice, InnerRef, InnerView, OpClass, Picked, SharedClass, TakesValue};
 use spg_points::{NodeAreas, all_hold, decode, encode, kept_nodes, labels_ok};
 use std::alloc::Global;
 
@@ -32,8 +35,20 @@ impl Same for KdRecon {
 
 impl SharedClass for Kd {}
 
+impl TakesValue for Kd {
+    ghost use Rattle.spg_kd.specs.KdLaws.{kd_bare, kd_room};
+
+    fn code_with_value(&self) -> u8 {
+        18
+    }
+
+    ghost bare = { kd_bare };
+
+    ghost room = { kd_room };
+}
+
 impl OpClass for Kd {
-    ghost use Rattle.spg_kd.specs.KdLaws.{kd_matches, kd_adds, kd_splits, kd_picks, kd_keeps, kd_plain, kd_codes};
+    ghost use Rattle.spg_kd.specs.KdLaws.{kd_matches, kd_adds, kd_splits, kd_picks, kd_apart, kd_keeps, kd_plain, kd_codes};
 
     type Key = Point;
 
@@ -58,6 +73,8 @@ impl OpClass for Kd {
     ghost splits = { kd_splits };
 
     ghost picks = { kd_picks };
+
+    ghost apart = { kd_apart };
 
     ghost keeps = { kd_keeps };
 
@@ -128,7 +145,11 @@ impl OpClass for Kd {
         recon: &KdRecon,
         tuple: &InnerView,
         conds: &[PointCond],
-    ) -> Result<SmallVec<u16, 8>, Memory> {
+    ) -> Result<SmallVec<u16, 8>, Memory>
+        ensures known { All (λ c. kd_meaning.is_cond c ≡ true) conds.now }
+        ensures ok { IfOk result (λ kept. kept.items ≡ kd_meaning.kept recon.now tuple.now conds.now) }
+        ensures exact { KeepsExactly kd_meaning is_point recon.now tuple.now conds.now (kd_meaning.kept recon.now tuple.now conds.now) }
+    {
         self.inner_consistent_in_place(alloc, recon, &tuple.in_place(), conds)
     }
 
@@ -162,7 +183,11 @@ impl OpClass for Kd {
         recon: &KdRecon,
         tuple: &InnerRef<'_>,
         conds: &[PointCond],
-    ) -> Result<SmallVec<u16, 8>, Memory> {
+    ) -> Result<SmallVec<u16, 8>, Memory>
+        ensures known { IfOk result (λ _. All (λ c. kd_meaning.is_cond c ≡ true) conds.now) }
+        ensures ok { IfOk result (λ kept. kept.items ≡ kd_meaning.kept recon.now (shown tuple.now) conds.now) }
+        ensures exact { KeepsExactly kd_meaning is_point recon.now (shown tuple.now) conds.now (kd_meaning.kept recon.now (shown tuple.now) conds.now) }
+    {
         kept_nodes(alloc, &nodes_at(*recon, tuple), tuple.labels.len(), conds)
     }
 

@@ -6,6 +6,7 @@ mod division;
 mod half;
 
 pub use class::{Kd, KdRecon};
+pub use half::nodes_at;
 
 #[cfg(test)]
 mod tests;

@@ -16,7 +16,7 @@ pub kept_there : {Key Recon Cond : Type 0} (m : Meaning Key Recon Cond) → Kept
 kept_there {Recon = Recon} m law at is recon tuple conds e f known kept g k h =
     let a = subst (λ (r : Recon). m.is_recon r ≡ true) (sym e) is.recon in
     let b = subst (λ (t : InnerView). is_tuple m t ≡ true) (sym f) is.tuple in
-    (((law recon tuple conds a b known).exact (get_or kept k 0)).0 (subst (λ (z : List ℕ). Contains z (get_or kept k 0)) g (Contains-get_or kept k 0 h))).0
+    subst (λ (z : List ℕ). All (λ i. i < length tuple.labels) z) (sym g) (law recon tuple conds a b known).there k 0 h
 
 row_before : (b : Bool) (x : RowAt) (xs ys zs : List RowAt) → zs ≡ xs ++ ys → cond b (x ∷ zs) zs ≡ cond b (x ∷ xs) xs ++ ys
 row_before true x xs ys zs e = ap (λ (z : List RowAt). x ∷ z) e

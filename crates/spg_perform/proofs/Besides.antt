@@ -49,7 +49,7 @@ module _ {O Key Recon Cond : Type 0} where
       first_of_lanes some d = subst (λ (k : ℕ). Holds (Gathered m speech old origin k 1 lanes ran) t (get_or ran 0 d).pass) (sym count)
           (first_over m speech t old origin n lanes ran (get_or ran 0 d).records.items (get_or dealt 0 d).pass (get_or ran 0 d).pass (λ e. ap (λ (p : Post O Key Recon Cond laws). p.records.items) (get_or_default ran 0 d e (omega (arith, some, count)))) (dealt_pass 0 d some) (runs 0 d some))
 
-      pub others_of_lanes : (i : ℕ) (d : Post O Key Recon Cond laws) → 0 < i → i < length ran → Holds (IsOver m speech old i (get_or lanes i []) (get_or ran i d).records.items) t (get_or ran i d).pass
+      pub others_of_lanes : (i : ℕ) (d : Post O Key Recon Cond laws) → 0 < i → i < length ran → Holds (IsOver m speech origin old i (get_or lanes i []) (get_or ran i d).records.items) t (get_or ran i d).pass
       others_of_lanes i d above below =
           let inside : i < n = omega (arith, below, count) in
           lane_over m speech t old origin n i (get_or lanes i []) (get_or ran i d).records.items (get_or dealt i d).pass (get_or ran i d).pass (dealt_pass i d inside) (runs i d inside)

@@ -2,7 +2,6 @@
 use Rattle.std.proofs.Common.{◌≡◌, inl, inr, ℕ, List, [], ◌∷◌, length, drop, Option, Some, refl, sym, ap, ◌∙◌, subst}
 use Rattle.std.proofs.lemmas.List.{append-nil}
 use Rattle.spg_base.specs.Row.{RowAt}
-use Rattle.spg_base.specs.declared.recorded.Origin.{Origin}
 use Rattle.spg_opclass.specs.Meaning.{Meaning}
 use Rattle.spg_opclass.specs.declared.query.Query.{Query}
 use Rattle.spg_rows.specs.declared.event.Event.{Event}
@@ -34,7 +33,7 @@ use Rattle.spg_perform.proofs.Keys.{same_null}
 
 module _ {O Key Recon Cond : Type 0} (m : Meaning Key Recon Cond) (speech : Speech Key Cond) (v w : View (Event O Key Recon Cond)) where
   went : (c : Command) (r : Record) (events : List (Event O Key Recon Cond)) → Told m v w r.span events → ((block : ℕ) → Does speech (lane_task block v.number c) (past_at r.span.from w.seen) events r.outcome)
-      → ((origin : Origin) → IsTooFull m origin c (past_at r.span.to w.seen) r.outcome) → WentOne m speech v w c r
+      → IsTooFull m v.origin c (past_at r.span.to w.seen) r.outcome → WentOne m speech v w c r
   went c r events told does full = record {
     same = told.same ∙ ap (λ (l : List (Event O Key Recon Cond)). record v { seen = w.seen; mine = l }) (sym (ap (λ (z : View (Event O Key Recon Cond)). z.mine) told.same));
     events = events;
@@ -43,31 +42,31 @@ module _ {O Key Recon Cond : Type 0} (m : Meaning Key Recon Cond) (speech : Spee
   }
 
   pub went_insert : (row : RowAt) (key : Option AnyKey) (k : Option Key) (answer : InsertAnswer) → key_or_null_in speech key ≡ Some k → DidInsert m v w row k answer → WentOne m speech v w (asked.Insert row key) (insert_record answer)
-  went_insert row key k (inserts.Added span) known told = went (asked.Insert row key) (insert_record (inserts.Added span)) _ told (λ block. (k, known, refl)) (λ origin. tt)
-  went_insert row key k (inserts.RowUsed span) known told = went (asked.Insert row key) (insert_record (inserts.RowUsed span)) _ told.0 (λ block. (told.1, refl)) (λ origin. tt)
-  went_insert row key k (inserts.RowHeld by span) known told = went (asked.Insert row key) (insert_record (inserts.RowHeld by span)) _ told.0 (λ block. (told.1, refl)) (λ origin. tt)
+  went_insert row key k (inserts.Added span) known told = went (asked.Insert row key) (insert_record (inserts.Added span)) _ told (λ block. (k, known, refl)) tt
+  went_insert row key k (inserts.RowUsed span) known told = went (asked.Insert row key) (insert_record (inserts.RowUsed span)) _ told.0 (λ block. (told.1, refl)) tt
+  went_insert row key k (inserts.RowHeld by span) known told = went (asked.Insert row key) (insert_record (inserts.RowHeld by span)) _ told.0 (λ block. (told.1, refl)) tt
   went_insert row key k (inserts.IndexFull span) known told = went (asked.Insert row key) (insert_record (inserts.IndexFull span)) _ told.0 (λ block. (k, known, refl))
-      (λ origin loaded. rw (sym (same_null speech key k known)) told.1)
+      (λ loaded. rw (sym (same_null speech key k known)) (told.1 loaded))
   went_insert row key k (inserts.ClockFull span) known told = went (asked.Insert row key) (insert_record (inserts.ClockFull span)) _ told.0 (λ block. (k, known, refl))
-      (λ origin loaded. rw (sym (same_null speech key k known)) told.1)
-  went_insert row key k (inserts.Memory span) known (inl told) = went (asked.Insert row key) (insert_record (inserts.Memory span)) _ told (λ block. inl refl) (λ origin. tt)
-  went_insert row key k (inserts.Memory span) known (inr told) = went (asked.Insert row key) (insert_record (inserts.Memory span)) _ told (λ block. inr (k, known, refl)) (λ origin. tt)
+      (λ loaded. rw (sym (same_null speech key k known)) (told.1 loaded))
+  went_insert row key k (inserts.Memory span) known (inl told) = went (asked.Insert row key) (insert_record (inserts.Memory span)) _ told (λ block. inl refl) tt
+  went_insert row key k (inserts.Memory span) known (inr told) = went (asked.Insert row key) (insert_record (inserts.Memory span)) _ told (λ block. inr (k, known, refl)) tt
 
   pub went_delete : (row : RowAt) (answer : KillAnswer) → DidKill m v w row answer → WentOne m speech v w (asked.Delete row) (kill_record answer)
-  went_delete row (kills.Killed span) told = went (asked.Delete row) (kill_record (kills.Killed span)) _ told (λ block. refl) (λ origin. tt)
-  went_delete row (kills.NotLive span) told = went (asked.Delete row) (kill_record (kills.NotLive span)) _ told.0 (λ block. (told.1, refl)) (λ origin. tt)
-  went_delete row (kills.Memory span) told = went (asked.Delete row) (kill_record (kills.Memory span)) _ told (λ block. inl refl) (λ origin. tt)
+  went_delete row (kills.Killed span) told = went (asked.Delete row) (kill_record (kills.Killed span)) _ told (λ block. refl) tt
+  went_delete row (kills.NotLive span) told = went (asked.Delete row) (kill_record (kills.NotLive span)) _ told.0 (λ block. (told.1, refl)) tt
+  went_delete row (kills.Memory span) told = went (asked.Delete row) (kill_record (kills.Memory span)) _ told (λ block. inl refl) tt
 
   pub went_find : (query : AnyQuery) (q : Query O Key Recon Cond) (answer : FindAnswer) → query_in speech query ≡ Some q → DidFind m v w q answer → WentOne m speech v w (asked.Find query) (find_record answer)
-  went_find query q (finds.Found rows span) known told = went (asked.Find query) (find_record (finds.Found rows span)) _ told (λ block. ((q, known, refl), refl)) (λ origin. tt)
-  went_find query q (finds.Memory span) known (inl told) = went (asked.Find query) (find_record (finds.Memory span)) _ told (λ block. inl refl) (λ origin. tt)
-  went_find query q (finds.Memory span) known (inr told) = went (asked.Find query) (find_record (finds.Memory span)) _ told (λ block. inr (q, known, refl)) (λ origin. tt)
+  went_find query q (finds.Found rows span) known told = went (asked.Find query) (find_record (finds.Found rows span)) _ told (λ block. ((q, known, refl), refl)) tt
+  went_find query q (finds.Memory span) known (inl told) = went (asked.Find query) (find_record (finds.Memory span)) _ told (λ block. inl refl) tt
+  went_find query q (finds.Memory span) known (inr told) = went (asked.Find query) (find_record (finds.Memory span)) _ told (λ block. inr (q, known, refl)) tt
 
   pub went_vacuum : (answer : VacuumAnswer) → DidVacuum m v w answer → WentOne m speech v w asked.Vacuum (vacuum_record answer)
-  went_vacuum (vacuums.Vacuumed swept span) told = went asked.Vacuum (vacuum_record (vacuums.Vacuumed swept span)) _ told.2 (λ block. (told.0, told.1, refl)) (λ origin. tt)
-  went_vacuum (vacuums.Open by span) told = went asked.Vacuum (vacuum_record (vacuums.Open by span)) _ told.0 (λ block. (told.1, refl)) (λ origin. tt)
-  went_vacuum (vacuums.Memory span) (inl told) = went asked.Vacuum (vacuum_record (vacuums.Memory span)) _ told (λ block. inl refl) (λ origin. tt)
-  went_vacuum (vacuums.Memory span) (inr told) = went asked.Vacuum (vacuum_record (vacuums.Memory span)) _ told.1 (λ block. inr (length told.0, (told.0, refl, refl))) (λ origin. tt)
+  went_vacuum (vacuums.Vacuumed swept span) told = went asked.Vacuum (vacuum_record (vacuums.Vacuumed swept span)) _ told.2 (λ block. (told.0, told.1, refl)) tt
+  went_vacuum (vacuums.Open by span) told = went asked.Vacuum (vacuum_record (vacuums.Open by span)) _ told.0 (λ block. (told.1, refl)) tt
+  went_vacuum (vacuums.Memory span) (inl told) = went asked.Vacuum (vacuum_record (vacuums.Memory span)) _ told (λ block. inl refl) tt
+  went_vacuum (vacuums.Memory span) (inr told) = went asked.Vacuum (vacuum_record (vacuums.Memory span)) _ told.1 (λ block. inr (length told.0, (told.0, refl, refl))) tt
 
 module _ {O Key Recon Cond : Type 0} (m : Meaning Key Recon Cond) (speech : Speech Key Cond) where
   drop_whole : (xs : List (Event O Key Recon Cond)) → drop (length xs) xs ≡ []
@@ -84,6 +83,6 @@ module _ {O Key Recon Cond : Type 0} (m : Meaning Key Recon Cond) (speech : Spee
   went_wanting v c whole = record {
     same = refl;
     events = [];
-    done = record { called = nothing_called v.number v.seen; does = λ block. inl refl; full = λ origin. tt };
+    done = record { called = nothing_called v.number v.seen; does = λ block. inl refl; full = tt };
     whole = whole;
   }

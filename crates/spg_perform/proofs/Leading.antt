@@ -24,7 +24,7 @@ use Rattle.spg_histories.proofs.Causes.{causes_grow}
 use Rattle.spg_histories.proofs.Telling.{one_more}
 use Rattle.spg_perform.specs.Acted.{Acted}
 use Rattle.spg_perform.specs.Session.{AllClosed, told_of, ReadsBack, StillTell, is_image_fault, image_faults, RoseBy, LeadsOn, standing}
-use Rattle.spg_perform.proofs.Alone.{closed_again}
+use Rattle.spg_whole.proofs.Alone.{closed_again}
 use Rattle.spg_perform.proofs.LeadingImages.{faults_append, rose_then, Outward}
 
 both_true : (a b : Bool) → (a && b) ≡ true → (a ≡ true) × (b ≡ true)

@@ -1,14 +1,8 @@
 pub mod Lists
 pub mod Keys
-pub mod Alone
-pub mod Going
 pub mod Rows
 pub mod Acting
-pub mod Deleting
-pub mod Inserting
-pub mod Reading
-pub mod Walking
-pub mod Finding
+pub mod Commands
 pub mod KnownConds
 pub mod OfClass
 pub mod StatRows
@@ -16,7 +10,6 @@ pub mod Counting
 pub mod Tasks
 pub mod SavingNames
 pub mod Saving
-pub mod Vacuuming
 pub mod LeadingImages
 pub mod Leading
 pub mod LeadingSave

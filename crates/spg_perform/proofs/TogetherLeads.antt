@@ -123,7 +123,7 @@ module _ {O Key Recon Cond : Type 0} (m : Meaning Key Recon Cond) (speech : Spee
         → LeadsOn m speech code (standing s0 held faults records) (standing s1 held faults noted) (lanes_tasks number 0 false lanes)
     leads_beside number lanes groups noted can some ran right drops are =
         let tasks : List Task = lanes_tasks number 0 false lanes in
-        let block : BlockOf speech s0.journal s1.journal tasks (joined groups) = (runs_grow O Key Recon Cond).lanes speech s0.journal s1.journal ran.grew.0 ran.grew.1 number false lanes groups (lanes_ran m speech number 0 s0.journal s1.journal lanes groups ran.done) in
+        let block : BlockOf speech s0.journal s1.journal tasks (joined groups) = (runs_grow O Key Recon Cond).lanes speech s0.journal s1.journal ran.grew.0 ran.grew.1 number false lanes groups (lanes_ran m speech s0.origin number 0 s0.journal s1.journal lanes groups ran.done) in
         subst (λ (rs : List Record). LeadsOn m speech code (standing s0 held faults records) (standing s1 held faults rs) tasks) (sym are)
         (leads_by (joined groups) tasks block (lanes_full m speech s0.origin number 0 s0.journal s1.journal lanes groups ran.done) (are_of_lanes speech number lanes can)
         (λ none. absurd (some (lanes_length 0 0 true number 0 false lanes ∙ ap length none))) right drops ran.closed ran.made)

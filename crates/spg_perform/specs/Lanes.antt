@@ -70,23 +70,23 @@ refusals at (suc n) = refused_at at ∷ refusals at n
 
 module _ {O Key Recon Cond : Type 0} (m : Meaning Key Recon Cond) (speech : Speech Key Cond) where
   -- a command of a lane was done by its seat, from what its pass had seen to what it has seen then, with these events
-  pub record CommandDone (seat : ℕ) (c : Command) (seen later : List (Event O Key Recon Cond)) (r : Record) (events : List (Event O Key Recon Cond)) : Type 0 where
+  pub record CommandDone (origin : Origin) (seat : ℕ) (c : Command) (seen later : List (Event O Key Recon Cond)) (r : Record) (events : List (Event O Key Recon Cond)) : Type 0 where
     pub called : Called seat seen later r.span events
     pub does : (block : ℕ) → Does speech (lane_task block seat c) (past_at r.span.from later) events r.outcome
-    pub full : (origin : Origin) → IsTooFull m origin c (past_at r.span.to later) r.outcome
+    pub full : IsTooFull m origin c (past_at r.span.to later) r.outcome
 
   -- commands of a lane were done one after another
-  abbrev pub CommandsDone : ℕ → List (Event O Key Recon Cond) → List Command → List Record → List (Event O Key Recon Cond) → Type 0
-  CommandsDone seat seen [] [] later = seen ≡ later
-  CommandsDone seat seen [] (r ∷ records) later = ⊥
-  CommandsDone seat seen (c ∷ commands) [] later = ⊥
-  CommandsDone seat seen (c ∷ commands) (r ∷ records) later =
-      (next : List (Event O Key Recon Cond)) × (events : List (Event O Key Recon Cond)) × CommandDone seat c seen next r events × CommandsDone seat next commands records later
+  abbrev pub CommandsDone : Origin → ℕ → List (Event O Key Recon Cond) → List Command → List Record → List (Event O Key Recon Cond) → Type 0
+  CommandsDone origin seat seen [] [] later = seen ≡ later
+  CommandsDone origin seat seen [] (r ∷ records) later = ⊥
+  CommandsDone origin seat seen (c ∷ commands) [] later = ⊥
+  CommandsDone origin seat seen (c ∷ commands) (r ∷ records) later =
+      (next : List (Event O Key Recon Cond)) × (events : List (Event O Key Recon Cond)) × CommandDone origin seat c seen next r events × CommandsDone origin seat next commands records later
 
   -- a pass that knew the one knows the other after these commands
   pub record Went (v w : View (Event O Key Recon Cond)) (commands : List Command) (records : List Record) : Type 0 where
     pub same : w ≡ record v { seen = w.seen; mine = w.mine }
-    pub done : CommandsDone v.number v.seen commands records w.seen
+    pub done : CommandsDone v.origin v.number v.seen commands records w.seen
     -- its seat has done just what it added
     pub whole : own_since w ≡ w.mine
 
@@ -94,18 +94,18 @@ module _ {O Key Recon Cond : Type 0} (m : Meaning Key Recon Cond) (speech : Spee
   pub record WentOne (v w : View (Event O Key Recon Cond)) (c : Command) (r : Record) : Type 0 where
     pub same : w ≡ record v { seen = w.seen; mine = w.mine }
     pub events : List (Event O Key Recon Cond)
-    pub done : CommandDone v.number c v.seen w.seen r events
+    pub done : CommandDone v.origin v.number c v.seen w.seen r events
     pub whole : own_since w ≡ w.mine
 
   -- the commands of a lane were done, from a journal to the one at the end of its block
-  pub record LaneDone (seat : ℕ) (old journal : List (Event O Key Recon Cond)) (commands : List Command) (records : List Record) : Type 0 where
+  pub record LaneDone (origin : Origin) (seat : ℕ) (old journal : List (Event O Key Recon Cond)) (commands : List Command) (records : List Record) : Type 0 where
     pub seen : List (Event O Key Recon Cond)
-    pub done : CommandsDone seat old commands records seen
+    pub done : CommandsDone origin seat old commands records seen
     pub watched : Watched seat seen journal
 
   -- the lanes of a block were done, the first with this seat, and no other seat did anything
-  abbrev pub LanesDone : ℕ → List (Event O Key Recon Cond) → List (Event O Key Recon Cond) → List (List Command) → List (List Record) → Type 0
-  LanesDone seat old journal [] [] = (other : ℕ) → seat ≤ other → own other (drop (length old) journal) ≡ []
-  LanesDone seat old journal [] (records ∷ groups) = ⊥
-  LanesDone seat old journal (lane ∷ lanes) [] = ⊥
-  LanesDone seat old journal (lane ∷ lanes) (records ∷ groups) = LaneDone seat old journal lane records × LanesDone (seat + 1) old journal lanes groups
+  abbrev pub LanesDone : Origin → ℕ → List (Event O Key Recon Cond) → List (Event O Key Recon Cond) → List (List Command) → List (List Record) → Type 0
+  LanesDone origin seat old journal [] [] = (other : ℕ) → seat ≤ other → own other (drop (length old) journal) ≡ []
+  LanesDone origin seat old journal [] (records ∷ groups) = ⊥
+  LanesDone origin seat old journal (lane ∷ lanes) [] = ⊥
+  LanesDone origin seat old journal (lane ∷ lanes) (records ∷ groups) = LaneDone origin seat old journal lane records × LanesDone origin (seat + 1) old journal lanes groups

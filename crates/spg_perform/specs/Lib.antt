@@ -1,7 +1,7 @@
 pub mod Session
 pub mod Acted
 pub mod Saved
-pub mod Underway
+pub mod Outcomes
 pub mod Noted
 pub mod Lanes
 pub mod Posts

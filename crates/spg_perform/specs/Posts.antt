@@ -65,16 +65,16 @@ module _ {O Key Recon Cond : Type 0} where
     HasRun {laws} lanes i p q = WentThrough p.pass q.pass (slice_index_or lanes i []) q.records.items
 
     -- what a seat did from a journal on, in one that has come to this
-    pub record SeatDone (seat : ℕ) (old later mine : List (Event O Key Recon Cond)) (commands : List Command) (records : List Record) : Type 0 where
+    pub record SeatDone (origin : Origin) (seat : ℕ) (old later mine : List (Event O Key Recon Cond)) (commands : List Command) (records : List Record) : Type 0 where
       pub seen : List (Event O Key Recon Cond)
-      pub done : CommandsDone m speech seat old commands records seen
+      pub done : CommandsDone m speech origin seat old commands records seen
       pub grew : GrewTo seen later
       pub whole : own seat (drop (length old) seen) ≡ mine
 
     -- what the pass of lane i knows once the lane has run
-    pub record IsOver (old : List (Event O Key Recon Cond)) (i : ℕ) (commands : List Command) (records : List Record) (v : View (Event O Key Recon Cond)) : Type 0 where
+    pub record IsOver (origin : Origin) (old : List (Event O Key Recon Cond)) (i : ℕ) (commands : List Command) (records : List Record) (v : View (Event O Key Recon Cond)) : Type 0 where
       pub number : v.number ≡ i
-      pub done : SeatDone i old v.seen v.mine commands records
+      pub done : SeatDone origin i old v.seen v.mine commands records
 
     -- the first pass, once the lanes below k have been joined, of n lanes
     pub record Gathered {laws : Ghosts O Key Recon Cond} (old : List (Event O Key Recon Cond)) (origin : Origin) (n k : ℕ) (lanes : List (List Command)) (posts : List (Post O Key Recon Cond laws)) (v : View (Event O Key Recon Cond)) : Type 0 where
@@ -83,13 +83,13 @@ module _ {O Key Recon Cond : Type 0} where
       pub origin_is : v.origin ≡ origin
       pub given : v.given ≡ n
       pub back : v.back + 1 ≡ k
-      pub first : (d : Post O Key Recon Cond laws) → SeatDone 0 old v.seen v.mine (slice_index_or lanes 0 []) (slice_index_or posts 0 d).records.items
-      pub others : (i : ℕ) (d : Post O Key Recon Cond laws) → 0 < i → i < k → SeatDone i old v.seen (kept_of v.kept i) (slice_index_or lanes i []) (slice_index_or posts i d).records.items
+      pub first : (d : Post O Key Recon Cond laws) → SeatDone origin 0 old v.seen v.mine (slice_index_or lanes 0 []) (slice_index_or posts 0 d).records.items
+      pub others : (i : ℕ) (d : Post O Key Recon Cond laws) → 0 < i → i < k → SeatDone origin i old v.seen (kept_of v.kept i) (slice_index_or lanes i []) (slice_index_or posts i d).records.items
       pub rest : (i : ℕ) → k ≤ i → kept_of v.kept i ≡ []
 
     -- the lanes of a block ran beside each other, from a state to another
     pub record RanBeside (old new : Seen O Key Recon Cond) (lanes : List (List Command)) (groups : List (List Record)) : Type 0 where
       pub grew : GrewTo old.journal new.journal
-      pub done : LanesDone m speech 0 old.journal new.journal lanes groups
+      pub done : LanesDone m speech old.origin 0 old.journal new.journal lanes groups
       pub made : new.origin ≡ old.origin
       pub closed : AllClosed (past_of new)

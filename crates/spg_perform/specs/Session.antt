@@ -4,7 +4,6 @@ use Rattle.spg_base.specs.declared.recorded.Origin.{Origin}
 use Rattle.spg_opclass.specs.Meaning.{Meaning}
 use Rattle.spg_forest.specs.Sheets.{Sheets}
 use Rattle.spg_io.specs.Held.{Holding}
-use Rattle.spg_rows.specs.History.{History, nothing, open_of}
 use Rattle.spg_rows.specs.Right.{Right}
 use Rattle.spg_tree.specs.Table.{sheets_of}
 use Rattle.spg_core.specs.Seen.{Seen, past_of}
@@ -17,16 +16,13 @@ use Rattle.spg_script.specs.Speech.{Speech, IsKnown}
 use Rattle.spg_report.specs.declared.outcome.Outcome.{Outcome}
 use Rattle.spg_report.specs.declared.outcome.Outcome.TheVariants as outcome
 use Rattle.spg_report.specs.declared.record.Record.{Record}
+pub use Rattle.spg_whole.specs.Calls.{AllClosed}
 use Rattle.spg_histories.specs.Tasks.{Task, tasks_of}
 use Rattle.spg_histories.specs.Run.{Entry, load_events, RunOf}
 use Rattle.spg_histories.specs.Telling.{TellAll}
 use Rattle.spg_histories.specs.Causes.{Causes}
 use Rattle.spg_image.specs.Image.{Image, sheets_in}
 use Rattle.spg_image.specs.Saving.{HoldsImage}
-
--- no seat has anything open
-abbrev pub AllClosed : {O Key Recon Cond : Type 0} → History O Key Recon Cond → Type 0
-AllClosed past = (seat : ℕ) → open_of seat past ≡ nothing
 
 -- the class has the keys and conditions of every command that scripts of this class name
 abbrev pub IsOfClass : {Key Cond : Type 0} → Speech Key Cond → ClassName → Type 0

@@ -6,6 +6,7 @@ ghost use Rattle.spg_perform.specs.Acted.{CanBeDone, CanBlock, task_of};
 
 use crate::book::Book;
 use crate::command::command;
+use crate::count::count_commands;
 use crate::gate::Gate;
 use crate::together::together;
 use spg_base::SeatNo;
@@ -82,9 +83,12 @@ pub(crate) fn parts<
         (standing result (M.held images.new) (M.faults images.new) book.new.records)
         (parts_tasks 0 blocks.now) }
 {
+    let of = count_commands(blocks).unwrap_or(usize::MAX);
     let mut state = state;
     for block in blocks {
+        gate.done(book.len(), of);
         state = part(rt, state, images, book, block, gate);
     }
+    gate.done(book.len(), of);
     state
 }

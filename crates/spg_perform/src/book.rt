@@ -1,4 +1,4 @@
-ghost use Rattle.std.specs.Prelude.{◌≡◌, ◌≤◌, ◌<◌, ◌+◌, ◌++◌, ◌∷◌, [], IfOk};
+ghost use Rattle.std.specs.Prelude.{◌≡◌, ◌≤◌, ◌<◌, ◌+◌, ◌++◌, ◌∷◌, [], length, IfOk};
 
 use spg_base::{List, Memory};
 use spg_report::{Record, Records};
@@ -38,6 +38,13 @@ impl Book {
         ensures spare { self.new.spare + 1 ≡ self.old.spare }
     {
         self.records.push_reserved(done);
+    }
+
+    /// How many records there are.
+    pub fn len(&self) -> usize
+        ensures { result ≡ length self.now.records }
+    {
+        self.records.len()
     }
 
     /// The records as a list.

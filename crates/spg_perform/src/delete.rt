@@ -1,24 +1,24 @@
-ghost use Rattle.std.specs.Prelude.{◌≡◌, Bool};
-ghost use Rattle.spg_core.specs.Stage.{free};
-ghost use Rattle.spg_core.specs.Seen.{stage_at};
+ghost use Rattle.std.specs.Prelude.{Bool};
+ghost use Rattle.spg_core.specs.Seen.{past_of};
 ghost use Rattle.spg_script.specs.declared.command.Command.TheVariants.{Delete};
+ghost use Rattle.spg_whole.specs.Calls.{AllClosed};
 ghost use Rattle.spg_perform.specs.Acted.{Acts};
 
-use crate::position::{position, recorded};
-use spg_base::{Memory, Row, SeatNo};
+use crate::answers::delete_outcome;
+use crate::position::{none_open, position, recorded};
+use spg_base::{Row, SeatNo};
 use spg_core::State;
-use spg_report::{Outcome, Record};
+use spg_report::Record;
 use spg_script::Spoken;
 
-/// Deletes a row, where it is live.
+/// Deletes a row, where it is live. No seat has anything open.
 pub(crate) fn delete<O: Spoken>(state: &mut State<O>, seat: SeatNo, row: Row) -> Record
-    requires free { stage_at state.old seat ≡ free }
+    requires closed { AllClosed (past_of state.old) }
     ensures { (alone : Bool) → Acts O.meaning O.speech state.old state.new seat alone (Delete row) result }
 {
     let from = position(state);
-    match state.kill(seat, row) {
-        Ok(true) => recorded(state, from, Outcome::Killed),
-        Ok(false) => recorded(state, from, Outcome::NotLive),
-        Err(Memory) => recorded(state, from, Outcome::Memory),
-    }
+    none_open(state, seat);
+    let deleted = spg_whole::delete(state, seat, row);
+    none_open(state, seat);
+    recorded(state, from, delete_outcome(deleted))
 }

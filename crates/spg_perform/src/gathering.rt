@@ -18,7 +18,7 @@ pub(crate) fn gather<O: Spoken>(
 ) -> Pass<O>
     requires count { 0 < length posts.old }
     requires first { (d : _) → Holds (Gathered O.meaning O.speech before.now.value.journal before.now.value.origin (length posts.old) 1 lanes.now posts.old) (desk_id desk.now) (slice_index_or posts.old 0 d).pass }
-    requires over { (i : ℕ) (d : _) → 0 < i → i < length posts.old → Holds (IsOver O.meaning O.speech before.now.value.journal i (slice_index_or lanes.now i []) (slice_index_or posts.old i d).records.items) (desk_id desk.now) (slice_index_or posts.old i d).pass }
+    requires over { (i : ℕ) (d : _) → 0 < i → i < length posts.old → Holds (IsOver O.meaning O.speech before.now.value.origin before.now.value.journal i (slice_index_or lanes.now i []) (slice_index_or posts.old i d).records.items) (desk_id desk.now) (slice_index_or posts.old i d).pass }
     ensures own { desk_of result ≡ desk_id desk.now }
     ensures all { Gathered O.meaning O.speech before.now.value.journal before.now.value.origin (length posts.old) (length posts.old) lanes.now posts.old (view_of result) }
     ensures same { (i : ℕ) (d : _) → i < length posts.old → (slice_index_or posts.new i d).records ≡ (slice_index_or posts.old i d).records }

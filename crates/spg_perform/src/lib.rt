@@ -2,6 +2,7 @@
 //! another.
 #![tactic(auto)]
 
+mod answers;
 mod asking;
 mod blocks;
 mod book;

@@ -1,10 +1,10 @@
-ghost use Rattle.std.specs.Prelude.{◌≡◌, ◌≢◌, ℕ, Some, length};
-ghost use Rattle.spg_rows.specs.History.{nothing, open_of};
+ghost use Rattle.std.specs.Prelude.{◌≡◌, length};
 ghost use Rattle.spg_rows.specs.Right.{Right};
-ghost use Rattle.spg_tree.specs.Table.{latch_at};
-ghost use Rattle.spg_core.specs.Seen.{past_of};
+ghost use Rattle.spg_core.specs.Stage.{free};
+ghost use Rattle.spg_core.specs.Seen.{stage_at, past_of};
+ghost use Rattle.spg_whole.specs.Calls.{AllClosed};
 
-use spg_base::{Block, SeatNo, Span};
+use spg_base::{SeatNo, Span};
 use spg_core::State;
 use spg_opclass::OpClass;
 use spg_report::{Outcome, Record};
@@ -33,13 +33,11 @@ pub(crate) fn recorded<O: OpClass>(state: &State<O>, from: u64, outcome: Outcome
     }
 }
 
-/// Where no other seat has anything open, none has latched a block. Nothing is done here.
-pub(crate) fn only_own<O: OpClass>(state: &State<O>, seat: SeatNo, block: Block, by: SeatNo)
-    requires alone { (other : ℕ) → other ≢ seat → open_of other (past_of state.now) ≡ nothing }
-    requires latched { latch_at state.now.table block ≡ Some by }
-    ensures { by ≡ seat }
+/// Where no seat has anything open, this one is free. Nothing is done here.
+pub(crate) fn none_open<O: OpClass>(state: &State<O>, by: SeatNo)
+    requires closed { AllClosed (past_of state.now) }
+    ensures { stage_at state.now by ≡ free }
 {
-    // Each latch is that of an insert that its seat has open.
-    let _ = state.pages();
+    // What a seat has open is what the journal says.
     let _ = state.open_of(by);
 }

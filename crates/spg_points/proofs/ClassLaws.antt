@@ -1,20 +1,23 @@
 -- The laws of a class of points, from what it says of areas and of divisions.
-use Rattle.std.proofs.Common.{◌≡◌, ◌≢◌, ℕ, cond, ◌+◌, ◌-◌, ◌*◌, ◌<◌, ◌≤◌, ◌⊎◌, ℤ, pos, Bool, true, false, ◌&&◌, List, length, take, Option, Some, None, refl, sym, ◌∙◌, ap, subst, inl, inr, arith, rules, lit<, eqb}
+use Rattle.std.proofs.Common.{◌≡◌, ◌≢◌, ℕ, cond, ◌+◌, ◌-◌, ◌*◌, ◌<◌, ◌≤◌, ◌⊎◌, ℤ, pos, Bool, true, false, ◌&&◌, List, length, get_or, take, Option, Some, None, refl, sym, ◌∙◌, ap, subst, inl, inr, arith, rules, lit<, eqb}
 use Rattle.std.specs.Prelude.{◌==◌, All, slice_get, IsSome, Contains, ◌↔◌, replicate}
 use Rattle.std.specs.List.{list_all}
 use Rattle.std.proofs.lemmas.Option.{same_Some}
 use Rattle.std.proofs.lemmas.Bool.{eqb-true}
 use Rattle.std.proofs.lemmas.Bool.Decides.{nat_tests}
 use Rattle.std.proofs.lemmas.List.{length-replicate}
-use Rattle.std.proofs.lemmas.List.Elements.{All-weaker}
+use Rattle.std.proofs.lemmas.List.Elements.{All-weaker, All-nil, Contains-get_or}
 use Rattle.std.proofs.lemmas.List.Sums.{AllPass-from_list_all, list_all-from_AllPass}
 use Rattle.spg_base.specs.declared.point.Point.{Point}
 use Rattle.spg_base.specs.declared.point.PointCond.{PointCond}
+use Rattle.spg_base.specs.Points.{cond_holds}
 use Rattle.spg_opclass.specs.declared.view.InnerView.{InnerView}
 use Rattle.spg_opclass.specs.declared.view.Choice.{Choice}
 use Rattle.spg_opclass.specs.declared.view.Choice.TheVariants.{Match, Add, Split}
 use Rattle.spg_opclass.specs.Meaning.{is_tuple, divided, eightfold}
-use Rattle.spg_opclass.specs.Laws.{MatchLaw, AddLaw, SplitLaw, PickLaw, KeptLaw, PlainLaw, CodeLaw, IsDivision, MeetsSome, inner_size}
+use Rattle.spg_opclass.specs.Laws.{MatchLaw, AddLaw, SplitLaw, PickLaw, ApartLaw, KeptLaw, PlainLaw, CodeLaw, IsDivision, inner_size}
+use Rattle.spg_opclass.specs.Included.{BareLaw}
+use Rattle.spg_opclass.specs.Exact.{MeetsSome, KeepsExactly}
 use Rattle.spg_opclass.specs.Indices.{kept_below}
 use Rattle.spg_opclass.proofs.IndicesLemmas.{kept_below-there, kept_below-found, kept_below-rises, kept_below-all, kept_below-none}
 use Rattle.spg_points.specs.declared.area.Area.{Area}
@@ -135,13 +138,16 @@ picks_of {Recon} kind fine sound recon rests n h = division (kind.prefix_for rec
           one_taken = λ node label two all at j i bytes rest key l part k.
               let same : bytes ≡ rest = same_Some bytes rest (sym part.whole_at ∙ part.rest_at) in
               record { admitted = (rebuilt_some bytes key k).1.1; given_back = subst (λ (r : List ℕ). rebuilt r ≡ Some key) same k };
-          one_value = λ node all i j a b p r.
-              let e = s.one_point node all i j a b p r in
-              rebuilt_from a (rebuilt_needs a (at_part (λ r. IsSome (rebuilt r)) rests i a h p)) ∙ ap Some e ∙ sym (rebuilt_from b (rebuilt_needs b (at_part (λ r. IsSome (rebuilt r)) rests j b h r)));
           alone = λ others last bytes rest part all apart.
               let same : bytes ≡ rest = same_Some bytes rest (sym part.whole_at ∙ part.rest_at) in
               ap (λ (k : ℕ). Match k bytes) (s.alone others last bytes part.whole_at part.node_at all apart) ∙ ap (λ (r : List ℕ). Match last r) same;
         }
+
+pub apart_of : {Recon : Type 0} (kind : PointClass Recon)
+    → ((recon : Recon) (rests : List (List ℕ)) → 0 < length rests → IsSound kind recon rests (kind.prefix_for recon rests) (kind.nodes_for recon rests)) → ApartLaw (meaning_of kind)
+unfolding divided_by
+apart_of kind sound recon rests n h node all i j a b x y p q u v =
+    ap bytes_of_point (sym (rebuilt_some a x u).1.0 ∙ (sound recon rests n).one_point node all i j a b p q ∙ (rebuilt_some b y v).1.0)
 
 -- the nodes that are kept
 within : {Recon : Type 0} (kind : PointClass Recon) → IsPointClass kind → (recon : Recon) (tuple : InnerView) (i : ℕ) (p : Point) → in_area (node_area kind recon tuple i) p ≡ true → is_point p ≡ true
@@ -153,23 +159,23 @@ within kind fine recon tuple i p = by_same tuple.all_same
     by_same false h = fine.in_range recon tuple.prefix i p h
 
 meets_some : {Recon : Type 0} (kind : PointClass Recon) → IsPointClass kind → (recon : Recon) (tuple : InnerView) (i : ℕ) (c : PointCond)
-    → areas_meet (node_area kind recon tuple i) (area_of c) ≡ true → MeetsSome (meaning_of kind) recon tuple i c
+    → areas_meet (node_area kind recon tuple i) (area_of c) ≡ true → MeetsSome (meaning_of kind) is_point recon tuple i c
 meets_some kind fine recon tuple i c h =
     let m = areas_meet_at (node_area kind recon tuple i) (area_of c) h in
     let there = within kind fine recon tuple i m.0 m.1.0 in
-    record { value = m.0; is_value = there; admitted = m.1.0; met = holds-in_area c m.0 there ∙ m.1.1 }
+    record { value = m.0; is_one = there; admitted = m.1.0; met = holds-in_area c m.0 there ∙ m.1.1 }
 
 meets_from : {Recon : Type 0} (kind : PointClass Recon) (recon : Recon) (tuple : InnerView) (i : ℕ) (c : PointCond)
-    → MeetsSome (meaning_of kind) recon tuple i c → areas_meet (node_area kind recon tuple i) (area_of c) ≡ true
-meets_from kind recon tuple i c m = areas_meet_from (node_area kind recon tuple i) (area_of c) m.value m.admitted (sym (holds-in_area c m.value m.is_value) ∙ m.met)
+    → MeetsSome (meaning_of kind) is_point recon tuple i c → areas_meet (node_area kind recon tuple i) (area_of c) ≡ true
+meets_from kind recon tuple i c m = areas_meet_from (node_area kind recon tuple i) (area_of c) m.value m.admitted (sym (holds-in_area c m.value m.is_one) ∙ m.met)
 
 wanted_is : {Recon : Type 0} (kind : PointClass Recon) → IsPointClass kind → (recon : Recon) (tuple : InnerView) (conds : List PointCond) (i : ℕ)
-    → (is_wanted (node_area kind recon tuple i) conds ≡ true) ↔ All (MeetsSome (meaning_of kind) recon tuple i) conds
+    → (is_wanted (node_area kind recon tuple i) conds ≡ true) ↔ All (MeetsSome (meaning_of kind) is_point recon tuple i) conds
 unfolding is_wanted
 wanted_is kind fine recon tuple conds i =
     let p = λ (c : PointCond). areas_meet (node_area kind recon tuple i) (area_of c) in (
-      λ h. All-weaker (λ c. p c ≡ true) (MeetsSome (meaning_of kind) recon tuple i) (meets_some kind fine recon tuple i) conds (AllPass-from_list_all p conds h),
-      λ all. list_all-from_AllPass p conds (All-weaker (MeetsSome (meaning_of kind) recon tuple i) (λ c. p c ≡ true) (meets_from kind recon tuple i) conds all),
+      λ h. All-weaker (λ c. p c ≡ true) (MeetsSome (meaning_of kind) is_point recon tuple i) (meets_some kind fine recon tuple i) conds (AllPass-from_list_all p conds h),
+      λ all. list_all-from_AllPass p conds (All-weaker (MeetsSome (meaning_of kind) is_point recon tuple i) (λ c. p c ≡ true) (meets_from kind recon tuple i) conds all),
     )
 
 -- at an all-the-same tuple all nodes are wanted, or none
@@ -182,16 +188,25 @@ all_or_none_of : {Recon : Type 0} (kind : PointClass Recon) (recon : Recon) (tup
 all_or_none_of kind recon tuple conds n true e s = inr (kept_below-all (λ i. is_wanted (node_area kind recon tuple i) conds) n (λ i. wanted_same kind recon tuple conds i s ∙ e))
 all_or_none_of kind recon tuple conds n false e s = inl (kept_below-none (λ i. is_wanted (node_area kind recon tuple i) conds) n (λ i. wanted_same kind recon tuple conds i s ∙ e))
 
+pub exact_of : {Recon : Type 0} (kind : PointClass Recon) → IsPointClass kind → (recon : Recon) (tuple : InnerView) (conds : List PointCond)
+    → KeepsExactly (meaning_of kind) is_point recon tuple conds (kept_by (node_area kind recon tuple) conds (length tuple.labels))
+exact_of kind fine recon tuple conds i =
+    let p = λ (i : ℕ). is_wanted (node_area kind recon tuple i) conds in
+    let n = length tuple.labels in (
+      λ h. let u = kept_below-there p n i h in (u.0, (wanted_is kind fine recon tuple conds i).0 u.1),
+      λ h. kept_below-found p n i h.0 ((wanted_is kind fine recon tuple conds i).1 h.1),
+    )
+
 pub keeps_of : {Recon : Type 0} (kind : PointClass Recon) → IsPointClass kind → KeptLaw (meaning_of kind)
 keeps_of kind fine recon tuple conds r t c =
     let p = λ (i : ℕ). is_wanted (node_area kind recon tuple i) conds in
     let n = length tuple.labels in
+    let exact = exact_of kind fine recon tuple conds in
     record {
       ordered = kept_below-rises p n;
-      exact = λ i. (
-        λ h. let u = kept_below-there p n i h in (u.0, (wanted_is kind fine recon tuple conds i).0 u.1),
-        λ h. kept_below-found p n i h.0 ((wanted_is kind fine recon tuple conds i).1 h.1),
-      );
+      there = λ k d h. ((exact (get_or (kept_below p n) k d)).0 (Contains-get_or (kept_below p n) k d h)).0;
+      found = λ i key l known admitted met. (exact i).1 (l, λ k d h. record { value = key; is_one = known; admitted = admitted; met = AllPass-from_list_all (λ c. cond_holds c key) conds met k d h });
+      unasked = λ e i l. (exact i).1 (l, rw e (All-nil (MeetsSome (meaning_of kind) is_point recon tuple i)));
       all_or_none = λ s. all_or_none_of kind recon tuple conds n (is_wanted whole conds) refl s;
     }
 
@@ -214,7 +229,10 @@ codes_of kind fine = record {
   down_recon = λ recon tuple node h t l. refl;
   start_rest = λ key h. point_length key;
   rebuilt = λ recon rest key h. (rebuilt_some rest key h).1.1;
-  key_value = λ key h. h;
   inner_fits = λ tuple t. inner_size_ok kind fine tuple tuple.all_same refl t;
+  not_longer = λ rest h. let e = eqb-true (length rest) 8 h in omega arith;
   leaf_fits = λ rest h. let e = eqb-true (length rest) 8 h in omega arith;
 }
+
+pub bare_of : {Recon : Type 0} (kind : PointClass Recon) → BareLaw (meaning_of kind)
+bare_of kind x y p q e = sym (point_of-bytes_of_point x p) ∙ ap point_of e ∙ point_of-bytes_of_point y q

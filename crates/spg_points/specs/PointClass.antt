@@ -66,11 +66,12 @@ meaning_of kind = record {
   labels = false;
   start = kind.start;
   is_key = is_point;
-  is_value = is_point;
+  bare = bytes_of_point;
   is_recon = λ _. true;
   is_cond = λ _. true;
   rest_of = bytes_of_point;
   rebuild = λ _ rest. rebuilt rest;
+  longest = 8;
   is_prefix = λ prefix. length prefix == kind.prefix_length;
   is_rest = is_point_bytes;
   has_nodes = plain_nodes kind.node_count;

@@ -10,15 +10,19 @@ use Rattle.std.proofs.lemmas.Bool.{cases_lt, cases_eq}
 use Rattle.std.proofs.lemmas.List.Elements.{All-map, All-weaker}
 use Rattle.std.proofs.lemmas.Grind.{common_steps}
 use Rattle.spg_base.specs.declared.point.Point.{Point}
+use Rattle.spg_base.specs.declared.point.PointCond.{PointCond}
 use Rattle.spg_base.specs.Points.{is_between}
-use Rattle.spg_opclass.specs.Laws.{MatchLaw, AddLaw, SplitLaw, PickLaw, KeptLaw, PlainLaw, CodeLaw}
+use Rattle.spg_opclass.specs.declared.view.InnerView.{InnerView}
+use Rattle.spg_opclass.specs.Included.{BareLaw, has_room}
+use Rattle.spg_opclass.specs.Exact.{KeepsExactly}
+use Rattle.spg_opclass.specs.Laws.{MatchLaw, AddLaw, SplitLaw, PickLaw, ApartLaw, KeptLaw, PlainLaw, CodeLaw}
 use Rattle.spg_points.specs.declared.area.Area.{Area}
 use Rattle.spg_points.specs.Codec.{lowest, highest, is_coordinate, is_point, point_of, bytes_of_point}
 use Rattle.spg_points.specs.Heights.{raised, lowered}
 use Rattle.spg_points.specs.Areas.{in_area}
 use Rattle.spg_points.proofs.PointLemmas.{raised_is, lowered_le, lowered_above, between_from, between_to, and_true, true_and, is_point-point_of, point_of-bytes_of_point, length-bytes_of_point}
 use Rattle.spg_points.proofs.RestLemmas.{at_part}
-use Rattle.spg_points.proofs.ClassLaws.{IsPointClass, IsSound, matches_of, adds_of, splits_of, picks_of, keeps_of, plain_of, codes_of}
+use Rattle.spg_points.proofs.ClassLaws.{IsPointClass, IsSound, matches_of, adds_of, splits_of, picks_of, apart_of, exact_of, keeps_of, plain_of, codes_of, bare_of}
 use Rattle.spg_quad.specs.declared.class.QuadRecon.{QuadRecon}
 use Rattle.spg_quad.specs.Quad.{quadrant, region, ceiling_by, centroid_of, quad, quad_meaning}
 use Rattle.spg_quad.specs.QuadLemmas.{by_quadrant, quadrant_below, in_region, all_ceiling, some_ceiling, is_point-centroid_of}
@@ -72,7 +76,7 @@ not_all_below f c rests n all =
     some_ceiling (λ r. raised (f r)) rests n (All-weaker (λ r. int_le (lowered d) (f r) ≡ false) (λ r. raised (f r) < d) (λ r h. lowered_above d (f r) (c.in_range r) h) rests all)
 
 -- values that are all in one node are one point
-one_point : (rests : List (List ℕ)) → 0 < length rests → (node : ℕ) → All (λ r. quadrant (centroid_of rests) (point_of r) ≡ node) rests
+pub one_point : (rests : List (List ℕ)) → 0 < length rests → (node : ℕ) → All (λ r. quadrant (centroid_of rests) (point_of r) ≡ node) rests
     → (i j : ℕ) (a b : List ℕ) → slice_get rests i ≡ Some a → slice_get rests j ≡ Some b → point_of a ≡ point_of b
 unfolding centroid_of
 one_point rests n node all i j a b p q =
@@ -100,7 +104,7 @@ all_mapped : (f : List ℕ → ℕ) (node : ℕ) (rests : List (List ℕ)) → A
 all_mapped f node rests all k d l = sym (get_or-map f rests k d 0 l) ∙ all k 0 (rw (length-map rests f) l)
 
 -- a region is within the range of coordinates
-within : (c : Point) (node : ℕ) (p : Point) → is_point c ≡ true → in_area (region c node) p ≡ true → is_point p ≡ true
+pub within : (c : Point) (node : ℕ) (p : Point) → is_point c ≡ true → in_area (region c node) p ≡ true → is_point p ≡ true
 unfolding region
 within c node p k =
     let f = and_true (is_coordinate c.x) (is_coordinate c.y) k in
@@ -165,6 +169,12 @@ quad_splits = splits_of quad
 pub quad_picks : PickLaw quad_meaning
 quad_picks = picks_of quad quad_areas quad_sound
 
+pub quad_apart : ApartLaw quad_meaning
+quad_apart = apart_of quad quad_sound
+
+pub quad_exact : (recon : QuadRecon) (tuple : InnerView) (conds : List PointCond) → KeepsExactly quad_meaning is_point recon tuple conds (quad_meaning.kept recon tuple conds)
+quad_exact = exact_of quad quad_areas
+
 pub quad_keeps : KeptLaw quad_meaning
 quad_keeps = keeps_of quad quad_areas
 
@@ -173,3 +183,10 @@ quad_plain = plain_of quad
 
 pub quad_codes : CodeLaw quad_meaning
 quad_codes = codes_of quad quad_areas
+
+pub quad_bare : BareLaw quad_meaning
+quad_bare = bare_of quad
+
+pub quad_room : has_room quad_meaning ≡ true
+unfolding has_room
+quad_room = refl

@@ -1,11 +1,14 @@
-ghost use Rattle.std.specs.Prelude.{false, refl};
+ghost use Rattle.std.specs.Prelude.{◌≡◌, All, IfOk, true, false, refl};
+ghost use Rattle.spg_opclass.specs.InPlace.{shown};
+ghost use Rattle.spg_opclass.specs.Exact.{KeepsExactly};
+ghost use Rattle.spg_points.specs.Codec.{is_point};
 ghost use Rattle.spg_quad.specs.Quad.{quad_meaning};
 
 use crate::division::divide;
 use crate::quadrant::{choose_node, nodes_at};
 use smallvec::SmallVec;
 use spg_base::{Bytes, Memory, Point, PointCond, Same};
-use spg_opclass::{Choice, InnerRef, InnerView, OpClass, Picked, SharedClass};
+use spg_opclass::{Choice, InnerRef, InnerView, OpClass, Picked, SharedClass, TakesValue};
 use spg_points::{NodeAreas, all_hold, decode, encode, kept_nodes, labels_ok};
 use std::alloc::Global;
 
@@ -29,8 +32,20 @@ impl Same for QuadRecon {
 
 impl SharedClass for Quad {}
 
+impl TakesValue for Quad {
+    ghost use Rattle.spg_quad.specs.QuadLaws.{quad_bare, quad_room};
+
+    fn code_with_value(&self) -> u8 {
+        17
+    }
+
+    ghost bare = { quad_bare };
+
+    ghost room = { quad_room };
+}
+
 impl OpClass for Quad {
-    ghost use Rattle.spg_quad.specs.QuadLaws.{quad_matches, quad_adds, quad_splits, quad_picks, quad_keeps, quad_plain, quad_codes};
+    ghost use Rattle.spg_quad.specs.QuadLaws.{quad_matches, quad_adds, quad_splits, quad_picks, quad_apart, quad_keeps, quad_plain, quad_codes};
 
     type Key = Point;
 
@@ -55,6 +70,8 @@ impl OpClass for Quad {
     ghost splits = { quad_splits };
 
     ghost picks = { quad_picks };
+
+    ghost apart = { quad_apart };
 
     ghost keeps = { quad_keeps };
 
@@ -130,7 +147,11 @@ impl OpClass for Quad {
         recon: &QuadRecon,
         tuple: &InnerView,
         conds: &[PointCond],
-    ) -> Result<SmallVec<u16, 8>, Memory> {
+    ) -> Result<SmallVec<u16, 8>, Memory>
+        ensures known { All (λ c. quad_meaning.is_cond c ≡ true) conds.now }
+        ensures ok { IfOk result (λ kept. kept.items ≡ quad_meaning.kept recon.now tuple.now conds.now) }
+        ensures exact { KeepsExactly quad_meaning is_point recon.now tuple.now conds.now (quad_meaning.kept recon.now tuple.now conds.now) }
+    {
         self.inner_consistent_in_place(alloc, recon, &tuple.in_place(), conds)
     }
 
@@ -164,7 +185,11 @@ impl OpClass for Quad {
         _recon: &QuadRecon,
         tuple: &InnerRef<'_>,
         conds: &[PointCond],
-    ) -> Result<SmallVec<u16, 8>, Memory> {
+    ) -> Result<SmallVec<u16, 8>, Memory>
+        ensures known { IfOk result (λ _. All (λ c. quad_meaning.is_cond c ≡ true) conds.now) }
+        ensures ok { IfOk result (λ kept. kept.items ≡ quad_meaning.kept _recon.now (shown tuple.now) conds.now) }
+        ensures exact { KeepsExactly quad_meaning is_point _recon.now (shown tuple.now) conds.now (quad_meaning.kept _recon.now (shown tuple.now) conds.now) }
+    {
         kept_nodes(alloc, &nodes_at(tuple), tuple.labels.len(), conds)
     }
 

@@ -28,7 +28,7 @@ pub fn divide(alloc: Global, rests: &[Bytes]) -> Result<Picked, Memory>
 }
 
 /// In each coordinate the ceiling of the average.
-fn centroid(rests: &[Bytes]) -> Point
+pub fn centroid(rests: &[Bytes]) -> Point
     requires { 0 < length rests.now }
     ensures value { result ≡ centroid_of rests.now }
     ensures x_ceiling { IsCeiling (λ r. (point_of r).x) rests.now result.x }

@@ -28,7 +28,7 @@ pub fn node_of(c: Point, p: Point) -> u16
 
 /// The points of a node below a centroid.
 #[tactic(auto, unfolding(crate::specs::Quad::region))]
-fn region_of(c: Point, node: u16) -> Area
+pub fn region_of(c: Point, node: u16) -> Area
     ensures { result ≡ region c node }
 {
     let x = c.x as i64;

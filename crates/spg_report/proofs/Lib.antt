@@ -3,3 +3,4 @@ pub mod Parts
 pub mod ResultLines
 pub mod EventLines
 pub mod Wholes
+pub mod Taken

@@ -1,6 +1,7 @@
 -- What a printed line tells of an event and of a record, and which values can be printed.
-use Rattle.std.specs.Prelude.{◌≡◌, ◌<◌, ◌^◌, Bool, [], length, Option, Some, None, ⊤}
+use Rattle.std.specs.Prelude.{◌≡◌, ◌<◌, ◌^◌, ℕ, Bool, List, [], length, Option, Some, None, ⊤}
 use Rattle.std.specs.List.{AllByRecursion}
+use Rattle.spg_base.specs.Row.{RowAt}
 use Rattle.spg_base.specs.declared.recorded.Stat.{Stat}
 use Rattle.spg_rows.specs.declared.event.Event.{Event}
 use Rattle.spg_rows.specs.declared.event.Event.TheVariants.{OpenInsert, Put, Drop, Kill, OpenScan, CloseScan, OpenVacuum, Sweep, CloseVacuum, Leave}
@@ -64,6 +65,10 @@ pub record FitsStat (s : Stat) : Type 0 where
   pub placeholder : s.placeholder < 2 ^ 64
   pub clock : s.clock < 2 ^ 64
 
+abbrev pub FitsFound : List RowAt → Option ℕ → Type 0
+FitsFound rows None = AllByRecursion IsRow rows × (length rows < 2 ^ 64)
+FitsFound rows (Some walk) = AllByRecursion IsRow rows × (length rows < 2 ^ 64) × (walk < 2 ^ 64)
+
 abbrev pub FitsOutcome : Outcome → Type 0
 FitsOutcome outcome.Added = ⊤
 FitsOutcome outcome.RowUsed = ⊤
@@ -72,8 +77,7 @@ FitsOutcome outcome.Full = ⊤
 FitsOutcome outcome.ClockFull = ⊤
 FitsOutcome outcome.Killed = ⊤
 FitsOutcome outcome.NotLive = ⊤
-FitsOutcome (outcome.Found rows None) = AllByRecursion IsRow rows × (length rows < 2 ^ 64)
-FitsOutcome (outcome.Found rows (Some walk)) = AllByRecursion IsRow rows × (length rows < 2 ^ 64) × (walk < 2 ^ 64)
+FitsOutcome (outcome.Found rows walk) = FitsFound rows walk
 FitsOutcome (outcome.Vacuumed swept) = swept < 2 ^ 64
 FitsOutcome (outcome.OpenBy seat) = seat < 2 ^ 64
 FitsOutcome (outcome.Saved pages) = pages < 2 ^ 64

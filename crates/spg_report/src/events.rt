@@ -1,9 +1,10 @@
-ghost use Rattle.std.specs.Prelude.{◌≡◌, ◌++◌, ◌∷◌, OnOk, IfOk, codes};
+ghost use Rattle.std.specs.Prelude.{◌≡◌, ◌<◌, ◌^◌, ◌++◌, ◌∷◌, OnOk, IfOk, codes};
 ghost use Rattle.spg_base.specs.Text.{row_text};
 ghost use Rattle.spg_rows.specs.History.{seat_of};
-ghost use Rattle.spg_script.specs.Spelling.{conds_text};
+ghost use Rattle.spg_script.specs.Spelling.{IsRow, conds_text};
 ghost use Rattle.spg_script.specs.Speech.{key_or_null_text, query_text};
 ghost use Rattle.spg_report.specs.Text.{event_text, deed_text};
+ghost use Rattle.spg_report.specs.Told.{Fits};
 
 use crate::line::Line;
 use spg_base::{Bytes, Memory, Row, SeatNo};
@@ -66,7 +67,8 @@ fn push_key<O: Spoken>(
 /// Adds a word and a row.
 #[inline(always)]
 fn push_on_row(line: &mut Line, word: &[u8], row: Row) -> Result<(), Memory>
-    ensures { OnOk result (line.new ≡ line.old ++ (word.now ++ row_text row)) }
+    ensures fits { IsRow row }
+    ensures text { OnOk result (line.new ≡ line.old ++ (word.now ++ row_text row)) }
 {
     let mut text = Tail::new();
     text.row(row);
@@ -98,7 +100,8 @@ fn push_insert<O: Spoken>(
     row: Row,
     key: &Option<O::Key>,
 ) -> Result<(), Memory>
-    ensures { OnOk result (line.new ≡ line.old ++ (codes "open insert " ++ (row_text row ++ 32 ∷ key_or_null_text O.speech key.now))) }
+    ensures fits { IsRow row }
+    ensures text { OnOk result (line.new ≡ line.old ++ (codes "open insert " ++ (row_text row ++ 32 ∷ key_or_null_text O.speech key.now))) }
 {
     push_on_row(line, b"open insert ", row)?;
     line.push(b' ')?;
@@ -111,7 +114,8 @@ fn push_deed<O: Spoken>(
     line: &mut Line,
     event: &Event<O>,
 ) -> Result<(), Memory>
-    ensures { OnOk result (line.new ≡ line.old ++ deed_text O.speech event.now) }
+    ensures text { OnOk result (line.new ≡ line.old ++ deed_text O.speech event.now) }
+    ensures fits { OnOk result (Fits event.now) }
 {
     match event {
         Event::OpenInsert { row, key, .. } => push_insert(alloc, class, line, *row, key),
@@ -138,7 +142,9 @@ pub fn push_event<O: Spoken>(
     at: u64,
     event: &Event<O>,
 ) -> Result<(), Memory>
-    ensures { OnOk result (line.new ≡ line.old ++ event_text O.speech at event.now) }
+    ensures text { OnOk result (line.new ≡ line.old ++ event_text O.speech at event.now) }
+    ensures seat { OnOk result (seat_of event.now < 2 ^ 64) }
+    ensures fits { OnOk result (Fits event.now) }
 {
     let mut place = Tail::new();
     place.byte(b' ');

@@ -1,6 +1,7 @@
-ghost use Rattle.std.specs.Prelude.{◌≡◌, ◌++◌, ◌∷◌, [], OnOk};
+ghost use Rattle.std.specs.Prelude.{◌≡◌, ◌<◌, ◌^◌, ◌++◌, ◌∷◌, [], OnOk};
 ghost use Rattle.std.specs.Fmt.{decimal};
 ghost use Rattle.spg_base.specs.Text.{row_text};
+ghost use Rattle.spg_script.specs.Spelling.{IsRow};
 
 use spg_base::{Memory, Row};
 use spg_script::Tail;
@@ -73,7 +74,8 @@ impl Line {
 
     /// Adds a row at the end.
     pub fn row(&mut self, row: Row) -> Result<(), Memory>
-        ensures { OnOk result (self.new ≡ self.old ++ row_text row) }
+        ensures fits { IsRow row }
+        ensures text { OnOk result (self.new ≡ self.old ++ row_text row) }
     {
         let mut text = Tail::new();
         text.row(row);
@@ -82,7 +84,8 @@ impl Line {
 
     /// Adds a word and a number.
     pub fn named(&mut self, word: &[u8], n: u64) -> Result<(), Memory>
-        ensures { OnOk result (self.new ≡ self.old ++ (word.now ++ decimal n)) }
+        ensures fits { n < 2 ^ 64 }
+        ensures text { OnOk result (self.new ≡ self.old ++ (word.now ++ decimal n)) }
     {
         self.extend(word)?;
         self.number(n)

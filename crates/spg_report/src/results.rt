@@ -1,15 +1,19 @@
 ghost use Rattle.std.specs.Prelude.{◌≡◌, ◌++◌, ◌∷◌, OnOk, IfOk, codes};
+ghost use Rattle.std.specs.List.{AllByRecursion};
+ghost use Rattle.spg_script.specs.Spelling.{IsRow};
 ghost use Rattle.spg_report.specs.Text.{result_text, outcome_text, rows_text, found_text, stat_text, journal_text};
+ghost use Rattle.spg_report.specs.Told.{FitsStat, FitsFound, FitsOutcome, FitsRecord};
 
 use crate::line::Line;
 use crate::outcome::Outcome;
 use crate::record::Record;
-use spg_base::{Bytes, Memory, Row, Stat};
+use spg_base::{Bytes, Memory, Row, Span, Stat};
 use spg_script::Tail;
 use std::alloc::Global;
 
 fn push_rows(line: &mut Line, rows: &[Row]) -> Result<(), Memory>
-    ensures { OnOk result (line.new ≡ line.old ++ rows_text rows.now) }
+    ensures text { OnOk result (line.new ≡ line.old ++ rows_text rows.now) }
+    ensures fits { OnOk result (AllByRecursion IsRow rows.now) }
 {
     for row in rows {
         line.push(b' ')?;
@@ -20,7 +24,8 @@ fn push_rows(line: &mut Line, rows: &[Row]) -> Result<(), Memory>
 
 /// Adds counts, each behind its word.
 pub fn push_stat(line: &mut Line, stat: &Stat) -> Result<(), Memory>
-    ensures { OnOk result (line.new ≡ line.old ++ stat_text stat.now) }
+    ensures text { OnOk result (line.new ≡ line.old ++ stat_text stat.now) }
+    ensures fits { OnOk result (FitsStat stat.now) }
 {
     line.named(b"stat pages ", u64::from(stat.pages))?;
     line.named(b" inner ", stat.inner)?;
@@ -32,7 +37,8 @@ pub fn push_stat(line: &mut Line, stat: &Stat) -> Result<(), Memory>
 }
 
 fn push_found(line: &mut Line, rows: &[Row], walk: Option<u64>) -> Result<(), Memory>
-    ensures { OnOk result (line.new ≡ line.old ++ found_text rows.now walk) }
+    ensures text { OnOk result (line.new ≡ line.old ++ found_text rows.now walk) }
+    ensures fits { OnOk result (FitsFound rows.now walk) }
 {
     line.named(b"found ", rows.len() as u64)?;
     match walk {
@@ -45,7 +51,8 @@ fn push_found(line: &mut Line, rows: &[Row], walk: Option<u64>) -> Result<(), Me
 }
 
 fn push_outcome(line: &mut Line, outcome: &Outcome) -> Result<(), Memory>
-    ensures { OnOk result (line.new ≡ line.old ++ outcome_text outcome.now) }
+    ensures text { OnOk result (line.new ≡ line.old ++ outcome_text outcome.now) }
+    ensures fits { OnOk result (FitsOutcome outcome.now) }
 {
     match outcome {
         Outcome::Added => line.extend(b"added"),
@@ -68,13 +75,15 @@ fn push_outcome(line: &mut Line, outcome: &Outcome) -> Result<(), Memory>
 /// Adds the line of a command, without its end: its number, from 1, where it begins and ends in the
 /// journal, and what became of it.
 pub fn push_result(line: &mut Line, number: u64, done: &Record) -> Result<(), Memory>
-    ensures { OnOk result (line.new ≡ line.old ++ result_text number done.now) }
+    ensures text { OnOk result (line.new ≡ line.old ++ result_text number done.now) }
+    ensures fits { OnOk result (FitsRecord done.now) }
 {
+    let Span { from, to } = done.span;
     let mut front = Tail::new();
     front.byte(b' ');
-    front.number(done.span.to);
+    front.number(to);
     front.byte(b' ');
-    front.number(done.span.from);
+    front.number(from);
     front.byte(b' ');
     front.number(number);
     line.extend(front.as_slice())?;

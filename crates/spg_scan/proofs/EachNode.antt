@@ -3,9 +3,9 @@ use Rattle.std.proofs.Common.{◌≡◌, ℕ, zero, suc, ◌+◌, ◌<◌, ◌�
 use Rattle.std.specs.Prelude.{Contains}
 use Rattle.std.specs.List.{AllPairs}
 use Rattle.std.proofs.lemmas.List.Kept.{AllPairs-from_increasing}
-use Rattle.std.proofs.lemmas.List.Elements.{All-nil}
+use Rattle.std.proofs.lemmas.List.Elements.{All-nil, All-contains}
 use Rattle.spg_opclass.specs.Meaning.{Meaning, is_tuple}
-use Rattle.spg_opclass.specs.Laws.{KeptLaw, MeetsSome}
+use Rattle.spg_opclass.specs.Laws.{KeptLaw}
 use Rattle.spg_forest.specs.View.{Place}
 use Rattle.spg_forest.specs.Spot.{Frame}
 use Rattle.spg_forest.specs.Walk.{below}
@@ -43,6 +43,6 @@ pub kept_all : {Key Recon Cond : Type 0} (m : Meaning Key Recon Cond) → KeptLa
 kept_all m law recon w ns a b e =
     let kept = law recon w [] a b (All-nil (λ c. m.is_cond c ≡ true)) in
     rising_is 0 (length ns) (m.kept recon w []) (AllPairs-from_increasing (m.kept recon w []) kept.ordered)
-    (λ k h. let c = ((kept.exact k).0 h).0 in (omega arith, omega arith))
-    (λ k c d. (kept.exact k).1 (omega arith, All-nil (MeetsSome m recon w k)))
+    (λ k h. let c = All-contains (λ i. i < length w.labels) (m.kept recon w []) k kept.there h in (omega arith, omega arith))
+    (λ k c d. kept.unasked refl k (omega arith))
     ∙ from_below (length ns)

@@ -1,12 +1,12 @@
 -- What a scan that does something with an item rests on.
-use Rattle.std.proofs.Common.{◌≡◌, ℕ, Option, Some, sym, ◌∙◌, subst}
+use Rattle.std.proofs.Common.{◌≡◌, Option, Some, sym, ◌∙◌, subst}
 use Rattle.spg_base.specs.Row.{RowAt}
 use Rattle.spg_opclass.specs.Meaning.{Meaning}
 use Rattle.spg_opclass.specs.Laws.{KeptLaw, CodeLaw}
 use Rattle.spg_forest.specs.Classes.{HasEntry}
 use Rattle.spg_forest.specs.Sheets.{Sheets}
 use Rattle.spg_forest.specs.Shape.{Represents, spots}
-use Rattle.spg_rows.specs.History.{History, scanning, open_of}
+use Rattle.spg_rows.specs.History.{History}
 use Rattle.spg_rows.specs.Lives.{lives}
 use Rattle.spg_rows.specs.Rows.{key_of as row_key}
 use Rattle.spg_rows.specs.Rows.{state_of}
@@ -22,17 +22,17 @@ use Rattle.spg_rows.proofs.Scans.{needed_live, live_found, found_may}
 use Rattle.spg_scan.specs.Scanning.{Scanning, IsLiveIn}
 use Rattle.spg_scan.proofs.CoverKeys.{HasAsked}
 use Rattle.spg_scan.specs.Cover.{IsScanOf}
+use Rattle.spg_scan.specs.Since.{NoneReused}
 use Rattle.spg_rows.specs.Present.{IsPresentWith}
 
--- the laws of the class; a legal history; pages that hold the rows that are present; row states that are those of the history; and the scan, which a seat has open
+-- the laws of the class; a legal history; pages that hold the rows that are present; row states that are those of the history; and the scan, since whose open no row was used again
 pub record Grounds {O Key Recon Cond : Type 0} (m : Meaning Key Recon Cond) (S : Sheets) (before past : History O Key Recon Cond) (table : rows.Table O Key Recon Cond) (s : Scanning O Key Recon Cond) : Type 0 where
   pub kept : KeptLaw m
   pub codes : CodeLaw m
   pub legal : IsLegal past
   pub holds : Represents m S (IsPresentWith past)
   pub states : (r : RowAt) → rows.state_in table r ≡ state_of r past
-  pub seat : ℕ
-  pub scans : open_of seat past ≡ scanning before s.query
+  pub none : NoneReused before past
   pub is : IsScanOf m S before past s
 
 module _ {O Key Recon Cond : Type 0} (m : Meaning Key Recon Cond) (S : Sheets) (before past : History O Key Recon Cond) (table : rows.Table O Key Recon Cond) (s : Scanning O Key Recon Cond) (A : Grounds m S before past table s) where

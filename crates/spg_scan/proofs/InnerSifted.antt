@@ -3,9 +3,7 @@ use Rattle.std.proofs.Common.{◌≡◌, ◌<◌, ⊎_elim, inl, inr, ℕ, true,
 use Rattle.std.proofs.lemmas.Bool.{false≢true}
 use Rattle.spg_base.specs.Row.{RowAt}
 use Rattle.spg_opclass.specs.Meaning.{Meaning}
-use Rattle.spg_opclass.specs.Laws.{MeetsSome}
 use Rattle.std.specs.List.{All as Each}
-use Rattle.std.proofs.lemmas.List.Elements.{All-weaker}
 use Rattle.spg_opclass.specs.Queries.{query_matches}
 use Rattle.spg_opclass.specs.declared.query.Query.{Query}
 use Rattle.spg_opclass.specs.declared.query.Query.TheVariants.{All, Null, Where}
@@ -22,7 +20,7 @@ use Rattle.spg_rows.specs.Table as rows
 use Rattle.spg_rows.proofs.Histories.{sane_from_legal}
 use Rattle.spg_rows.proofs.Scans.{needed_live}
 use Rattle.spg_scan.specs.Scanning.{Scanning, replaced, IsAskedAt, CanFollow}
-use Rattle.spg_scan.proofs.CoverKeys.{key_is, each_of}
+use Rattle.spg_scan.proofs.CoverKeys.{key_is}
 use Rattle.spg_scan.proofs.CoverNodes.{no_twice, below_twice, below_all, child_from, child_to, children_differ, NoTwice}
 use Rattle.spg_scan.specs.Items.{IsItem, inner, hold_all, Spots, copied_rows}
 use Rattle.spg_scan.specs.Cover.{given_of, IsScanOf}
@@ -74,7 +72,7 @@ module _ {O Key Recon Cond : Type 0} (m : Meaning Key Recon Cond) (S : Sheets) (
         within : j < length ns
         within = within_from_some ns j y link
 
-        value : (k : Key) → n.0.key ≡ Some k → m.is_value k ≡ true
+        value : (k : Key) → n.0.key ≡ Some k → m.is_key k ≡ true
         value k e =
             let (live, keyed) = needed_live m past (sane_from_legal past A.legal) before s.query row n in
             let (z2, p2, l2, recon2, a2, b2, is2) = live_entry m S before past table s A row n.0.key live keyed in
@@ -89,11 +87,9 @@ module _ {O Key Recon Cond : Type 0} (m : Meaning Key Recon Cond) (S : Sheets) (
             held_key : (key : Option Key) → n.0.key ≡ key → query_matches {O = O} m (Where conds) key ≡ true → admits_of m (Some recon) w j (Some key) ≡ true → Contains (m.kept recon w conds) j
             held_key None e match admits = absurd (false≢true match)
             held_key (Some key) e match admits =
-                let met : Each (λ c. m.holds c key ≡ true) conds = each_of (λ c. m.holds c key) conds match in
-                let some : Each (MeetsSome m recon w j) conds = All-weaker (λ c. m.holds c key ≡ true) (MeetsSome m recon w j) (λ c z. record { value = key; is_value = value key e; admitted = admits; met = z }) conds met in
                 let count : length ns ≡ length w.labels = k.nodes.each in
                 let low : j < length ns = within in
-                ((A.kept recon w conds k.known.0 k.known.1 a).exact j).1 (omega arith, some)
+                (A.kept recon w conds k.known.0 k.known.1 a).found j key (omega arith) (value key e) admits match
 
     sift_gives : Gives m S s.stamp (inner q w ns) (hold_all olds) (Contains (given_of s)) (Contains (given_of next)) needed
     sift_gives = record {

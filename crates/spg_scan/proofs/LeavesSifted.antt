@@ -14,7 +14,8 @@ use Rattle.spg_forest.specs.Steps.{HasRow}
 use Rattle.spg_rows.specs.History.{History}
 use Rattle.spg_rows.specs.Scans.{IsNeeded, HasLivedWith}
 use Rattle.spg_rows.specs.Table as rows
-use Rattle.spg_rows.proofs.Scans.{found_may, lived_key}
+use Rattle.spg_rows.proofs.Scans.{found_may}
+use Rattle.spg_scan.proofs.Since.{lived_key_since}
 use Rattle.spg_scan.specs.Scanning.{Scanning, asks_for, replaced}
 use Rattle.spg_scan.specs.Items.{IsItem, leaves, IsSpotOf, Spots, rows_of}
 use Rattle.spg_scan.specs.Cover.{given_of, IsScanOf}
@@ -81,7 +82,7 @@ module _ {O Key Recon Cond : Type 0} (m : Meaning Key Recon Cond) (S : Sheets) (
     takes row (life, put, match, unkilled) h =
         let (l, a, e) = row_from ls row h in
         let (key, is, lived) = A.is.copies i q l (ls, at, a) in
-        let same : life.key ≡ key = lived_key past A.legal before s.query A.seat A.scans row key (subst (λ (r : RowAt). HasLivedWith before past r key) e lived) life put.last in
+        let same : life.key ≡ key = lived_key_since before past A.none row key (subst (λ (r : RowAt). HasLivedWith before past r key) e lived) life put.last in
         let asks : asks_for m s.query (key_of m q l.rest) ≡ true = ap (λ (o : Option (Option Key)). asks_for m s.query o) is ∙ ap (query_matches m s.query) (sym same) ∙ match in
         subst (λ (r : RowAt). HasRow asked_now r) e (asked_has ls l a asks)
 

@@ -31,7 +31,7 @@ pub(crate) fn move_in_place<T: Drop>(items: &mut Vec<T>, held: usize, at: usize)
 }
 
 /// Puts other items in the place of one.
-pub(crate) fn put_in_place<T: Drop>(
+pub fn put_in_place<T: Drop>(
     items: &mut Vec<T>,
     at: usize,
     mut children: Vec<T>,

@@ -16,7 +16,7 @@ use spg_tree::PageTable;
 use std::alloc::Global;
 
 /// The seat that holds a block, where it is another than this one.
-pub(crate) fn held_by_other(table: &PageTable, block: Block, seat: SeatNo) -> Option<SeatNo>
+pub fn held_by_other(table: &PageTable, block: Block, seat: SeatNo) -> Option<SeatNo>
     requires { block < length table.now.pages }
     ensures { result ≡ other_than seat (latch_at table.now block) }
 {

@@ -4,6 +4,7 @@ pub mod Spelling
 pub mod Quoted
 pub mod Line
 pub mod Reading
+pub mod Wanting
 pub mod Laws
 pub mod Speech
 pub mod Script

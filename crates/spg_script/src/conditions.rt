@@ -76,7 +76,7 @@ fn text_cond(kind: &[u8], text: ByteText) -> Option<TextCond>
 
 /// The first condition on points, and what is left behind it, from a space on.
 #[tactic(auto, unfolding(crate::specs::Reading::point_cond_then))]
-fn point_cond_then(bytes: &[u8]) -> Option<(PointCond, &[u8])>
+pub fn point_cond_then(bytes: &[u8]) -> Option<(PointCond, &[u8])>
     ensures { told result ≡ point_cond_then bytes.now }
 {
     let (kind, rest) = split(bytes, b' ')?;

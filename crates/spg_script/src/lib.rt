@@ -4,6 +4,7 @@
 mod any_cond;
 mod any_key;
 mod any_query;
+mod bad_line;
 mod blocks;
 mod bytes;
 mod class_line;
@@ -27,12 +28,16 @@ mod refused;
 mod script;
 mod spelling;
 mod spoken;
+mod spot;
 mod tail;
 mod texts;
+mod wanted;
+mod wanting;
 
 pub use any_cond::AnyCond;
 pub use any_key::AnyKey;
 pub use any_query::AnyQuery;
+pub use bad_line::BadLine;
 pub use class_name::ClassName;
 pub use command::Command;
 pub use generating::{MOST_LOAD_LANES, generate};
@@ -46,6 +51,9 @@ pub use refused::ScriptRefused;
 pub use script::Script;
 pub use spoken::Spoken;
 pub use tail::Tail;
+pub use wanted::Wanted;
 
+#[cfg(test)]
+mod bad_line_tests;
 #[cfg(test)]
 mod tests;

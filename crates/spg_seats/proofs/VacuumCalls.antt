@@ -274,7 +274,7 @@ module _ {O Key Recon Cond : Type 0} (m : Meaning Key Recon Cond) where
               latches = L.ends s.table s2.table seat (stage_holds stage) held;
               tells = record {
                 holds = sweeps_hold m (sheets_of s.table) (sheets_of s2.table) past seat xs s2.table.touched (spreads 0) horizon T kept.tells.holds;
-                heavy = λ nulls h. subst (λ (ks : List (Option Key)). 8160 < weight_of m nulls ks) (sym (sweeps_keys seat past xs)) (kept.tells.heavy nulls (grows nulls h));
+                heavy = λ u nulls h. subst (λ (ks : List (Option Key)). 8160 < weight_of m nulls ks) (sym (sweeps_keys seat past xs)) (kept.tells.heavy (ap (λ o. o.loaded) (sym origin) ∙ u) nulls (grows nulls h));
                 states = states;
                 keys = keys;
                 kills = kills;

@@ -1,5 +1,5 @@
 -- Why a division leaves the leaf of the insert out, and when it notes a rise.
-use Rattle.std.proofs.Common.{◌≡◌, ℕ, ◌+◌, ◌-◌, ◌≤◌, ◌<◌, true, false, List, [], ◌∷◌, ◌++◌, ◌⊎◌, Option, Some, None, is_some, length, length-append, take, sym, ap, ◌∙◌, subst, inl, inr, arith}
+use Rattle.std.proofs.Common.{◌≡◌, ℕ, ◌+◌, ◌-◌, ◌≤◌, ◌<◌, true, false, List, [], ◌∷◌, ◌++◌, ◌⊎◌, Option, Some, None, is_some, length, length-append, take, refl, sym, ap, ◌∙◌, subst, inl, inr, arith}
 use Rattle.std.proofs.lemmas.List.{length-map}
 use Rattle.spg_opclass.specs.Meaning.{Meaning}
 use Rattle.spg_forest.specs.View.{Place, Leaf}
@@ -23,7 +23,7 @@ use Rattle.spg_split.specs.declared.split.SplitOut.{SplitOut}
 use Rattle.spg_split.specs.declared.split.SplitOut.TheVariants.{LeftOut}
 use Rattle.spg_split.specs.Splits.{PartsWithout}
 use Rattle.spg_split.specs.Below.{SplitsWithout}
-use Rattle.spg_split.specs.Causes.{IsCause, IsCauseOf, tuples_divided, root_bytes, AreInOne, root_in_one, chain_in_one, RisesOnly}
+use Rattle.spg_split.specs.Causes.{IsCause, IsCauseOf, IsWayFor, tuples_divided, root_bytes, AreInOne, root_in_one, chain_in_one, RisesOnly}
 use Rattle.spg_split.specs.Dividing.{IsDivided, rows_of}
 use Rattle.spg_split.specs.Nodes.{IsOnlyNode}
 use Rattle.spg_split.specs.Parts.{ArePartsOf, IsWay}
@@ -83,6 +83,30 @@ root_rise m t d root st dv D p P With a = tt
 root_rise m t d root st dv D p P (Without false) a = tt
 root_rise m t d root st dv D p P (Without true) (a, (node, only, e)) =
     subst (λ (s : Stand). AreInOne m d.recon (leaves_on (tuples_at t (tuple_place s).block)) (carried d)) (sym st) (parts_in_one m d.recon (leaves_on (tuples_at t root)) (carried d) dv D p P node only e)
+
+-- where they are not, neither are the leaves
+parts_apart : {Key Recon Cond : Type 0} (m : Meaning Key Recon Cond) (r : Option Recon) (ls : List Leaf) (new : Leaf) (dv : Division) → IsDivided m r (rests_of (ls ++ new ∷ [])) dv → (p : Parts) → ArePartsOf (rows_of (ls ++ new ∷ [])) dv p →
+    (node : Option ℕ) → IsOnlyNode (take (length p.leaves - 1) p.node_of) node → false ≡ is_some node → AreInOne m r ls new → ⊥
+parts_apart m r ls new dv D p P (Some j) only e one = cc
+parts_apart m r ls new dv D p P None only e (k, one) =
+    let a : length p.leaves ≡ length (ls ++ new ∷ []) = part_count m r (ls ++ new ∷ []) dv D p P in let b : length (ls ++ new ∷ []) ≡ length ls + 1 = length-append ls (new ∷ []) in
+    let c : length p.leaves - 1 ≡ length ls = omega arith in
+    let (some, all) = subst (λ i. IsOnlyNode (take i p.node_of) (Some k)) (sym c) (subst (λ ns. IsOnlyNode (take (length ls) ns) (Some k)) (sym P.node_of) (subst (λ (v : Division). IsOnlyNode (take (length ls) v.node_of) (Some k)) (sym D.exact) one)) in
+    let (j, low, apart) = only some in
+    apart (all j low ∙ sym (all 0 some))
+
+pub root_way : {Key Recon Cond : Type 0} (m : Meaning Key Recon Cond) (t : Table) (d : Descending Recon) (root : ℕ) → d.stand ≡ Root root → (dv : Division) → IsDivided m d.recon (rests_of (leaves_on (tuples_at t root) ++ carried d ∷ [])) dv →
+    (p : Parts) → ArePartsOf (rows_of (leaves_on (tuples_at t root) ++ carried d ∷ [])) dv p → (way : Divided) → IsWay p way → IsWayFor (root_bytes m t d) (root_in_one m t d) way
+root_way m t d root st dv D p P With a = root_cause m t d root st dv D p P With a
+root_way m t d root st dv D p P (Without true) w = (root_cause m t d root st dv D p P (Without true) w, (λ is. root_rise m t d root st dv D p P (Without true) w, λ one. refl))
+root_way m t d root st dv D p P (Without false) (a, (node, only, e)) = (
+  root_cause m t d root st dv D p P (Without false) (a, (node, only, e)),
+  (
+    (λ is. absurd (let f : false ≡ true = is in cc)),
+    λ one. absurd (parts_apart m d.recon (leaves_on (tuples_at t root)) (carried d) dv D p P node only e
+        (subst (λ (s : Stand). AreInOne m d.recon (leaves_on (tuples_at t (tuple_place s).block)) (carried d)) st one)),
+  ),
+)
 
 pub chain_rise : {Key Recon Cond : Type 0} (m : Meaning Key Recon Cond) (t : Table) (d : Descending Recon) (x : Place) → d.stand ≡ At x → (dv : Division) → IsDivided m d.recon (rests_of (leaves_of (chain_members (tuples_at t x.block) x.offset) ++ carried d ∷ [])) dv →
     (p : Parts) → ArePartsOf (rows_of (leaves_of (chain_members (tuples_at t x.block) x.offset) ++ carried d ∷ [])) dv p → (plan : Plan) (way : Divided) → IsWayOf p plan way → RisesOnly (chain_in_one m t d) way

@@ -1,5 +1,5 @@
 -- The division of a chain, joined to the law: with the leaf of the insert and without it.
-use Rattle.std.proofs.Common.{◌≡◌, ℕ, suc, ◌+◌, ◌-◌, ◌≤◌, ◌<◌, ◌^◌, Bool, true, false, List, [], ◌∷◌, ◌++◌, ⊎_elim, Option, Some, None, is_none, is_some, get_or, slice_index, set, length, take, refl, sym, ap, ◌∙◌, subst, inl, inr, arith}
+use Rattle.std.proofs.Common.{◌≡◌, ℕ, suc, ◌+◌, ◌-◌, ◌≤◌, ◌<◌, ◌^◌, Bool, true, false, List, [], ◌∷◌, ◌++◌, ◌⊎◌, ⊎_elim, Option, Some, None, is_none, is_some, get_or, slice_index, set, length, take, refl, sym, ap, ◌∙◌, subst, inl, inr, arith}
 use mathlib.Core.Path.{fun_ext}
 use Rattle.std.proofs.Math.Seq.{take-length, get_or-append_right}
 use Rattle.std.proofs.lemmas.Bool.{cases_lt}
@@ -66,6 +66,7 @@ use Rattle.spg_split.proofs.Makes.{chain_makes, homes_next}
 use Rattle.spg_split.proofs.Housing.{IsHoused}
 use Rattle.spg_split.proofs.Deciding.{homes_housed, may_part, x_same, p_same, put_each}
 use Rattle.spg_split.proofs.BlocksTouched.{touched_few, away}
+use Rattle.spg_descend.specs.Answers.{LeadsNowhere}
 use Rattle.spg_split.specs.Shrinks.{leaf_number, Shrinks}
 use Rattle.spg_split.proofs.Chaining.{downlink_there, downlink_none, downlinks_length}
 use Rattle.spg_split.proofs.Plans.{from_lighter, length-leaves_in}
@@ -340,7 +341,7 @@ module _ {Key Recon Cond : Type 0} (m : Meaning Key Recon Cond) (codes : CodeLaw
         })
 
     shrinking : xs ≡ ls → (more : ℕ) → Leaves m S (sheets_of t2) t2.touched (split_cost d.stand more) 0 (moved (tuple_place d.stand) z) → Bounded more → (node : Option ℕ) → IsOnlyNode (take (length p2.leaves - 1) p2.node_of) node → 8160 < weight p2.leaves →
-        Shrinks m t t2 d (placed d (At z) d.parent)
+        Shrinks m t t2 d (placed d (At z) d.parent) × ((is_some node ≡ false) ⊎ LeadsNowhere m t2 (placed d (At z) d.parent))
     shrinking eq more X le node only big =
         let lc = standing.leaf_count m codes t d x p i H st pr A K long dv D p2 P in let c = standing.count_vs m codes t d x p i H st pr A K in
         let k : length p2.leaves - 1 ≡ length ls = omega arith in
@@ -365,15 +366,16 @@ module _ {Key Recon Cond : Type 0} (m : Meaning Key Recon Cond) (codes : CodeLaw
           way = subst (λ (y : Place). FitAt (class_of m) (spots (sheets_of t2)) (Some key) y d.recon) (moved_here x z x refl) (X.section.fits x d.recon (Some key) (standing.way m codes t d x p i H st pr A K key C));
         }
 
-    without : xs ≡ ls → (more : ℕ) → Bounded more → (node : Option ℕ) → IsOnlyNode (take (length p2.leaves - 1) p2.node_of) node → 8160 < weight p2.leaves → SplitsWithout m t t2 d (placed d (At z) d.parent) z more
-    without eq more le node only big = let X = leaves eq more le in record { leaves = X; inner = inner_now; link = link_now; shrinks = shrinking eq more X le node only big; carries = carries more X }
+    without : xs ≡ ls → (more : ℕ) → Bounded more → (node : Option ℕ) → IsOnlyNode (take (length p2.leaves - 1) p2.node_of) node → 8160 < weight p2.leaves → more ≡ 0 → SplitsWithout m t t2 d (placed d (At z) d.parent) z more
+    without eq more le node only big none = let X = leaves eq more le in record { leaves = X; inner = inner_now; link = link_now; shrinks = (shrinking eq more X le node only big).0; settles = inl none; carries = carries more X }
 
-    without_risen : xs ≡ ls → (more : ℕ) → Bounded more → (node : Option ℕ) → IsOnlyNode (take (length p2.leaves - 1) p2.node_of) node → 8160 < weight p2.leaves → SplitsWithout m t t2 d (risen (placed d (At z) d.parent)) z more
-    without_risen eq more le node only big = let X = leaves eq more le in record {
+    without_risen : xs ≡ ls → (more : ℕ) → Bounded more → (node : Option ℕ) → IsOnlyNode (take (length p2.leaves - 1) p2.node_of) node → 8160 < weight p2.leaves → is_some node ≡ true → SplitsWithout m t t2 d (risen (placed d (At z) d.parent)) z more
+    without_risen eq more le node only big found = let X = leaves eq more le in record {
       leaves = X;
       inner = inner_now;
       link = link_now;
-      shrinks = shrinking eq more X le node only big;
+      shrinks = (shrinking eq more X le node only big).0;
+      settles = ⊎_elim (λ e. absurd (let a : false ≡ true = sym e ∙ found in cc)) (λ z. inr z) (shrinking eq more X le node only big).1;
       carries = λ key C. let C2 = carries more X key C in record {
         of = record { start = C2.of.start; whole = C2.of.whole; gives = C2.of.gives };
         begins = λ e. cc;
@@ -465,7 +467,7 @@ module _ {Key Recon Cond : Type 0} (m : Meaning Key Recon Cond) (codes : CodeLaw
           let ro = rests_old in let cv = count_old in let lc = leaf_old in let o = standing.one_there m codes t d x p i H st pr A K long in
           let wl = ap length (put_old none) in let tl = length-take-le (length p2.leaves - 1) p2.leaves (omega arith) in
           let one = bound_one ls are (omega arith) wp nsp ep ex (omega arith) in
-          (subst (λ (y : Place). SplitsWithout m t t2 d (risen (placed d (At y) d.parent)) y 1) (sym W.at ∙ sym ez) (without_risen ls are (omega arith) wp nsp ep ex refl 1 (bounded ls are (omega arith) wp nsp ep ex 1 1 one (omega arith)) found only (big none)), ticked ls are (omega arith) wp nsp ep ex)
+          (subst (λ (y : Place). SplitsWithout m t t2 d (risen (placed d (At y) d.parent)) y 1) (sym W.at ∙ sym ez) (without_risen ls are (omega arith) wp nsp ep ex refl 1 (bounded ls are (omega arith) wp nsp ep ex 1 1 one (omega arith)) found only (big none) (sym e)), ticked ls are (omega arith) wp nsp ep ex)
       go false (Some k) only e = cc
       go false None only e =
           let (wp, nsp, ep, ex) = standing.above m codes t d x p i H st pr A K in
@@ -477,7 +479,7 @@ module _ {Key Recon Cond : Type 0} (m : Meaning Key Recon Cond) (codes : CodeLaw
           let fj : slice_index (take (length p2.leaves - 1) p2.node_of) j ≡ slice_index p2.node_of j = get_or-take (length p2.leaves - 1) p2.node_of j 0 (omega arith) in
           let f0 : slice_index (take (length p2.leaves - 1) p2.node_of) 0 ≡ slice_index p2.node_of 0 = get_or-take (length p2.leaves - 1) p2.node_of 0 0 (omega arith) in
           let two = bound_two ls are (omega arith) wp nsp ep ex j 0 (omega arith) (omega arith) (λ q. differ (fj ∙ q ∙ sym f0)) in
-          (subst (λ (y : Place). SplitsWithout m t t2 d (placed d (At y) d.parent) y 0) (sym W.at ∙ sym ez) (without ls are (omega arith) wp nsp ep ex refl 0 (bounded ls are (omega arith) wp nsp ep ex 2 0 two (omega arith)) None only (big none)), ticked ls are (omega arith) wp nsp ep ex)
+          (subst (λ (y : Place). SplitsWithout m t t2 d (placed d (At y) d.parent) y 0) (sym W.at ∙ sym ez) (without ls are (omega arith) wp nsp ep ex refl 0 (bounded ls are (omega arith) wp nsp ep ex 2 0 two (omega arith)) None only (big none) refl), ticked ls are (omega arith) wp nsp ep ex)
 
   -- the inner tuple that is made
   makes : MakesBelow t t2 d.parent done.at

@@ -1,5 +1,5 @@
 -- The division at a root, joined to the law: with the leaf of the insert and without it.
-use Rattle.std.proofs.Common.{◌≡◌, ℕ, suc, ◌+◌, ◌-◌, ◌≤◌, ◌<◌, Bool, true, false, List, [], ◌∷◌, ◌++◌, ⊎_elim, Option, Some, None, is_none, is_some, get_or, slice_index, set, length, length-set, take, refl, sym, ap, ◌∙◌, subst, inl, inr, arith}
+use Rattle.std.proofs.Common.{◌≡◌, ℕ, suc, ◌+◌, ◌-◌, ◌≤◌, ◌<◌, Bool, true, false, List, [], ◌∷◌, ◌++◌, ◌⊎◌, ⊎_elim, Option, Some, None, is_none, is_some, get_or, slice_index, set, length, length-set, take, refl, sym, ap, ◌∙◌, subst, inl, inr, arith}
 use mathlib.Core.Path.{fun_ext}
 use Rattle.std.specs.Prelude.{Result, Ok, Err, IfOk, nat_le}
 use Rattle.std.proofs.lemmas.Bool.{cases_lt, cond-true, cond-false, le-leb, lt-leb}
@@ -57,6 +57,7 @@ use Rattle.spg_chain.proofs.LiveLists.{leaves_in_live, length-all_live}
 use Rattle.spg_split.proofs.Taken.{taken_list, taken_node, taken_rest, goes_without}
 use Rattle.spg_split.proofs.Totals.{total, count_sum, total_all, lists_room, placed_spread, root_spread, but_first_one, but_first_two, taken_some}
 use Rattle.spg_chain.proofs.ListTotals.{but_first, count}
+use Rattle.spg_descend.specs.Answers.{LeadsNowhere}
 use Rattle.spg_split.specs.Shrinks.{leaf_number, Shrinks}
 use Rattle.spg_split.proofs.Chaining.{downlink_there, downlink_none, downlinks_length}
 use Rattle.spg_split.proofs.Makes.{root_makes}
@@ -345,7 +346,7 @@ module _ {Key Recon Cond : Type 0} (m : Meaning Key Recon Cond) (codes : CodeLaw
     number : leaf_number t d.stand ≡ length ls
     number = subst (λ (s : Stand). leaf_number t s ≡ length ls) (sym st) (ap (λ (y : Place). length (leaves_of (spots S y))) (low_spot (place root 1) low) ∙ ap (λ (s : Spot). length (leaves_of s)) (live_there m codes t d root H st A K).1)
 
-    shrinking : xs ≡ ls → (more : ℕ) → Leaves m S (sheets_of t2) t2.touched (split_cost d.stand more) 0 (λ x. x) → Bounded more → (node : Option ℕ) → IsOnlyNode (take (length p.leaves - 1) p.node_of) node → 8160 < weight p.leaves → Shrinks m t t2 d d
+    shrinking : xs ≡ ls → (more : ℕ) → Leaves m S (sheets_of t2) t2.touched (split_cost d.stand more) 0 (λ x. x) → Bounded more → (node : Option ℕ) → IsOnlyNode (take (length p.leaves - 1) p.node_of) node → 8160 < weight p.leaves → Shrinks m t t2 d d × ((is_some node ≡ false) ⊎ LeadsNowhere m t2 d)
     shrinking ex more X le node only big =
         let lc = leaf_count m codes t d root H st A K no_room dv D same p P in let c = count_vs m codes t d root H st A K in
         let k : length p.leaves - 1 ≡ length ls = omega arith in
@@ -363,14 +364,15 @@ module _ {Key Recon Cond : Type 0} (m : Meaning Key Recon Cond) (codes : CodeLaw
       way = subst (λ (s : Stand). WayFits m (sheets_of t2) s d.parent d.recon key) (sym st) (recon_is m codes t d root H st A K key C);
     }
 
-    parts_without : xs ≡ ls → (more : ℕ) → Bounded more → (node : Option ℕ) → IsOnlyNode (take (length p.leaves - 1) p.node_of) node → 8160 < weight p.leaves → PartsWithout m t t2 d d more
-    parts_without ex more le node only big = let X = leaves ex more le in record { leaves = X; inner = at_inner; shrinks = shrinking ex more X le node only big; carries = carries more X }
+    parts_without : xs ≡ ls → (more : ℕ) → Bounded more → (node : Option ℕ) → IsOnlyNode (take (length p.leaves - 1) p.node_of) node → 8160 < weight p.leaves → more ≡ 0 → PartsWithout m t t2 d d more
+    parts_without ex more le node only big none = let X = leaves ex more le in record { leaves = X; inner = at_inner; shrinks = (shrinking ex more X le node only big).0; settles = inl none; carries = carries more X }
 
-    parts_risen : xs ≡ ls → (more : ℕ) → Bounded more → (node : Option ℕ) → IsOnlyNode (take (length p.leaves - 1) p.node_of) node → 8160 < weight p.leaves → PartsWithout m t t2 d (risen d) more
-    parts_risen ex more le node only big = let X = leaves ex more le in record {
+    parts_risen : xs ≡ ls → (more : ℕ) → Bounded more → (node : Option ℕ) → IsOnlyNode (take (length p.leaves - 1) p.node_of) node → 8160 < weight p.leaves → is_some node ≡ true → PartsWithout m t t2 d (risen d) more
+    parts_risen ex more le node only big some = let X = leaves ex more le in record {
       leaves = X;
       inner = at_inner;
-      shrinks = shrinking ex more X le node only big;
+      shrinks = (shrinking ex more X le node only big).0;
+      settles = ⊎_elim (λ e. absurd (let a : false ≡ true = sym e ∙ some in cc)) (λ z. inr z) (shrinking ex more X le node only big).1;
       carries = λ key C. let C2 = carries more X key C in record {
         of = record { start = C2.of.start; whole = C2.of.whole; gives = C2.of.gives };
         begins = C2.begins;
@@ -407,7 +409,7 @@ module _ {Key Recon Cond : Type 0} (m : Meaning Key Recon Cond) (codes : CodeLaw
   without_law seat t2 W big true k only e =
       let c = count_old in let o = one_there m codes t d root H st A K no_room in let l = length_old in
       let one = bound_one seat t2 all_but_last ls few_old are_old (omega arith) W (omega arith) in
-      (calm seat t2 all_but_last ls few_old are_old (omega arith) W, makes seat t2 all_but_last W, parts_risen seat t2 all_but_last ls few_old are_old (omega arith) W refl 1 (bounded seat t2 all_but_last ls few_old are_old (omega arith) W 1 1 one (omega arith)) k only big)
+      (calm seat t2 all_but_last ls few_old are_old (omega arith) W, makes seat t2 all_but_last W, parts_risen seat t2 all_but_last ls few_old are_old (omega arith) W refl 1 (bounded seat t2 all_but_last ls few_old are_old (omega arith) W 1 1 one (omega arith)) k only big (sym e))
   without_law seat t2 W big false (Some k) only e = cc
   without_law seat t2 W big false None only e =
       let c = count_old in let o = one_there m codes t d root H st A K no_room in let l = length_old in
@@ -418,7 +420,7 @@ module _ {Key Recon Cond : Type 0} (m : Meaning Key Recon Cond) (codes : CodeLaw
       let fj = first_nodes (length p.leaves - 1) p.node_of j (omega arith) in
       let f0 = first_nodes (length p.leaves - 1) p.node_of 0 (omega arith) in
       let two = bound_two seat t2 all_but_last ls few_old are_old (omega arith) W j 0 (omega arith) (omega arith) (λ q. differ (fj ∙ q ∙ sym f0)) in
-      (calm seat t2 all_but_last ls few_old are_old (omega arith) W, makes seat t2 all_but_last W, parts_without seat t2 all_but_last ls few_old are_old (omega arith) W refl 0 (bounded seat t2 all_but_last ls few_old are_old (omega arith) W 2 0 two (omega arith)) None only big)
+      (calm seat t2 all_but_last ls few_old are_old (omega arith) W, makes seat t2 all_but_last W, parts_without seat t2 all_but_last ls few_old are_old (omega arith) W refl 0 (bounded seat t2 all_but_last ls few_old are_old (omega arith) W 2 0 two (omega arith)) None only big refl)
 
   -- whichever way it was done
   pub split_law : (seat : ℕ) (t2 : Table) (way : Divided) → IsWay p way → PutsLists t t2 root seat p (going p way) → IsSplitWay m t t2 d way

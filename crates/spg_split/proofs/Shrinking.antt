@@ -1,5 +1,6 @@
 -- Below a new inner tuple each list has fewer leaves than were divided, or the node of the leaf that was left out leads nowhere.
-use Rattle.std.proofs.Common.{◌≡◌, ℕ, zero, suc, ◌+◌, ◌≤◌, ◌<◌, List, [], ◌∷◌, ⊎_elim, Option, Some, None, length, take, slice_get, slice_index, nat_eq, refl, sym, ap, ◌∙◌, inl, inr, arith}
+use Rattle.std.specs.Prelude.{is_some}
+use Rattle.std.proofs.Common.{◌≡◌, ◌⊎◌, false, ℕ, zero, suc, ◌+◌, ◌≤◌, ◌<◌, List, [], ◌∷◌, ⊎_elim, Option, Some, None, length, take, slice_get, slice_index, nat_eq, refl, sym, ap, ◌∙◌, inl, inr, arith}
 use Rattle.std.proofs.lemmas.Bool.{cases_eq, cases_lt, cond-true, cond-false, eq-eqb, ne_eqb}
 use Rattle.std.proofs.lemmas.List.{get_or-take, length-take-le}
 use Rattle.spg_opclass.specs.Meaning.{Meaning}
@@ -95,6 +96,6 @@ module _ {Key Recon Cond : Type 0} (m : Meaning Key Recon Cond) (t t2 : Table) (
         ap (λ (w : Frame). w.all_same) T.frame ∙ g,
       )
 
-  pub shrinks : (node : Option ℕ) → 2 ≤ c → IsOnlyNode (take c dv.node_of) node → Shrinks m t t2 d d2
-  shrinks None two several = inl (to_fewer (omega arith) several)
-  shrinks (Some k) two only = inr (nowhere k two only)
+  pub shrinks : (node : Option ℕ) → 2 ≤ c → IsOnlyNode (take c dv.node_of) node → Shrinks m t t2 d d2 × ((is_some node ≡ false) ⊎ LeadsNowhere m t2 d2)
+  shrinks None two several = (inl (to_fewer (omega arith) several), inl refl)
+  shrinks (Some k) two only = let z = nowhere k two only in (inr z, inr z)

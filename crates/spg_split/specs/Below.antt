@@ -7,6 +7,7 @@ use Rattle.spg_forest.specs.Section.{Adds, Leaves}
 use Rattle.spg_tree.specs.Table.{Table, sheets_of}
 use Rattle.spg_tree.specs.Descents.{Descending, placed, risen}
 use Rattle.spg_tree.specs.declared.stand.Stand.TheVariants.{At}
+use Rattle.spg_descend.specs.Answers.{LeadsNowhere}
 use Rattle.spg_descend.specs.Carried.{IsCarried}
 use Rattle.spg_descend.specs.Follows.{IsAtInner, tuple_place}
 use Rattle.spg_descend.specs.Makes.{MakesOne, IsNextTo}
@@ -31,6 +32,8 @@ pub record SplitsWithout {Key Recon Cond : Type 0} (m : Meaning Key Recon Cond) 
   pub inner : IsAtInner t2 (At z)
   pub link : IsLedTo t2 d.parent z
   pub shrinks : Shrinks m t t2 d d2
+  -- where the spread rises the class answers a match with a node that leads nowhere
+  pub settles : (spread ≡ 0) ⊎ LeadsNowhere m t2 d2
   pub carries : (key : Option Key) → IsCarried m (sheets_of t) d key → IsCarried m (sheets_of t2) d2 key
 
 -- What comes of a division below a root. Where the leaf is left out, the spread rises by 1 at most, and only where that is noted

@@ -11,7 +11,9 @@ use Rattle.spg_split.specs.declared.split.SplitOut.{SplitOut}
 use Rattle.spg_split.specs.declared.split.SplitOut.TheVariants.{LeftOut}
 use Rattle.spg_split.specs.Splits.{IsAtRoot, IsSplitOut, PartsWithout}
 use Rattle.spg_split.specs.Below.{IsChainSplit, SplitsWithout}
-use Rattle.spg_split.specs.Causes.{IsCause, root_bytes, chain_bytes, root_in_one, chain_in_one}
+use Rattle.spg_split.specs.declared.put.Divided.{Divided}
+use Rattle.spg_split.specs.Causes.{IsCause, IsWayFor, root_bytes, chain_bytes, root_in_one, chain_in_one}
+use Rattle.spg_split.specs.Ways.{Notes}
 use Rattle.spg_split.specs.Fulls.{IsRootFull, IsChainFull}
 use Rattle.spg_split.specs.Tables.{RootTable, ChainTable}
 
@@ -39,6 +41,10 @@ IsLeafCause m t d out = ByCase d.stand (IsCause (root_bytes m t d) out) (IsCause
 -- where it leaves it out the spread does not rise, but where all other leaves are in one node
 abbrev pub RootRises : {Key Recon Cond : Type 0} → Meaning Key Recon Cond → Table → Table → Descending Recon → Descending Recon → SplitOut → Type 0
 RootRises m t t2 d d2 out = (out ≡ LeftOut → PartsWithout m t t2 d d2 0) ⊎ root_in_one m t d
+
+-- at a root the insert notes how its division was done: a rise exactly where its leaf is left out and all others are in one list
+abbrev pub NotesRoot : {Key Recon Cond : Type 0} → Meaning Key Recon Cond → Table → Descending Recon → Descending Recon → SplitOut → Type 0
+NotesRoot m t d d2 out = (way : Divided) × IsWayFor (root_bytes m t d) (root_in_one m t d) way × Notes d d2 way out
 
 abbrev pub ChainRises : {Key Recon Cond : Type 0} → Meaning Key Recon Cond → Table → Table → Descending Recon → Descending Recon → SplitOut → Type 0
 ChainRises m t t2 d d2 out = (out ≡ LeftOut → (z : Place) × SplitsWithout m t t2 d d2 z 0) ⊎ chain_in_one m t d

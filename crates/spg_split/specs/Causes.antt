@@ -1,5 +1,5 @@
 -- Why a division leaves the leaf of the insert out, and when it notes a rise.
-use Rattle.std.specs.Prelude.{ℕ, ◌≤◌, ◌<◌, true, false, List, [], ◌∷◌, ◌++◌, Option, Some, length, take}
+use Rattle.std.specs.Prelude.{◌≡◌, ◌↔◌, ℕ, ◌≤◌, ◌<◌, true, false, List, [], ◌∷◌, ◌++◌, Option, Some, length, take}
 use Rattle.spg_opclass.specs.Meaning.{Meaning}
 use Rattle.spg_forest.specs.View.{Leaf, Place}
 use Rattle.spg_forest.specs.Tuples.{Tuple}
@@ -70,3 +70,8 @@ abbrev pub RisesOnly : Type 0 → Divided → Type 0
 RisesOnly A With = Unit {0}
 RisesOnly A (Without false) = Unit {0}
 RisesOnly A (Without true) = A
+
+-- a division is done with the leaf of the insert where so many bytes fit on one page, and else without it; whether all others are in one list is told
+abbrev pub IsWayFor : ℕ → Type 0 → Divided → Type 0
+IsWayFor n A With = n ≤ 8160
+IsWayFor n A (Without in_one) = (8160 < n) × ((in_one ≡ true) ↔ A)

@@ -7,6 +7,7 @@ use Rattle.spg_tree.specs.Table.{Table, sheets_of, latch_at}
 use Rattle.spg_tree.specs.Descents.{Descending, risen}
 use Rattle.spg_tree.specs.declared.stand.Stand.{Stand}
 use Rattle.spg_tree.specs.declared.stand.Stand.TheVariants.{Start, Root, At, Empty}
+use Rattle.spg_descend.specs.Answers.{LeadsNowhere}
 use Rattle.spg_descend.specs.Carried.{IsCarried}
 use Rattle.spg_descend.specs.Follows.{IsAtInner, tuple_place}
 use Rattle.spg_descend.specs.Makes.{MakesOne}
@@ -44,6 +45,8 @@ pub record PartsWithout {Key Recon Cond : Type 0} (m : Meaning Key Recon Cond) (
   pub leaves : Leaves m (sheets_of t) (sheets_of t2) t2.touched (split_cost d.stand spread) 0 (λ x. x)
   pub inner : IsAtInner t2 d2.stand
   pub shrinks : Shrinks m t t2 d d2
+  -- where the spread rises the class answers a match with a node that leads nowhere
+  pub settles : (spread ≡ 0) ⊎ LeadsNowhere m t2 d2
   pub carries : (key : Option Key) → IsCarried m (sheets_of t) d key → IsCarried m (sheets_of t2) d2 key
 
 -- What comes of a division. The one inner tuple that it makes stands where the insert stood. Where the leaf is left out, the spread rises by 1 at most, and only where that is noted

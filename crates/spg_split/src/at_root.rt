@@ -14,7 +14,8 @@ ghost use Rattle.spg_split.specs.Fulls.{IsRootFull};
 ghost use Rattle.spg_split.specs.Ways.{IsSplitWay, Notes};
 ghost use Rattle.spg_split.specs.Tables.{RootTable};
 ghost use Rattle.spg_split.specs.Parting.{IsPartedAt};
-ghost use Rattle.spg_split.specs.Causes.{IsCause, IsCauseOf, RisesOnly, root_bytes, root_in_one};
+ghost use Rattle.spg_split.specs.Causes.{IsCause, IsCauseOf, IsWayFor, RisesOnly, root_bytes, root_in_one};
+ghost use Rattle.spg_split.specs.Cases.{NotesRoot};
 
 use crate::division::divide;
 use crate::parts::Parts;
@@ -46,6 +47,7 @@ fn divide_leaves<O: OpClass>(
     ensures table { OnOk result (RootTable O.meaning table.old table.new descent.now seat) }
     ensures exact { OnOk result (IsExact (sheets_of table.old) (sheets_of table.new) table.new.touched) }
     ensures cause { IfOk result (λ way. IsCauseOf (root_bytes O.meaning table.old descent.now) way) }
+    ensures way { IfOk result (λ way. IsWayFor (root_bytes O.meaning table.old descent.now) (root_in_one O.meaning table.old descent.now) way) }
     ensures rise { IfOk result (λ way. RisesOnly (root_in_one O.meaning table.old descent.now) way) }
     ensures full { IsErrOf result IndexFull → IsRootFull O.meaning table.old descent.now seat }
     ensures not_full { OnOk result (IsRootFull O.meaning table.old descent.now seat → ⊥) }
@@ -93,6 +95,7 @@ pub(crate) fn divide_root<O: OpClass>(
     ensures table { OnOk result (RootTable O.meaning table.old table.new descent.old seat) }
     ensures exact { OnOk result (IsExact (sheets_of table.old) (sheets_of table.new) table.new.touched) }
     ensures cause { IfOk result (λ out. IsCause (root_bytes O.meaning table.old descent.old) out) }
+    ensures noted { IfOk result (λ out. NotesRoot O.meaning table.old descent.old descent.new out) }
     ensures rise { IfOk result (λ out. (out ≡ SplitOut.LeftOut → PartsWithout O.meaning table.old table.new descent.old descent.new 0) ⊎ root_in_one O.meaning table.old descent.old) }
     ensures full { IsErrOf result IndexFull → IsRootFull O.meaning table.old descent.old seat }
     ensures not_full { OnOk result (IsRootFull O.meaning table.old descent.old seat → ⊥) }

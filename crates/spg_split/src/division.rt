@@ -2,7 +2,7 @@ ghost use Rattle.std.specs.Prelude.{◌≡◌, ◌<◌, ◌≤◌, ℕ, [], leng
 ghost use Rattle.std.specs.Int.RustNames.{FitsSigned};
 ghost use Rattle.std.specs.Int.{w16};
 ghost use Rattle.spg_opclass.specs.Meaning.{eightfold};
-ghost use Rattle.spg_split.specs.Dividing.{IsDivided, nulls_divided};
+ghost use Rattle.spg_split.specs.Dividing.{IsDivided, GiveKeys, nulls_divided};
 ghost use Rattle.spg_split.specs.Nodes.{turns, IsOnlyNode};
 ghost use Rattle.spg_split.specs.Parting.{DividesBunch};
 
@@ -13,10 +13,10 @@ use std::alloc::Global;
 /// How values are divided: what the class sees of the new inner tuple, and for each value its node and
 /// its new rest.
 #[derive(Drop)]
-pub(crate) struct Division {
-    pub(crate) frame: InnerView,
-    pub(crate) node_of: List<u16>,
-    pub(crate) rests: List<Bytes>,
+pub struct Division {
+    pub frame: InnerView,
+    pub node_of: List<u16>,
+    pub rests: List<Bytes>,
 }
 
 /// The node in which all are. None where they are in several, or where there are none.
@@ -132,6 +132,56 @@ fn divide_values<O: OpClass>(
                 rests: picked.rests,
             })
         }
+    }
+}
+
+/// Divides values, at least 2, as the class does: what `divide_values` gives, with no copy of the rests.
+fn divide_picked<O: OpClass>(
+    alloc: Global,
+    class: &O,
+    recon: &O::Recon,
+    rests: &[Bytes],
+) -> Result<Division, Memory>
+    requires several { 2 ≤ length rests.now }
+    requires keys { GiveKeys O.meaning (Just recon.now) rests.now }
+    ensures { IfOk result (λ division. IsDivided O.meaning (Just recon.now) rests.now division) }
+{
+    let divided = class.picksplit(alloc, recon, rests)?;
+    match only_node(divided.node_of.as_slice()) {
+        None => Ok(Division {
+            frame: InnerView {
+                all_same: false,
+                prefix: divided.prefix,
+                labels: divided.labels,
+            },
+            node_of: divided.node_of,
+            rests: divided.rests,
+        }),
+        Some(node) => {
+            let label = label_at(&divided.labels, node);
+            Ok(Division {
+                frame: all_the_same(alloc, divided.prefix, label)?,
+                node_of: nodes_in_turn(alloc, rests.len())?,
+                rests: divided.rests,
+            })
+        }
+    }
+}
+
+/// Divides values, at least 2, of a rebuilt value, or nulls, which have none.
+pub fn divide_rests<O: OpClass>(
+    alloc: Global,
+    class: &O,
+    recon: Option<&O::Recon>,
+    rests: &[Bytes],
+) -> Result<Division, Memory>
+    requires several { 2 ≤ length rests.now }
+    requires keys { GiveKeys O.meaning (option_copied recon) rests.now }
+    ensures { IfOk result (λ division. IsDivided O.meaning (option_copied recon.entry) rests.now division) }
+{
+    match recon {
+        None => divide_nulls(alloc, rests.len()),
+        Some(recon) => divide_picked(alloc, class, recon, rests),
     }
 }
 

@@ -18,4 +18,6 @@ mod split;
 mod write;
 
 pub use bunch::bunch_at;
+pub use division::{Division, divide_rests};
+pub use parts::inner_tuple;
 pub use split::{SplitOut, split_leaf};

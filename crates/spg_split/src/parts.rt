@@ -39,7 +39,7 @@ fn leaf_tuples(alloc: Global, rows: &[Row], rests: &[Bytes]) -> Result<List<Tupl
 }
 
 /// The inner tuple, with downlinks that lead nowhere.
-fn inner_tuple(alloc: Global, frame: InnerView) -> Result<TupleBytes, Memory>
+pub fn inner_tuple(alloc: Global, frame: InnerView) -> Result<TupleBytes, Memory>
     requires some { 0 < length frame.labels }
     requires small { inner_size frame ≤ 8156 }
     ensures { IfOk result (λ inner. inner ≡ Inner frame (bare (length frame.labels))) }

@@ -10,7 +10,7 @@ ghost use Rattle.spg_descend.specs.Puts.{Fits};
 ghost use Rattle.spg_descend.specs.Rules.{MayMove};
 ghost use Rattle.spg_descend.specs.Below.{IsTicked};
 ghost use Rattle.spg_split.specs.Splits.{IsAtRoot};
-ghost use Rattle.spg_split.specs.Cases.{IsSplitSpot, IsLeafSplit, LeafTable, IsLeafCause, RisesAtMost, IsLeafFull};
+ghost use Rattle.spg_split.specs.Cases.{IsSplitSpot, IsLeafSplit, LeafTable, IsLeafCause, RisesAtMost, NotesRoot, IsLeafFull};
 ghost use Rattle.spg_split.specs.Parting.{IsPartedAt};
 
 use crate::at_root::divide_root;
@@ -45,8 +45,8 @@ pub enum SplitOut {
 ///
 /// `LeftOut` comes exactly where the lists that must go elsewhere do not fit with the leaf on one page;
 /// then it is in none of them, and the insert stands at the new inner tuple, whose block is among those
-/// touched and below a root is that of the tuple above or was latched by no other seat. The spread rises
-/// then only where all leaves but the new one are in one node. `ClockFull` comes never at a root, and
+/// touched and below a root is that of the tuple above or was latched by no other seat. A rise is noted
+/// then exactly where all leaves but the new one are in one node. `ClockFull` comes never at a root, and
 /// below one exactly where the clock is 2^48 - 1, before a page is picked. `IndexFull` comes exactly
 /// where the pick of a page for the lists, or below a root for the inner tuple or for the lists that go,
 /// needs a new page and there may be none, unless memory is short before. After a refusal table and
@@ -75,6 +75,7 @@ pub fn split_leaf<O: OpClass>(
     ensures table { IfOk result (λ out. LeafTable O.meaning table.old table.new descent.old descent.new seat out) }
     ensures exact { OnOk result (IsExact (sheets_of table.old) (sheets_of table.new) table.new.touched) }
     ensures cause { IfOk result (λ out. IsLeafCause O.meaning table.old descent.old out) }
+    ensures noted { IfOk result (λ out. IsAtRoot descent.old.stand → NotesRoot O.meaning table.old descent.old descent.new out) }
     ensures rise { IfOk result (λ out. RisesAtMost O.meaning table.old table.new descent.old descent.new out) }
     ensures ticked { OnOk result ((IsAtRoot descent.old.stand → ⊥) → IsTicked table.old table.new) }
     ensures full { IsErrOf result IndexFull → IsLeafFull O.meaning table.old descent.old seat }

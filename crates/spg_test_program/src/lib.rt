@@ -6,6 +6,8 @@ mod every_line;
 #[cfg(test)]
 mod faults;
 #[cfg(test)]
+mod images;
+#[cfg(test)]
 mod lanes;
 #[cfg(test)]
 mod loads;
@@ -19,5 +21,7 @@ mod rounds;
 mod rows;
 #[cfg(test)]
 mod scripts;
+#[cfg(test)]
+mod watching;
 #[cfg(test)]
 mod words;

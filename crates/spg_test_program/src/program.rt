@@ -78,17 +78,30 @@ pub(crate) fn ran_by<R: AllocGlobal + Threads + Wait + Sync, G: Gate>(
     fails: Fails,
     gate: &G,
 ) -> Result<Ended, Fail> {
+    let mut images = FaultyImages::new(rt.alloc(), one_call(rt, fails.image)?);
+    let (status, text) = ran_over(rt, words, script, fails, &mut images, gate)?;
+    Ok(Ended {
+        status,
+        text,
+        images,
+    })
+}
+
+/// Runs the program on a script over images that are there, and gives how it ended and what it wrote.
+pub(crate) fn ran_over<R: AllocGlobal + Threads + Wait + Sync, G: Gate>(
+    rt: &R,
+    words: &[&str],
+    script: &[u8],
+    fails: Fails,
+    images: &mut FaultyImages,
+    gate: &G,
+) -> Result<(Status, Vec<u8>), Fail> {
     let script = Bytes::copy(rt.alloc(), script)?;
     let mut source = FaultySource::new(script, MOST, one_call(rt, fails.read)?);
     let mut sink = FaultySink::new(rt.alloc(), one_call(rt, fails.write)?);
-    let mut images = FaultyImages::new(rt.alloc(), one_call(rt, fails.image)?);
     let words = owned(rt, words)?;
-    let (status, _state) = run(rt, &words, &mut source, &mut sink, &mut images, gate);
-    Ok(Ended {
-        status,
-        text: sink.taken().to_vec(rt.alloc())?,
-        images,
-    })
+    let (status, _state) = run(rt, &words, &mut source, &mut sink, images, gate);
+    Ok((status, sink.taken().to_vec(rt.alloc())?))
 }
 
 /// Lines with their ends.

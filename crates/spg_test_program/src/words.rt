@@ -3,7 +3,7 @@ use spg_app::Status;
 use std::test::Fail;
 
 /// Words that are no line of the program.
-const REFUSED: [&[&str]; 44] = [
+const REFUSED: [&[&str]; 51] = [
     &[],
     &["run", "--limit", "3"],
     &["run", "--limit", "05"],
@@ -46,8 +46,15 @@ const REFUSED: [&[&str]; 44] = [
     &["gen", "3000", "7", "--class=kd", "--class", "kd"],
     &["gen", "3000", "7", "--limit=5"],
     &["--lanes=2", "gen", "3000", "7"],
-    &["check", "town"],
-    &["run", "--from", "town"],
+    &["check", "town", "town"],
+    &["check", "--from", "town"],
+    &["check", "town", "--limit=5"],
+    &["run", "--from"],
+    &["run", "--from="],
+    &["run", "--from", ".town"],
+    &["run", "--from=a", "--from=b"],
+    &["run", "--from", "town", "town"],
+    &["gen", "3000", "7", "--from=town"],
 ];
 
 /// Words that are.

@@ -1,63 +1,118 @@
-use Rattle.std.proofs.Common.{◌≡◌, ◌∙◌, inl, inr, refl, sym, Option, Some, None}
+use Rattle.std.proofs.Common.{inl, inr, refl}
+use Rattle.spg_words.proofs.Lines.{exact}
 use Rattle.spg_app.proofs.Complete.{complete, refused}
-use Rattle.spg_app.proofs.LoadEnds.{run_is_no_load, complete_load}
+use Rattle.spg_app.proofs.Refused.{no_image, check_complete, check_refused}
+use Rattle.spg_app.proofs.LoadEnds.{complete_load}
+use Rattle.spg_app.proofs.Lines.{none_of, run_line, no_run_line, check_line, no_check_line, load_line, no_load_line, run_asked, check_asked}
 use Rattle.spg_app.proofs.program.run.Goals as goal
 
 -- ---- the words of a run
 
 pub returns-in-Some-clause-answer : goal.returns-in-Some-clause-answer
-returns-in-Some-clause-answer g c = inr (inl (c.in-Some.limit, c.limit_of.ensures.some _ c.in-Some.is, c.run_script.ensures))
+returns-in-Some-clause-answer g c = inl (inr (_, _, run_line _ _ _ c.run_of.ensures.value c.in-Some.is, c.run_script.ensures))
 
 pub returns-in-Some-clause-complete : goal.returns-in-Some-clause-complete
-returns-in-Some-clause-complete g c = λ limit words holds no_fault. complete _ _ _ c.run_script.result.0 c.run_script.result.1 c.run_script.ensures holds no_fault
+returns-in-Some-clause-complete g c = λ limit from words holds no_fault. complete limit from _ _ _ _ (run_asked _ _ limit _ from _ _ _ _ (run_line _ _ _ c.run_of.ensures.value c.in-Some.is) words c.run_script.ensures) holds no_fault
 
 pub returns-in-Some-clause-no_script : goal.returns-in-Some-clause-no_script
-returns-in-Some-clause-no_script g c = λ limit words n holds no_fault. refused _ _ _ c.run_script.result.0 c.run_script.result.1 c.run_script.ensures n holds no_fault
+returns-in-Some-clause-no_script g c = λ limit from words n holds no_fault. refused limit from _ _ _ _ (run_asked _ _ limit _ from _ _ _ _ (run_line _ _ _ c.run_of.ensures.value c.in-Some.is) words c.run_script.ensures) n holds no_fault
+
+pub returns-in-Some-clause-no_image : goal.returns-in-Some-clause-no_image
+returns-in-Some-clause-no_image g c = λ limit name words fault holds no_fault. no_image limit name _ _ _ _ (run_asked _ _ limit _ _ _ _ _ _ (run_line _ _ _ c.run_of.ensures.value c.in-Some.is) words c.run_script.ensures) fault holds no_fault
 
 pub returns-in-Some-clause-complete_load : goal.returns-in-Some-clause-complete_load
-returns-in-Some-clause-complete_load g c = λ load asked no_fault. absurd (cc (run_is_no_load _ _ (c.limit_of.ensures.some _ c.in-Some.is)))
+returns-in-Some-clause-complete_load g c = λ load asked no_fault. absurd (exact.no_run_and_load _ _ _ load (run_line _ _ _ c.run_of.ensures.value c.in-Some.is) asked)
+
+pub returns-in-Some-clause-complete_check : goal.returns-in-Some-clause-complete_check
+returns-in-Some-clause-complete_check g c = λ name asked holds no_fault. absurd (exact.no_run_and_check _ _ _ name (run_line _ _ _ c.run_of.ensures.value c.in-Some.is) asked)
+
+pub returns-in-Some-clause-refused_check : goal.returns-in-Some-clause-refused_check
+returns-in-Some-clause-refused_check g c = λ name asked fault holds no_fault. absurd (exact.no_run_and_check _ _ _ name (run_line _ _ _ c.run_of.ensures.value c.in-Some.is) asked)
+
+-- ---- the words of a check
+
+pub returns-in-Some-check_of-clause-answer : goal.returns-in-Some-check_of-clause-answer
+returns-in-Some-check_of-clause-answer g c = inr (inr record {
+  name = c.in-Some-check_of.name.now;
+  asked = check_line _ _ _ c.check_of.ensures c.in-Some-check_of.is;
+  none = refl;
+  unread = (refl, refl);
+  checked = c.check_image.ensures;
+})
+
+pub returns-in-Some-check_of-clause-complete : goal.returns-in-Some-check_of-clause-complete
+returns-in-Some-check_of-clause-complete g c = λ limit from words holds no_fault. absurd (exact.no_run_and_check _ limit from _ words (check_line _ _ _ c.check_of.ensures c.in-Some-check_of.is))
+
+pub returns-in-Some-check_of-clause-no_script : goal.returns-in-Some-check_of-clause-no_script
+returns-in-Some-check_of-clause-no_script g c = λ limit from words n holds no_fault. absurd (exact.no_run_and_check _ limit from _ words (check_line _ _ _ c.check_of.ensures c.in-Some-check_of.is))
+
+pub returns-in-Some-check_of-clause-no_image : goal.returns-in-Some-check_of-clause-no_image
+returns-in-Some-check_of-clause-no_image g c = λ limit name words fault holds no_fault. absurd (exact.no_run_and_check _ limit _ _ words (check_line _ _ _ c.check_of.ensures c.in-Some-check_of.is))
+
+pub returns-in-Some-check_of-clause-complete_load : goal.returns-in-Some-check_of-clause-complete_load
+returns-in-Some-check_of-clause-complete_load g c = λ load asked no_fault. absurd (exact.no_check_and_load _ _ load (check_line _ _ _ c.check_of.ensures c.in-Some-check_of.is) asked)
+
+pub returns-in-Some-check_of-clause-complete_check : goal.returns-in-Some-check_of-clause-complete_check
+returns-in-Some-check_of-clause-complete_check g c = λ name asked holds no_fault. check_complete name _ _ _ (check_asked _ _ name _ _ (check_line _ _ _ c.check_of.ensures c.in-Some-check_of.is) asked c.check_image.ensures) holds no_fault
+
+pub returns-in-Some-check_of-clause-refused_check : goal.returns-in-Some-check_of-clause-refused_check
+returns-in-Some-check_of-clause-refused_check g c = λ name asked fault holds no_fault. check_refused name _ _ _ (check_asked _ _ name _ _ (check_line _ _ _ c.check_of.ensures c.in-Some-check_of.is) asked c.check_image.ensures) fault holds no_fault
 
 -- ---- the words of a load
 
 pub returns-in-Some-load_of-clause-answer : goal.returns-in-Some-load_of-clause-answer
-returns-in-Some-load_of-clause-answer g c = inr (inr record {
+returns-in-Some-load_of-clause-answer g c = inr (inl record {
   load = c.in-Some-load_of.load;
-  asked = sym c.load_of.ensures.value ∙ c.in-Some-load_of.is;
+  asked = load_line _ _ _ c.load_of.ensures.value c.in-Some-load_of.is;
   unread = (refl, refl);
   run = c.run_generated.ensures;
 })
 
 pub returns-in-Some-load_of-clause-complete : goal.returns-in-Some-load_of-clause-complete
-returns-in-Some-load_of-clause-complete g c = λ limit words holds no_fault. absurd (cc (sym c.load_of.ensures.value ∙ c.in-Some-load_of.is, run_is_no_load _ _ words))
+returns-in-Some-load_of-clause-complete g c = λ limit from words holds no_fault. absurd (exact.no_run_and_load _ limit from _ words (load_line _ _ _ c.load_of.ensures.value c.in-Some-load_of.is))
 
 pub returns-in-Some-load_of-clause-no_script : goal.returns-in-Some-load_of-clause-no_script
-returns-in-Some-load_of-clause-no_script g c = λ limit words n holds no_fault. absurd (cc (sym c.load_of.ensures.value ∙ c.in-Some-load_of.is, run_is_no_load _ _ words))
+returns-in-Some-load_of-clause-no_script g c = λ limit from words n holds no_fault. absurd (exact.no_run_and_load _ limit from _ words (load_line _ _ _ c.load_of.ensures.value c.in-Some-load_of.is))
+
+pub returns-in-Some-load_of-clause-no_image : goal.returns-in-Some-load_of-clause-no_image
+returns-in-Some-load_of-clause-no_image g c = λ limit name words fault holds no_fault. absurd (exact.no_run_and_load _ limit _ _ words (load_line _ _ _ c.load_of.ensures.value c.in-Some-load_of.is))
 
 pub returns-in-Some-load_of-clause-complete_load : goal.returns-in-Some-load_of-clause-complete_load
 returns-in-Some-load_of-clause-complete_load g c = λ load asked no_fault. complete_load _ _ _ c.run_generated.result.0 c.run_generated.result.1 c.run_generated.ensures no_fault
 
+pub returns-in-Some-load_of-clause-complete_check : goal.returns-in-Some-load_of-clause-complete_check
+returns-in-Some-load_of-clause-complete_check g c = λ name asked holds no_fault. absurd (exact.no_check_and_load _ name _ asked (load_line _ _ _ c.load_of.ensures.value c.in-Some-load_of.is))
+
+pub returns-in-Some-load_of-clause-refused_check : goal.returns-in-Some-load_of-clause-refused_check
+returns-in-Some-load_of-clause-refused_check g c = λ name asked fault holds no_fault. absurd (exact.no_check_and_load _ name _ asked (load_line _ _ _ c.load_of.ensures.value c.in-Some-load_of.is))
+
 -- ---- other words
 
--- what is no value is None
-none_of : {A : Type 0} (o : Option A) → ((x : A) → o ≡ Some x → ⊥) → o ≡ None
-none_of None not_some = refl
-none_of (Some x) not_some = absurd (not_some x refl)
-
 pub returns-in-None-clause-answer : goal.returns-in-None-clause-answer
-returns-in-None-clause-answer g c = inl record {
+returns-in-None-clause-answer g c = inl (inl record {
   status_is = refl;
   none = refl;
-  no_line = c.limit_of.ensures.none (none_of c.limit_of.result c.in_default.not-Some);
-  no_load = sym c.load_of.ensures.value ∙ c.in-None.is;
+  no_run = no_run_line _ _ c.run_of.ensures.value (none_of c.run_of.result c.in_default.not-Some);
+  no_check = no_check_line _ _ c.check_of.ensures (none_of c.check_of.result c.in_default-check_of.not-Some);
+  no_load = no_load_line _ _ c.load_of.ensures.value c.in-None.is;
   unread = (refl, refl);
   left_alone = record { sink = refl; images = refl };
-}
+})
 
 pub returns-in-None-clause-complete : goal.returns-in-None-clause-complete
-returns-in-None-clause-complete g c = λ limit words holds no_fault. absurd (c.limit_of.ensures.none (none_of c.limit_of.result c.in_default.not-Some) limit words)
+returns-in-None-clause-complete g c = λ limit from words holds no_fault. absurd (no_run_line _ _ c.run_of.ensures.value (none_of c.run_of.result c.in_default.not-Some) limit from words)
 
 pub returns-in-None-clause-no_script : goal.returns-in-None-clause-no_script
-returns-in-None-clause-no_script g c = λ limit words n holds no_fault. absurd (c.limit_of.ensures.none (none_of c.limit_of.result c.in_default.not-Some) limit words)
+returns-in-None-clause-no_script g c = λ limit from words n holds no_fault. absurd (no_run_line _ _ c.run_of.ensures.value (none_of c.run_of.result c.in_default.not-Some) limit from words)
+
+pub returns-in-None-clause-no_image : goal.returns-in-None-clause-no_image
+returns-in-None-clause-no_image g c = λ limit name words fault holds no_fault. absurd (no_run_line _ _ c.run_of.ensures.value (none_of c.run_of.result c.in_default.not-Some) limit _ words)
 
 pub returns-in-None-clause-complete_load : goal.returns-in-None-clause-complete_load
-returns-in-None-clause-complete_load g c = λ load asked no_fault. absurd (cc (sym c.load_of.ensures.value ∙ c.in-None.is, asked))
+returns-in-None-clause-complete_load g c = λ load asked no_fault. absurd (no_load_line _ _ c.load_of.ensures.value c.in-None.is load asked)
+
+pub returns-in-None-clause-complete_check : goal.returns-in-None-clause-complete_check
+returns-in-None-clause-complete_check g c = λ name asked holds no_fault. absurd (no_check_line _ _ c.check_of.ensures (none_of c.check_of.result c.in_default-check_of.not-Some) name asked)
+
+pub returns-in-None-clause-refused_check : goal.returns-in-None-clause-refused_check
+returns-in-None-clause-refused_check g c = λ name asked fault holds no_fault. absurd (no_check_line _ _ c.check_of.ensures (none_of c.check_of.result c.in_default-check_of.not-Some) name asked)

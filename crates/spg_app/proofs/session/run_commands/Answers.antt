@@ -1,18 +1,34 @@
-use Rattle.std.proofs.Common.{[], ap, ◌∙◌}
+use Rattle.std.proofs.Common.{refl, sym, ap, ◌∙◌, subst}
 use Rattle.spg_histories.specs.Ending.{status_after}
+use Rattle.spg_words.specs.Reading.{word_in}
+use Rattle.spg_app.specs.Beginning.{outside, IsLeft}
 use Rattle.spg_app.specs.Ending.{writing_of}
-use Rattle.spg_app.proofs.Outcomes.{wrote_as, cause_of, text_same, of_origin}
+use Rattle.spg_app.proofs.Begins.{left_read, memory_unbegun, unbegun_as}
+use Rattle.spg_app.proofs.Earlier.{from_earlier}
+use Rattle.spg_app.proofs.Outcomes.{wrote_as, cause_of, fits_as, text_same}
 use Rattle.spg_app.proofs.session.run_commands.Goals as goal
 
--- src/session.rt:87:1
+pub returns-in-Err : goal.returns-in-Err
+returns-in-Err g c = (unbegun_as _ _ _ _ _ _ c.in-Err.refused _ c.status_of.ensures c.in-Err.ensures.refused, record { sink = refl; images = c.in-Err.ensures.left })
+
+pub returns : goal.returns
+returns g c =
+    let left = subst (λ i. IsLeft (word_in c.args.line.from) (outside (g.M.Images.held c.args.images.now) (g.M.Images.faults c.args.images.now)) (outside (g.M.Images.held i) (g.M.Images.faults i))) (sym c.in-Err-perform.ensures.err.1) c.in-Ok.ensures.left in
+    (memory_unbegun _ _ _ _ _ _, record { sink = refl; images = left })
+
 pub returns-in-Ok-perform : goal.returns-in-Ok-perform
 returns-in-Ok-perform g c =
-    let done = c.in-Ok-perform.ensures.ok [] c.in-Ok.ensures.journal in
+    let begun = c.in-Ok.ensures.state in
+    let done = c.in-Ok-perform.ensures.ok begun.loaded begun.journal in
     record {
+      loaded = begun.loaded;
+      origin = c.in-Ok.state.origin;
+      begun = begun.begins;
       records = c.in-Ok-perform.records;
-      session = of_origin g.O.Spoken.speech _ _ _ _ _ _ _ _ _ c.in-Ok.ensures.origin done;
+      session = from_earlier _ _ g.O.Spoken.speech _ begun.loaded _ _ _ _ _ _ _ (left_read _ _ _ c.in-Ok.ensures.left) done;
       writing = writing_of c.write_text-written.result;
       wrote = wrote_as c.write_text-written.result _ _ _ _ (text_same g.O.Spoken.speech _ _ _ _ (c.as_slice-events.ensures ∙ c.journal.ensures.events) c.as_slice.ensures) c.write_text-written.ensures.ok c.write_text-written.ensures.err;
+      fits = fits_as c.write_text-written.result _ _ _ _ (c.as_slice-events.ensures ∙ c.journal.ensures.events) c.as_slice.ensures c.write_text-written.ensures.fits;
       cause = cause_of c.write_text-written.result _ _ c.write_text-written.ensures.cause;
       status_is = c.status_after.ensures ∙ ap (λ rs. status_after (writing_of c.write_text-written.result) rs) c.as_slice-in-Ok-perform.ensures;
     }

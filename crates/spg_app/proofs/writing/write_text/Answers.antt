@@ -3,7 +3,7 @@ use Rattle.std.proofs.lemmas.Result.{on_err_weaker}
 use Rattle.std.specs.Io.KnownBytes.{Appends}
 use Rattle.spg_app.specs.Io.{WroteSome}
 use Rattle.spg_report.specs.Text.{text, result_lines, journal_text, event_lines}
-use Rattle.spg_app.proofs.Streams.{Wrote-none, WroteSome-more, OnErr-always, wrote_results, line_fails, events_fail, put_on_clear, ended-append}
+use Rattle.spg_app.proofs.Streams.{Wrote-none, WroteSome-more, OnErr-always, wrote_results, line_fails, events_fail, put_on_clear, ended-append, run_fits}
 use Rattle.spg_app.proofs.writing.write_text.Goals as goal
 
 pub returns-in_err-write_results-clause-err : goal.returns-in_err-write_results-clause-err
@@ -27,3 +27,6 @@ returns-clause-err g c =
     let line = put_on_clear _ _ _ c.clear.ensures c.in_ok-push_journal.ensures in
     let wrote = subst (λ l. Appends (g.K.Sink.contents c.write_results.new.sink) (g.K.Sink.contents c.write_line.new.sink) (l ++ 10 ∷ [])) line c.in_ok-write_line.ensures.ok in
     on_err_weaker c.write_events.result (λ some. events_fail g.O.Spoken.speech c.args.journal.now c.args.records.now _ _ _ _ c.in_ok-write_results.ensures.ok wrote some) c.write_events.ensures.err
+
+pub returns-clause-fits : goal.returns-clause-fits
+returns-clause-fits g c = run_fits c.write_events.result c.args.journal.now c.args.records.now c.write_events.ensures.short c.write_events.ensures.fits c.in_ok-write_results.ensures.few c.in_ok-write_results.ensures.fits

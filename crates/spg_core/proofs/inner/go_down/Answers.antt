@@ -13,11 +13,12 @@ use Rattle.spg_core.specs.Telling.{turned}
 use Rattle.spg_core.proofs.Stands.{child_stands, here_there, same_trans}
 use Rattle.spg_core.proofs.Moves.{down_out, back_out, follows_same, turned_same, turned_latch, same_makes, same_within}
 use Rattle.spg_core.proofs.Ends.{down_ends}
+use Rattle.spg_core.proofs.Finds.{named_finds}
 use Rattle.spg_core.proofs.inner.go_down.Goals as goal
 use Rattle.spg_core.proofs.inner.go_down.Goals.{then-by_turn, else-by_turn}
 
-pub returns-in-In : goal.returns-in-In
-returns-in-In g c =
+pub returns-in-In-clause-does : goal.returns-in-In-clause-does
+returns-in-In-clause-does g c =
     let t = c.args.table.now in
     let d = c.args.descent.now in
     let m = g.O.OpClass.meaning in
@@ -49,8 +50,8 @@ returns-in-In g c =
       makes = same_makes t t2 same;
     }
 
-pub returns-in-Busy : goal.returns-in-Busy
-returns-in-Busy g c =
+pub returns-in-Busy-clause-does : goal.returns-in-Busy-clause-does
+returns-in-Busy-clause-does g c =
     let t = c.args.table.now in
     let d = c.args.descent.now in
     let m = g.O.OpClass.meaning in
@@ -78,3 +79,9 @@ returns-in-Busy g c =
       ends = λ n h. tt;
       makes = same_makes t t2 same;
     }
+
+pub returns-in-In-clause-found : goal.returns-in-In-clause-found
+returns-in-In-clause-found g c = named_finds g.O.OpClass.meaning c.args.table.now c.args.descent.now c.args.seat c.args.node c.args.rest c.args.by_turn c.requires.inner c.requires.chosen.3
+
+pub returns-in-Busy-clause-found : goal.returns-in-Busy-clause-found
+returns-in-Busy-clause-found g c = named_finds g.O.OpClass.meaning c.args.table.now c.args.descent.now c.args.seat c.args.node c.args.rest c.args.by_turn c.requires.inner c.requires.chosen.3

@@ -7,6 +7,7 @@ use Rattle.spg_tree.specs.Pick.{IsFull}
 use Rattle.spg_core.proofs.Inners.{inner_root}
 use Rattle.spg_core.proofs.Limits.{full_near}
 use Rattle.spg_core.proofs.Ticks.{add_ticks}
+use Rattle.spg_core.proofs.Finds.{add_finds}
 use Rattle.spg_core.proofs.Refusals.{not_err, done_so}
 use Rattle.spg_tree.specs.declared.stand.StepRefused.TheVariants.{ClockFull, Memory}
 use Rattle.spg_core.proofs.inner.widen.Goals as goal
@@ -44,6 +45,7 @@ returns-in_err-add_node-clause-refused g c =
           let big = add_ticks g.O.OpClass.meaning t d c.args.at c.args.label c.requires.inner c.requires.answer ticks in
           let first = c.in_err-add_node.ensures.clock_first (subst (λ (label : ℤ). FitsWider t d c.args.at label → ⊥) (sym same) big) last in
           ⊎_elim (λ a. inl (search rules)) (λ a. inr (search rules)) first;
+      not_full = search rules;
       err = search rules;
       err_descent = search rules;
     }
@@ -55,3 +57,9 @@ returns-clause-refused g c = done_so _ _ _ _ _ _ _ (λ ticks last.
     let big = add_ticks g.O.OpClass.meaning t d c.args.at c.args.label c.requires.inner c.requires.answer ticks in
     let first = c.in_ok-add_node.ensures.clock_first (subst (λ (label : ℤ). FitsWider t d c.args.at label → ⊥) (sym (to_z-of_z w16 c.args.label c.ranges.label)) big) last in
     ⊎_elim (not_err c.in_ok-add_node.field-0 ClockFull) (not_err c.in_ok-add_node.field-0 Memory) first)
+    (
+    let t = c.args.table.now in
+    let d = c.args.descent.now in
+    let found = subst (λ (label : ℤ). (FitsWider t d c.args.at label → ⊥) → IsFull t (wider_want t d c.args.at label c.args.seat) → ⊥) (to_z-of_z w16 c.args.label c.ranges.label) c.in_ok-add_node.ensures.not_full in
+    add_finds g.O.OpClass.meaning t d c.args.seat c.args.at c.args.label c.requires.inner c.requires.answer found
+    )

@@ -10,10 +10,11 @@ use Rattle.spg_core.specs.Stepping.{SamePages}
 use Rattle.spg_core.proofs.Stands.{root_range}
 use Rattle.spg_core.proofs.Moves.{goes_same, goes_root, same_makes, same_within}
 use Rattle.spg_core.proofs.Ends.{enters_ends}
+use Rattle.spg_core.proofs.Finds.{start_finds}
 use Rattle.spg_core.proofs.insert.begin.Goals as goal
 
-pub returns-in-In : goal.returns-in-In
-returns-in-In g c =
+pub returns-in-In-clause-does : goal.returns-in-In-clause-does
+returns-in-In-clause-does g c =
     let t = c.args.table.now in
     let d = c.args.descent.now in
     let m = g.O.OpClass.meaning in
@@ -32,8 +33,8 @@ returns-in-In g c =
       makes = same_makes t t2 same;
     }
 
-pub returns-in-Busy : goal.returns-in-Busy
-returns-in-Busy g c =
+pub returns-in-Busy-clause-does : goal.returns-in-Busy-clause-does
+returns-in-Busy-clause-does g c =
     let t = c.args.table.now in
     let d = c.args.descent.now in
     let m = g.O.OpClass.meaning in
@@ -52,3 +53,9 @@ returns-in-Busy g c =
       ends = λ n h. tt;
       makes = same_makes t t2 same;
     }
+
+pub returns-in-In-clause-found : goal.returns-in-In-clause-found
+returns-in-In-clause-found g c = start_finds g.O.OpClass.meaning c.args.table.now c.args.descent.now c.args.seat c.requires.start
+
+pub returns-in-Busy-clause-found : goal.returns-in-Busy-clause-found
+returns-in-Busy-clause-found g c = start_finds g.O.OpClass.meaning c.args.table.now c.args.descent.now c.args.seat c.requires.start

@@ -1,6 +1,10 @@
 use Rattle.std.proofs.Common.{rules, inl, inr, refl}
 use Rattle.spg_core.proofs.Moves.{at_chain, not_empty, moves_below, below_root}
 use Rattle.spg_core.proofs.Limits.{full_near}
+use Rattle.spg_core.proofs.Finds.{move_finds}
+use Rattle.spg_core.proofs.Refusals.{not_err, done_so}
+use Rattle.spg_core.specs.declared.answer.InsertOut.TheVariants as outs
+use Rattle.spg_tree.specs.declared.stand.StepRefused.TheVariants.{ClockFull}
 use Rattle.spg_move.specs.Moves.{carried_want}
 use Rattle.spg_core.proofs.insert.move_away.Goals as goal
 
@@ -28,6 +32,11 @@ returns-in_err-move_chain-clause-refused g c =
       full_where = λ h. inr (inl (c.requires.rule, c.in_err-move_chain.ensures.full (search rules)));
       clock_where = λ h. inl c.requires.rule;
       clock_first = λ ticks last. inl (search rules);
+      not_full = search rules;
       err = search rules;
       err_descent = search rules;
     }
+
+pub returns-clause-refused : goal.returns-clause-refused
+returns-clause-refused g c = done_so _ _ _ _ _ _ outs.Put (λ ticks last. not_err _ ClockFull (c.in_ok-move_chain.ensures.clock_first last))
+    (move_finds g.O.OpClass.meaning c.args.table.now c.args.descent.now c.args.seat c.requires.rule c.in_ok-move_chain.ensures.not_full)

@@ -17,6 +17,8 @@ use Rattle.spg_core.specs.Stepping.{IsStepOut, MakesAtMostOne}
 use Rattle.spg_core.specs.Telling.{StepTells, StepDone}
 use Rattle.spg_core.specs.Sections.{FindsNoPageFor, TicksFor}
 use Rattle.spg_core.proofs.Slots.{refused_slot}
+use Rattle.spg_core.proofs.Refusals.{full_or_short}
+use Rattle.spg_core.specs.Refusing.{FindsNoPage}
 use Rattle.spg_core.proofs.operations.step_slot.Given.{Over}
 use Rattle.spg_core.proofs.operations.step_slot.Goals as goal
 use Rattle.spg_core.proofs.operations.step_slot.Goals.{In-Insert}
@@ -62,6 +64,16 @@ returns-clause-full_where g c = λ h.
 pub returns-clause-clock_first : goal.returns-clause-clock_first
 returns-clause-clock_first g c = λ ticks last.
     c.step.ensures.refused.clock_first (subst (λ (x : Slot _ _ _ _). TicksFor g.O.OpClass.meaning c.args.table.now (stage_of x)) (seat_is g ((goal.at.returns-clause-clock_first g c).In-Insert)) ticks) last
+
+pub returns-clause-no_page : goal.returns-clause-no_page
+returns-clause-no_page g c = λ none apart.
+    let m = g.O.OpClass.meaning in
+    let t = c.args.table.now in
+    let d = c.in-Insert.descent in
+    let is = seat_is g ((goal.at.returns-clause-no_page g c).In-Insert) in
+    let refused = c.step.ensures.refused in
+    full_or_short c.step.result (FindsNoPage m t d c.args.seat) refused.not_full (subst (λ (x : Slot _ _ _ _). FindsNoPageFor m t c.args.seat (stage_of x)) is none)
+    (λ h. apart (subst (λ (x : Slot _ _ _ _). TicksFor m t (stage_of x)) (sym is) (refused.clock_where h)) (refused.clock h).1)
 
 pub returns-clause-err_slots : goal.returns-clause-err_slots
 returns-clause-err_slots g c =

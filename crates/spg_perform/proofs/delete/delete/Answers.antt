@@ -1,21 +1,11 @@
-use Rattle.std.proofs.Common.{length, Bool, ◌∙◌, subst}
-use Rattle.spg_core.specs.Sections.{KillsRow}
-use Rattle.spg_report.specs.declared.outcome.Outcome.TheVariants.{NotLive, Memory}
+use Rattle.std.proofs.Common.{length, ◌∙◌}
+use Rattle.spg_perform.specs.Outcomes.{delete_outcome}
 use Rattle.spg_perform.proofs.Acting.{Spans}
-use Rattle.spg_perform.proofs.Deleting.{not_live, no_memory}
+use Rattle.spg_perform.proofs.Commands.{deleted}
 use Rattle.spg_perform.proofs.delete.delete.Goals as goal
 
--- src/delete.rt:14:1
-pub returns-in-Ok-false : goal.returns-in-Ok-false
-returns-in-Ok-false g c =
-    let spans : Spans c.recorded-in-Ok-false.result NotLive (length c.args.state.now.journal) (length c.kill.new.self.journal) =
-    record { outcome_is = c.recorded-in-Ok-false.ensures.outcome; from_is = c.recorded-in-Ok-false.ensures.from ∙ c.position-from.ensures.count; to_is = c.recorded-in-Ok-false.ensures.to } in
-    λ alone. not_live g.O.OpClass.meaning g.O.Spoken.speech c.args.state.now c.kill.new.self c.args.seat alone c.args.row c.recorded-in-Ok-false.result c.position-from.ensures.right c.requires.free
-    (subst (λ (b : Bool). KillsRow c.args.state.now c.kill.new.self c.args.seat c.args.row b) c.in-Ok-false.field-0-test c.in-Ok-false.ensures.ok) spans
-
--- src/delete.rt:14:1
-pub returns-in-Err : goal.returns-in-Err
-returns-in-Err g c =
-    let spans : Spans c.recorded-in-Err.result Memory (length c.args.state.now.journal) (length c.kill.new.self.journal) =
-    record { outcome_is = c.recorded-in-Err.ensures.outcome; from_is = c.recorded-in-Err.ensures.from ∙ c.position-from.ensures.count; to_is = c.recorded-in-Err.ensures.to } in
-    λ alone. no_memory g.O.OpClass.meaning g.O.Spoken.speech c.args.state.now c.kill.new.self c.args.seat alone c.args.row c.recorded-in-Err.result c.in-Err.ensures.err c.requires.free spans
+pub returns : goal.returns
+returns g c =
+    let spans : Spans c.recorded.result (delete_outcome c.delete-deleted.result) (length c.args.state.now.journal) (length c.delete-deleted.new.state.journal) =
+    record { outcome_is = c.recorded.ensures.outcome ∙ c.delete_outcome.ensures; from_is = c.recorded.ensures.from ∙ c.position-from.ensures.count; to_is = c.recorded.ensures.to } in
+    λ alone. deleted g.O.OpClass.meaning g.O.Spoken.speech c.args.state.now c.delete-deleted.new.state c.args.seat alone c.none_open.ensures c.none_open-2.ensures c.recorded.ensures.right c.args.row c.recorded.result c.delete-deleted.result c.delete-deleted.ensures.ok c.delete-deleted.ensures.err spans

@@ -23,8 +23,8 @@ loop-k-preserved g c =
     let inside : k < length posts = omega (arith, c.loop-k-test.true) in
     let there : (d : _) → (get_or before k d).pass ≡ Some other =
     λ d. ap (λ (p : _). p.pass) (get_or_default before k d c.index-posts-k.result inside' ∙ sym (i.rest k c.index-posts-k.result (omega arith))) ∙ (sym c.take-in-loop-k.ensures.value ∙ c.in-Some-take.is) in
-    let over : (d : _) → Holds (IsOver m speech old k lane (get_or before k d).records.items) (desk_id c.args.desk.now) (Some other) =
-    λ d. subst (λ p. Holds (IsOver m speech old k lane (get_or before k d).records.items) (desk_id c.args.desk.now) p) (there d) (c.requires.over k d above inside') in
+    let over : (d : _) → Holds (IsOver m speech c.args.before.now.value.origin old k lane (get_or before k d).records.items) (desk_id c.args.desk.now) (Some other) =
+    λ d. subst (λ p. Holds (IsOver m speech c.args.before.now.value.origin old k lane (get_or before k d).records.items) (desk_id c.args.desk.now) p) (there d) (c.requires.over k d above inside') in
     record {
       own = c.join-first.ensures.own ∙ i.own;
       first = rw (length-set {A = Post _ _ _ _ g.O.OpClass})

@@ -17,7 +17,7 @@ returns-then-are_idle-clause-leads g c = λ number held faults.
 pub note_all-requires : goal.note_all-requires
 note_all-requires g c =
     let ran : RanBeside g.O.OpClass.meaning g.O.Spoken.speech c.args.state c.in-Ok.after c.args.lanes.now (groups_of c.in-Ok.posts.items) = (search rules) in
-    record { room = omega (arith, records_long g.O.OpClass.meaning g.O.Spoken.speech 0 true 0 c.args.state.journal c.in-Ok.after.journal c.args.lanes.now (groups_of c.in-Ok.posts.items) ran.done, c.requires.room) }
+    record { room = omega (arith, records_long g.O.OpClass.meaning g.O.Spoken.speech c.args.state.origin 0 true 0 c.args.state.journal c.in-Ok.after.journal c.args.lanes.now (groups_of c.in-Ok.posts.items) ran.done, c.requires.room) }
 
 pub returns-in-Ok-clause-leads : goal.returns-in-Ok-clause-leads
 returns-in-Ok-clause-leads g c = λ number held faults.
@@ -28,7 +28,7 @@ returns-in-Ok-clause-leads g c = λ number held faults.
 pub returns-in-Ok-clause-room : goal.returns-in-Ok-clause-room
 returns-in-Ok-clause-room g c =
     let ran : RanBeside g.O.OpClass.meaning g.O.Spoken.speech c.args.state c.in-Ok.after c.args.lanes.now (groups_of c.in-Ok.posts.items) = (search rules) in
-    omega (arith, records_long g.O.OpClass.meaning g.O.Spoken.speech 0 true 0 c.args.state.journal c.in-Ok.after.journal c.args.lanes.now (groups_of c.in-Ok.posts.items) ran.done, c.note_all.ensures.room)
+    omega (arith, records_long g.O.OpClass.meaning g.O.Spoken.speech c.args.state.origin 0 true 0 c.args.state.journal c.in-Ok.after.journal c.args.lanes.now (groups_of c.in-Ok.posts.items) ran.done, c.note_all.ensures.room)
 
 pub returns-in-Err-clause-leads : goal.returns-in-Err-clause-leads
 returns-in-Err-clause-leads g c = λ number held faults.

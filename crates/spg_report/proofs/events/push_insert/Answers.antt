@@ -3,5 +3,5 @@ use Rattle.std.proofs.lemmas.Result.{on_ok_weaker}
 use Rattle.std.proofs.lemmas.List.{append_assoc}
 use Rattle.spg_report.proofs.events.push_insert.Goals as goal
 
-pub returns : goal.returns
-returns g c = on_ok_weaker c.push_key.result (λ pushed. pushed ∙ rw (c.in_ok-push.ensures, c.in_ok-push_on_row.ensures) (simp append_assoc)) c.push_key.ensures
+pub returns-clause-text : goal.returns-clause-text
+returns-clause-text g c = on_ok_weaker c.push_key.result (λ pushed. pushed ∙ rw (c.in_ok-push.ensures, c.in_ok-push_on_row.ensures.text) (simp append_assoc)) c.push_key.ensures

@@ -10,14 +10,14 @@ use Rattle.spg_forest.specs.Sheets.{Sheet}
 use Rattle.spg_split.specs.Dividing.{AreAllLive, rows_of}
 use Rattle.spg_split.proofs.Joining.{if_ok_both, split_law}
 use Rattle.spg_split.specs.Parts.{IsWay, PutsLists, going}
-use Rattle.spg_split.specs.Causes.{IsCauseOf, RisesOnly, root_bytes, root_in_one}
+use Rattle.spg_split.specs.Causes.{IsCauseOf, IsWayFor, RisesOnly, root_bytes, root_in_one}
 use Rattle.spg_split.specs.Ways.{IsSplitWay}
 use Rattle.spg_split.specs.Tables.{RootTable}
 use Rattle.spg_split.specs.Fulls.{IsRootFull}
 use Rattle.spg_split.proofs.Tables.{root_table, root_not_full}
 use Rattle.spg_split.proofs.RootExact.{several_leaves, going_some, root_exact}
 use Rattle.spg_forest.specs.Exact.{IsExact}
-use Rattle.spg_split.proofs.Causes.{root_cause, root_rise}
+use Rattle.spg_split.proofs.Causes.{root_cause, root_rise, root_way}
 use Rattle.spg_split.proofs.Fulls.{root_full}
 use Rattle.spg_split.proofs.Held.{root_held}
 use Rattle.spg_tree.proofs.Outcomes.{on_ok_then, on_ok_both, if_ok_then}
@@ -115,6 +115,14 @@ returns-clause-cause g c =
     let P = parts_as c.as_slice.result.now (rows_of (leaves_on (tuples_at c.args.table.now c.args.root) ++ carried c.args.descent.now ∷ [])) c.in_ok-division.division c.in_ok-parts.parts (c.as_slice.ensures ∙ R) c.in_ok-parts.ensures in
     if_ok_then c.put_division.result (λ way. IsWay c.in_ok-parts.parts way) (λ way. IsCauseOf (root_bytes g.O.OpClass.meaning c.args.table.now c.args.descent.now) way)
     (λ way a. root_cause g.O.OpClass.meaning c.args.table.now c.args.descent.now c.args.root c.requires.stands c.in_ok-division.division D c.in_ok-parts.parts P way a) c.put_division.ensures.way
+
+pub returns-clause-way : goal.returns-clause-way
+returns-clause-way g c =
+    let R = rows_are c.args.table.now c.args.root c.args.descent.now c.page.result.now c.in_ok-rows.rows c.page.ensures c.in_ok-rows.ensures in
+    let D = division_is c.args.table.now c.args.descent.now (Root c.args.root) (option_copied c.args.parted) c.in_ok-rows.rows c.len.result c.requires.stands c.requires.parted R c.len.ensures g.O.OpClass.meaning c.in_ok-division.division c.in_ok-division.ensures in
+    let P = parts_as c.as_slice.result.now (rows_of (leaves_on (tuples_at c.args.table.now c.args.root) ++ carried c.args.descent.now ∷ [])) c.in_ok-division.division c.in_ok-parts.parts (c.as_slice.ensures ∙ R) c.in_ok-parts.ensures in
+    if_ok_then c.put_division.result (λ way. IsWay c.in_ok-parts.parts way) (λ way. IsWayFor (root_bytes g.O.OpClass.meaning c.args.table.now c.args.descent.now) (root_in_one g.O.OpClass.meaning c.args.table.now c.args.descent.now) way)
+    (λ way a. root_way g.O.OpClass.meaning c.args.table.now c.args.descent.now c.args.root c.requires.stands c.in_ok-division.division D c.in_ok-parts.parts P way a) c.put_division.ensures.way
 
 pub returns-clause-rise : goal.returns-clause-rise
 returns-clause-rise g c =

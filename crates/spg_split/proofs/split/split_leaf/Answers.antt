@@ -4,7 +4,7 @@ use Rattle.spg_split.specs.Splits.{IsAtRoot, IsSplitOut}
 use Rattle.spg_split.specs.Below.{IsChainSplit}
 use Rattle.spg_split.specs.Causes.{IsCause, root_bytes, chain_bytes}
 use Rattle.spg_split.specs.Tables.{RootTable, ChainTable}
-use Rattle.spg_split.specs.Cases.{IsLeafSplit, LeafTable, IsLeafCause, RootRises, ChainRises, RisesAtMost}
+use Rattle.spg_split.specs.Cases.{IsLeafSplit, LeafTable, IsLeafCause, RootRises, ChainRises, RisesAtMost, NotesRoot}
 use Rattle.spg_split.proofs.Cases.{root_case, ok_named}
 use Rattle.spg_split.proofs.split.split_leaf.Goals as goal
 
@@ -50,3 +50,11 @@ returns-in-Root-clause-rise g c =
     let low : IsAtRoot d.stand = search rules in
     if_ok_then c.divide_root.result (λ out. RootRises m t t2 d d2 out) (λ out. RisesAtMost m t t2 d d2 out)
     (λ out a. root_case d.stand (RootRises m t t2 d d2 out) (ChainRises m t t2 d d2 out) low a) c.divide_root.ensures.rise
+
+pub returns-in-Root-clause-noted : goal.returns-in-Root-clause-noted
+returns-in-Root-clause-noted g c =
+    let m = g.O.OpClass.meaning in
+    let t = c.args.table.now in
+    let d = c.args.descent.now in
+    let d2 = c.divide_root.new.descent in
+    if_ok_then c.divide_root.result (λ out. NotesRoot m t d d2 out) (λ out. IsAtRoot d.stand → NotesRoot m t d d2 out) (λ out a low. a) c.divide_root.ensures.noted

@@ -12,7 +12,7 @@ pub descent_at-descent-requires-clause-insert : goal.descent_at-descent-requires
 descent_at-descent-requires-clause-insert g c = is_insert c.self.inside c.args.self.now c.self.view_is c.args.seat c.deref.result.now c.deref.ensures.value c.requires.inserting
 
 pub is_spotted-requires : goal.is_spotted-requires
-is_spotted-requires g c = record { can = may_step g.O.OpClass.meaning g.O.OpClass.codes c.self.inside c.self.invariant c.args.seat c.descent_at-descent.result.now c.deref.result.now c.deref.ensures.value c.descent_at-descent.ensures }
+is_spotted-requires g c = record { can = may_step g.O.OpClass.meaning g.O.OpClass.codes c.self.inside c.self.invariant.0 c.args.seat c.descent_at-descent.result.now c.deref.result.now c.deref.ensures.value c.descent_at-descent.ensures }
 
 -- a look would not give the copy
 no_copy : (g : Over) (c : Then-not-branch g) → IsSpotted c.args.self.now c.args.seat c.args.chosen.now → ⊥
@@ -23,6 +23,9 @@ returns-then-not-branch-clause-changed g c = λ h is. no_copy g c is
 
 pub returns-then-not-branch-clause-clock_first : goal.returns-then-not-branch-clause-clock_first
 returns-then-not-branch-clause-clock_first g c = λ is ticks last. absurd (no_copy g c is)
+
+pub returns-then-not-branch-clause-no_page : goal.returns-then-not-branch-clause-no_page
+returns-then-not-branch-clause-no_page g c = λ is none apart. absurd (no_copy g c is)
 
 pub apply-requires-clause-guided : goal.apply-requires-clause-guided
 apply-requires-clause-guided g c =

@@ -1,6 +1,6 @@
 use Rattle.std.proofs.lemmas.Result.{err_from_is_err_and}
 use Rattle.std.proofs.Common.{Option, refl, sym, subst, inl, inr, ⊎_elim}
-use Rattle.spg_tree.specs.declared.stand.StepRefused.TheVariants.{ClockFull, Memory}
+use Rattle.spg_tree.specs.declared.stand.StepRefused.TheVariants.{IndexFull, ClockFull, Memory}
 use Rattle.spg_core.specs.declared.found.Found.{Found}
 use Rattle.spg_core.specs.declared.guide.Guide.TheVariants as guides
 use Rattle.spg_core.specs.Guides.{IsFound, IsTold, AsksAt, IsSpottedAt, IsBunchAt}
@@ -16,7 +16,7 @@ pub descent_at-descent-requires-clause-insert : goal.descent_at-descent-requires
 descent_at-descent-requires-clause-insert g c = is_insert c.self.inside c.args.self.now c.self.view_is c.args.seat c.deref.result.now c.deref.ensures.value c.requires.inserting
 
 pub look_at-requires : goal.look_at-requires
-look_at-requires g c = record { can = may_step g.O.OpClass.meaning g.O.OpClass.codes c.self.inside c.self.invariant c.args.seat c.descent_at-descent.result.now c.deref.result.now c.deref.ensures.value c.descent_at-descent.ensures }
+look_at-requires g c = record { can = may_step g.O.OpClass.meaning g.O.OpClass.codes c.self.inside c.self.invariant.0 c.args.seat c.descent_at-descent.result.now c.deref.result.now c.deref.ensures.value c.descent_at-descent.ensures }
 
 -- the class has no say in what comes next
 unasked : (g : Over) (c : In-Unasked g) → AsksAt c.self.inside.table c.descent_at-descent.result.now → ⊥
@@ -37,6 +37,13 @@ returns-in_err-go_on-in-Unasked-clause-clock_first g c = λ no ticks last.
     let (e, is, same) = err_from_is_err_and r c.from_residual-in_err-go_on-in-Unasked.ensures.1 in
     ⊎_elim (λ a. inl (same_err r e f ClockFull is same a)) (λ a. inr (same_err r e f Memory is same a)) (c.in_err-go_on-in-Unasked.ensures.clock_first ticks last)
 
+pub returns-in_err-go_on-in-Unasked-clause-no_page : goal.returns-in_err-go_on-in-Unasked-clause-no_page
+returns-in_err-go_on-in-Unasked-clause-no_page g c = λ no none apart.
+    let r = c.from_residual-in_err-go_on-in-Unasked.result in
+    let f = c.in_err-go_on-in-Unasked.field-0.0 in
+    let (e, is, same) = err_from_is_err_and r c.from_residual-in_err-go_on-in-Unasked.ensures.1 in
+    ⊎_elim (λ a. inl (same_err r e f IndexFull is same a)) (λ a. inr (same_err r e f Memory is same a)) (c.in_err-go_on-in-Unasked.ensures.no_page none apart)
+
 pub returns-in_err-go_on-in-Unasked-clause-full_asks : goal.returns-in_err-go_on-in-Unasked-clause-full_asks
 returns-in_err-go_on-in-Unasked-clause-full_asks g c = λ h asks. no_say g ((goal.at.returns-in_err-go_on-in-Unasked-clause-full_asks g c).In-Unasked) asks
 
@@ -52,7 +59,12 @@ returns-in-Choose-clause-ok g c = (refl, spotted_seen c.self.inside c.args.self.
 
 pub returns-in-Choose-clause-clock_first : goal.returns-in-Choose-clause-clock_first
 returns-in-Choose-clause-clock_first g c = λ no ticks last.
-    let (key, C) = (may_step g.O.OpClass.meaning g.O.OpClass.codes c.self.inside c.self.invariant c.args.seat c.descent_at-descent.result.now c.deref.result.now c.deref.ensures.value c.descent_at-descent.ensures).of_key in
+    let (key, C) = (may_step g.O.OpClass.meaning g.O.OpClass.codes c.self.inside c.self.invariant.0 c.args.seat c.descent_at-descent.result.now c.deref.result.now c.deref.ensures.value c.descent_at-descent.ensures).of_key in
+    absurd (no (asks_seen c.self.inside c.args.self.now c.self.view_is c.args.seat c.descent_at-descent.result.now c.deref.result.now c.deref.ensures.value c.descent_at-descent.ensures (spotted_asks g.O.OpClass.meaning c.self.inside.table c.descent_at-descent.result.now key C c.in-Choose.spotted (spotted g c))))
+
+pub returns-in-Choose-clause-no_page : goal.returns-in-Choose-clause-no_page
+returns-in-Choose-clause-no_page g c = λ no none apart.
+    let (key, C) = (may_step g.O.OpClass.meaning g.O.OpClass.codes c.self.inside c.self.invariant.0 c.args.seat c.descent_at-descent.result.now c.deref.result.now c.deref.ensures.value c.descent_at-descent.ensures).of_key in
     absurd (no (asks_seen c.self.inside c.args.self.now c.self.view_is c.args.seat c.descent_at-descent.result.now c.deref.result.now c.deref.ensures.value c.descent_at-descent.ensures (spotted_asks g.O.OpClass.meaning c.self.inside.table c.descent_at-descent.result.now key C c.in-Choose.spotted (spotted g c))))
 
 -- a copy of values
@@ -64,7 +76,12 @@ returns-in-Part-clause-ok g c = (refl, bunch_seen c.self.inside c.args.self.now 
 
 pub returns-in-Part-clause-clock_first : goal.returns-in-Part-clause-clock_first
 returns-in-Part-clause-clock_first g c = λ no ticks last.
-    let (key, C) = (may_step g.O.OpClass.meaning g.O.OpClass.codes c.self.inside c.self.invariant c.args.seat c.descent_at-descent.result.now c.deref.result.now c.deref.ensures.value c.descent_at-descent.ensures).of_key in
+    let (key, C) = (may_step g.O.OpClass.meaning g.O.OpClass.codes c.self.inside c.self.invariant.0 c.args.seat c.descent_at-descent.result.now c.deref.result.now c.deref.ensures.value c.descent_at-descent.ensures).of_key in
+    absurd (no (asks_seen c.self.inside c.args.self.now c.self.view_is c.args.seat c.descent_at-descent.result.now c.deref.result.now c.deref.ensures.value c.descent_at-descent.ensures (bunch_asks g.O.OpClass.meaning c.self.inside.table c.descent_at-descent.result.now key C c.in-Part.bunch (bunch g c))))
+
+pub returns-in-Part-clause-no_page : goal.returns-in-Part-clause-no_page
+returns-in-Part-clause-no_page g c = λ no none apart.
+    let (key, C) = (may_step g.O.OpClass.meaning g.O.OpClass.codes c.self.inside c.self.invariant.0 c.args.seat c.descent_at-descent.result.now c.deref.result.now c.deref.ensures.value c.descent_at-descent.ensures).of_key in
     absurd (no (asks_seen c.self.inside c.args.self.now c.self.view_is c.args.seat c.descent_at-descent.result.now c.deref.result.now c.deref.ensures.value c.descent_at-descent.ensures (bunch_asks g.O.OpClass.meaning c.self.inside.table c.descent_at-descent.result.now key C c.in-Part.bunch (bunch g c))))
 
 pub returns-in_ok-go_on-in-Unasked-clause-ok : goal.returns-in_ok-go_on-in-Unasked-clause-ok
@@ -82,3 +99,7 @@ returns-in_ok-go_on-in-Unasked-clause-ok g c = (
 pub returns-in_ok-go_on-in-Unasked-clause-clock_first : goal.returns-in_ok-go_on-in-Unasked-clause-clock_first
 returns-in_ok-go_on-in-Unasked-clause-clock_first g c = λ no ticks last.
     ⊎_elim (λ h. absurd (not_err c.in_ok-go_on-in-Unasked.field-0 ClockFull h)) (λ h. absurd (not_err c.in_ok-go_on-in-Unasked.field-0 Memory h)) (c.in_ok-go_on-in-Unasked.ensures.clock_first ticks last)
+
+pub returns-in_ok-go_on-in-Unasked-clause-no_page : goal.returns-in_ok-go_on-in-Unasked-clause-no_page
+returns-in_ok-go_on-in-Unasked-clause-no_page g c = λ no none apart.
+    ⊎_elim (λ h. absurd (not_err c.in_ok-go_on-in-Unasked.field-0 IndexFull h)) (λ h. absurd (not_err c.in_ok-go_on-in-Unasked.field-0 Memory h)) (c.in_ok-go_on-in-Unasked.ensures.no_page none apart)

@@ -21,12 +21,12 @@ unclaimed : (g : Over) (c : After-is_used g) → c.is_used.result ≡ false → 
 unclaimed g c is =
     let s = c.self.inside in
     let past = past_is s c.args.self.now c.self.view_is 0 in
-    ap (is_claimed c.args.row) past ∙ unclaimed_row g.O.OpClass.meaning s c.self.invariant c.args.row (is_state g c false is) (sym (ap (held_by c.args.row) past) ∙ sym c.in_default.ensures)
+    ap (is_claimed c.args.row) past ∙ unclaimed_row g.O.OpClass.meaning s c.self.invariant.0 c.args.row (is_state g c false is) (sym (ap (held_by c.args.row) past) ∙ sym c.in_default.ensures)
 
 pub returns-then-is_used-clause-row_used : goal.returns-then-is_used-clause-row_used
 returns-then-is_used-clause-row_used g c =
     let s = c.self.inside in
-    let used = used_row g.O.OpClass.meaning s c.self.invariant c.args.row (is_state g ((goal.at.returns-then-is_used-clause-row_used g c).After-is_used) true c.if-is_used.true) in
+    let used = used_row g.O.OpClass.meaning s c.self.invariant.0 c.args.row (is_state g ((goal.at.returns-then-is_used-clause-row_used g c).After-is_used) true c.if-is_used.true) in
     (λ h. subst (λ (p : History _ _ _ _). IsUsed p c.args.row) (sym (past_is s c.args.self.now c.self.view_is 0)) used, λ h. refl)
 
 pub returns-clause-ok : goal.returns-clause-ok

@@ -19,9 +19,11 @@ use Rattle.spg_core.proofs.Slots.{stage_set, stage_is, past_is, logged_is, seen_
 use Rattle.spg_core.specs.Kept.{IsState}
 use Rattle.spg_core.proofs.Steps.{with_fields, kept_with, seats, unclaimed_row, used_row, can_claim, on_err}
 use Rattle.spg_core.proofs.Opens.{room_for_all, insert_opens}
+use Rattle.spg_core.proofs.Bounding.{same_bounded, open_bounded}
+use Rattle.spg_core.specs.Sections.{OpensInsert}
 use Rattle.spg_core.proofs.bare.Bare.open_insert.Given.{Over}
 use Rattle.spg_core.proofs.bare.Bare.open_insert.Goals as goal
-use Rattle.spg_core.proofs.bare.Bare.open_insert.Goals.{After-is_used}
+use Rattle.spg_core.proofs.bare.Bare.open_insert.Goals.{After-is_used, After-set_touched}
 
 -- the row's state, as the test answers
 is_state : (g : Over) (c : After-is_used g) (b : Bool) → c.is_used.result ≡ b → is_used (state_in c.self.inside.rows c.args.row) ≡ b
@@ -31,7 +33,7 @@ is_state g c b is = ap is_used (sym c.state.ensures) ∙ sym c.is_used.ensures �
 unclaimed : (g : Over) (c : After-is_used g) → c.is_used.result ≡ false → is_claimed c.args.row (reverse c.self.inside.journal.events) ≡ false
 unclaimed g c is =
     let s = c.self.inside in
-    unclaimed_row g.O.OpClass.meaning s c.self.invariant c.args.row (is_state g c false is) (sym (ap (held_by c.args.row) (past_is s c.args.self.now c.self.view_is 0)) ∙ sym c.in_default.ensures)
+    unclaimed_row g.O.OpClass.meaning s c.self.invariant.0 c.args.row (is_state g c false is) (sym (ap (held_by c.args.row) (past_is s c.args.self.now c.self.view_is 0)) ∙ sym c.in_default.ensures)
 
 -- and so not used
 unused : (g : Over) (c : After-is_used g) → c.is_used.result ≡ false → IsUsed (past_of c.args.self.now) c.args.row → ⊥
@@ -40,7 +42,7 @@ unused g c is used = false≢true (sym (unclaimed g c is) ∙ sym (ap (is_claime
 pub returns-then-is_used-clause-row_used : goal.returns-then-is_used-clause-row_used
 returns-then-is_used-clause-row_used g c =
     let s = c.self.inside in
-    let used = used_row g.O.OpClass.meaning s c.self.invariant c.args.row (is_state g ((goal.at.returns-then-is_used-clause-row_used g c).After-is_used) true c.if-is_used.true) in
+    let used = used_row g.O.OpClass.meaning s c.self.invariant.0 c.args.row (is_state g ((goal.at.returns-then-is_used-clause-row_used g c).After-is_used) true c.if-is_used.true) in
     (λ h. subst (λ (p : History _ _ _ _). IsUsed p c.args.row) (sym (past_is s c.args.self.now c.self.view_is 0)) used, λ h. refl)
 
 pub returns-in_err-told-clause-row_used : goal.returns-in_err-told-clause-row_used
@@ -54,7 +56,7 @@ returns-in_err-claimed-clause-row_used g c =
     (λ h. absurd (cc (refused.1, refused.2, h)), λ h. absurd (unused g ((goal.at.returns-in_err-claimed-clause-row_used g c).After-is_used) c.if-is_used.false h))
 
 pub claim-requires : goal.claim-requires
-claim-requires g c = can_claim g.O.OpClass.meaning c.self.inside c.self.invariant c.args.row (is_state g ((goal.at.claim-requires g c).After-is_used) false c.if-is_used.false)
+claim-requires g c = can_claim g.O.OpClass.meaning c.self.inside c.self.invariant.0 c.args.row (is_state g ((goal.at.claim-requires g c).After-is_used) false c.if-is_used.false)
 
 pub returns-in_err-reserve-clause-row_used : goal.returns-in_err-reserve-clause-row_used
 returns-in_err-reserve-clause-row_used g c =
@@ -68,7 +70,11 @@ returns-in_err-reserve-clause-err g c =
     on_err c.from_residual-in_err-reserve.result e
 
 pub invariant_of-self-in_err-claim : goal.invariant_of-self-in_err-claim
-invariant_of-self-in_err-claim g c = kept_with g.O.OpClass.meaning c.self.inside c.self.invariant c.claim.new.self c.reserve.new.self c.in_err-claim.ensures.err c.reserve.ensures.events c.reserve.ensures.room
+invariant_of-self-in_err-claim g c =
+    let s = c.self.inside in (
+      kept_with g.O.OpClass.meaning s c.self.invariant.0 c.claim.new.self c.reserve.new.self c.in_err-claim.ensures.err c.reserve.ensures.events c.reserve.ensures.room,
+      same_bounded g.O.OpClass.meaning s c.self.invariant.0 c.self.invariant.1 _ (ap (λ j. seen_as j (map stage_of s.slots.items) s.table s.origin) c.reserve.ensures.events),
+    )
 
 pub returns-in_err-claim-clause-row_used : goal.returns-in_err-claim-clause-row_used
 returns-in_err-claim-clause-row_used g c =
@@ -85,7 +91,7 @@ pub invariant_of-self-2 : goal.invariant_of-self-2
 invariant_of-self-2 g c =
     let m = g.O.OpClass.meaning in
     let s = c.self.inside in
-    let I = c.self.invariant in
+    let I = c.self.invariant.0 in
     let seat = c.args.seat in
     let row = c.args.row in
     let key = c.open_descent-key.result.0 in
@@ -98,11 +104,21 @@ invariant_of-self-2 g c =
     let keys = subst (λ k. SetsKey s.rows c.claim.new.self row (Some k)) c.in_ok-claimed.ensures c.in_ok-claim.ensures.key in
     let carries : CarriesNew m c.open_descent-key.result.1 key = subst (λ (k : Option _). CarriesNew m c.open_descent-key.result.1 k) ek c.open_descent-key.ensures.carries in
     let room = room_for_all m s I seat c.set_slot.new.slots.items c.reserve.new.self.spare c.append.new.self.spare slot c.set_slot.ensures.items c.in_ok-reserve.ensures.ok c.append.ensures.spare in
-    subst (λ (t : Table). IsState m (with_fields m s t c.claim.new.self c.set_slot.new.slots c.append.new.self)) (sym (c.set_touched.ensures ∙ ap (λ ts. with_touched s.table ts) c.new.ensures))
-    (insert_opens m s I seat row key c.open_descent-key.result.1 c.claim.new.self c.set_slot.new.slots c.append.new.self ed carries free was c.set_slot.ensures.in_range c.set_slot.ensures.items events c.in_ok-claim.ensures.state keys room)
+    let seen = c.args.self.now in
+    let low : seat < 64 = c.set_slot.ensures.in_range in
+    let table : c.set_touched.new.self ≡ untouched seen.table = c.set_touched.ensures ∙ ap (λ ts. with_touched s.table ts) c.new.ensures ∙ ap untouched (sym (table_is s seen c.self.view_is 0)) in (
+      subst (λ (t : Table). IsState m (with_fields m s t c.claim.new.self c.set_slot.new.slots c.append.new.self)) (sym (c.set_touched.ensures ∙ ap (λ ts. with_touched s.table ts) c.new.ensures))
+          (insert_opens m s I seat row key c.open_descent-key.result.1 c.claim.new.self c.set_slot.new.slots c.append.new.self ed carries free was c.set_slot.ensures.in_range c.set_slot.ensures.items events c.in_ok-claim.ensures.state keys room),
+      open_bounded m s I c.self.invariant.1 seen c.self.view_is seat row key _
+          (logged_is s seen c.self.view_is seat (OpenInsert seat row key) slot c.set_slot.new.slots.items c.append.new.self.events c.set_touched.new.self c.set_slot.ensures.items events
+          ∙ ap (λ (t : Table). logged seen seat (OpenInsert seat row key) (stage_of slot) t) table
+          ∙ ap (λ (d : Descending _). logged seen seat (OpenInsert seat row key) (descending key d) (untouched seen.table)) ed)
+          (stage_set c.set_slot.new.slots.items s.slots.items seat slot c.set_slot.ensures.items (seats m s I) low ∙ ap (λ (d : Descending _). descending key d) ed),
+    )
 
-pub returns-clause-ok : goal.returns-clause-ok
-returns-clause-ok g c =
+-- what it did, as callers see it
+told : (g : Over) (c : After-set_touched g) → OpensInsert g.O.OpClass.meaning c.args.self.now (seen_as c.append.new.self.events (map stage_of c.set_slot.new.slots.items) c.set_touched.new.self c.self.inside.origin) c.args.seat c.args.row c.args.started
+told g c =
     let m = g.O.OpClass.meaning in
     let s = c.self.inside in
     let seen = c.args.self.now in
@@ -119,7 +135,24 @@ returns-clause-ok g c =
           ∙ ap (λ (t : Table). logged seen seat (OpenInsert seat row key) (stage_of slot) t) table
           ∙ ap (λ (d : Descending _). logged seen seat (OpenInsert seat row key) (descending key d) (untouched seen.table)) ed
           ∙ ap (λ (k : Option _). logged seen seat (OpenInsert seat row k) (descending k (opened_for m row k)) (untouched seen.table)) (sym ek),
-      stage_set c.set_slot.new.slots.items s.slots.items seat slot c.set_slot.ensures.items (seats m s c.self.invariant) low ∙ ap (λ (d : Descending _). descending key d) ed ∙ ap (λ (k : Option _). descending k (opened_for m row k)) (sym ek),
+      stage_set c.set_slot.new.slots.items s.slots.items seat slot c.set_slot.ensures.items (seats m s c.self.invariant.0) low ∙ ap (λ (d : Descending _). descending key d) ed ∙ ap (λ (k : Option _). descending k (opened_for m row k)) (sym ek),
+    )
+
+pub returns-clause-ok : goal.returns-clause-ok
+returns-clause-ok g c = told g ((goal.at.returns-clause-ok g c).After-set_touched)
+
+pub returns-clause-call : goal.returns-clause-call
+returns-clause-call g c =
+    let m = g.O.OpClass.meaning in
+    let s = c.self.inside in
+    let row = c.args.row in
+    let ek : c.args.started ≡ c.open_descent-key.result.0 = sym c.open_descent-key.ensures.key in
+    let ed : c.open_descent-key.result.1 ≡ opened_for m row c.args.started = c.open_descent-key.ensures.at_start in
+    let free = unclaimed g ((goal.at.returns-clause-call g c).After-is_used) c.if-is_used.false in (
+      c.requires.free,
+      ap (is_claimed row) (past_is s c.args.self.now c.self.view_is 0) ∙ free,
+      subst (λ (d : Descending _). CarriesNew m d c.args.started) ed c.open_descent-key.ensures.carries,
+      told g ((goal.at.returns-clause-call g c).After-set_touched),
     )
 
 pub returns-clause-row_used : goal.returns-clause-row_used

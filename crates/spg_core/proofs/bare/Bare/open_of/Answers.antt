@@ -10,10 +10,10 @@ returns-clause-journal g c =
     let m = g.O.OpClass.meaning in
     let s = c.self.inside in
     rw (past_is s c.args.self.now c.self.view_is 0, stage_is s c.args.self.now c.self.view_is c.args.seat)
-    (fits_stage m s.table (past m s c.self.invariant) c.args.seat (stage_of (get_or s.slots.items c.args.seat Free)) (fits m s c.self.invariant c.args.seat))
+    (fits_stage m s.table (past m s c.self.invariant.0) c.args.seat (stage_of (get_or s.slots.items c.args.seat Free)) (fits m s c.self.invariant.0 c.args.seat))
 
 pub returns-clause-fits : goal.returns-clause-fits
 returns-clause-fits g c =
     let m = g.O.OpClass.meaning in
     let s = c.self.inside in
-    seen_fits m s c.self.invariant c.args.self.now c.self.view_is c.args.seat
+    seen_fits m s c.self.invariant.0 c.args.self.now c.self.view_is c.args.seat

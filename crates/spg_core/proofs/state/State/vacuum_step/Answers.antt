@@ -1,5 +1,11 @@
-use Rattle.std.proofs.Common.{sym}
+use Rattle.std.proofs.Common.{sym, subst}
+use Rattle.std.specs.Result.{IfOk}
+use Rattle.spg_core.specs.Seen.{Seen}
+use Rattle.spg_core.specs.Calls.{SweepsPages}
 use Rattle.spg_core.proofs.state.State.vacuum_step.Goals as goal
 
 pub returns-clause-others : goal.returns-clause-others
 returns-clause-others g c = rw (sym c.self.view_is) c.vacuum_step.ensures.others
+
+pub returns-clause-changes : goal.returns-clause-changes
+returns-clause-changes g c = subst (λ (v : Seen _ _ _ _). IfOk c.vacuum_step.result (λ _. SweepsPages g.O.OpClass.meaning v c.vacuum_step.new.self c.args.seat)) c.self.view_is c.vacuum_step.ensures.changes

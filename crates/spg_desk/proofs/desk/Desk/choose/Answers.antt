@@ -29,4 +29,4 @@ returns-clause-told g c =
     let v = pass_view c.args.going.pass in
     let e = c.enter-held.ensures in
     let l = c.leave-going.ensures in
-    look_told g.O.OpClass.meaning v (held_view c.enter-held.result) (pass_view c.leave-going.result.0.pass) (held_state c.enter-held.result) c.state_mut.result.now c.choose_on-end.new.bare c.seat-seat.result c.leave-going.result.1 (looked.Stepped c.choose_on-end.result) e.view c.state_mut.ensures.value c.seat-seat.ensures e.watched e.stage c.requires.putting c.choose_on-end.ensures l.seen l.span l.told
+    look_told g.O.OpClass.meaning v (held_view c.enter-held.result) (pass_view c.leave-going.result.0.pass) (held_state c.enter-held.result) c.state_mut.result.now c.choose_on-end.new.bare c.seat-seat.result c.leave-going.result.1 (looked.Stepped c.choose_on-end.result) e.view c.state_mut.ensures.value c.seat-seat.ensures e.watched e.stage c.requires.putting c.choose_on-end.ensures e.origin l.seen l.span l.told

@@ -6,6 +6,7 @@ use Rattle.spg_desk.specs.Acting.{kill_events}
 use Rattle.spg_desk.specs.Passes.{view_of}
 use Rattle.spg_desk.proofs.Sections.{kill_adds, kill_each, section_grown, section_did, section_past}
 use Rattle.spg_desk.proofs.Calls.{killed, kill_idle}
+use Rattle.spg_desk.proofs.Views.{at_rest}
 use Rattle.spg_desk.proofs.desk.Desk.kill.Goals as goal
 
 pub leave-going-requires-clause-grown : goal.leave-going-requires-clause-grown
@@ -40,3 +41,15 @@ returns-clause-did g c =
     let past = section_past v (held_view c.enter-held.result) w (held_state c.enter-held.result) old new c.leave-going.result.1 _ c.enter-held.ensures.view c.state_mut.ensures.value adds c.leave-going.ensures.seen c.leave-going.ensures.span in
     let legal : IsLegal (past_of old) = subst (λ s. IsLegal (past_of s)) (c.state.ensures ∙ sym c.state_mut.ensures.value) c.journal.ensures.right.legal in
     rw c.kill_answer.ensures (killed m v w old new c.seat-seat.result c.args.row c.leave-going.result.1 r told legal past c.kill-killed.ensures.ok)
+
+pub returns-clause-free : goal.returns-clause-free
+returns-clause-free g c =
+    let m = g.O.OpClass.meaning in
+    let r = c.kill-killed.result in
+    let v = view_of c.args.pass in
+    let w = pass_view c.leave-going.result.0.pass in
+    let adds = kill_adds c.state_mut.result.now c.kill-killed.new.self c.seat-seat.result c.args.row r c.kill-killed.ensures.ok c.kill-killed.ensures.err in
+    let told =
+    section_did m v (held_view c.enter-held.result) w (held_state c.enter-held.result) c.state_mut.result.now c.kill-killed.new.self c.seat-seat.result c.leave-going.result.1 (λ n. kill_events n c.args.row r)
+    c.enter-held.ensures.view c.state_mut.ensures.value c.seat-seat.ensures c.enter-held.ensures.watched adds c.leave-going.ensures.told in
+    at_rest m v w c.leave-going.result.1 (kill_events v.number c.args.row r) c.leave-going.result.0.passed told (kill_idle m v w c.args.row c.leave-going.result.1 r c.args.pass.idle told)

@@ -1,0 +1,49 @@
+-- What the readers of the words tell of lines.
+use Rattle.std.proofs.Common.{◌≡◌, ℕ, List, Option, Some, None, refl, sym, ap, ◌∙◌, subst}
+use Rattle.std.specs.Borrow.{Bor}
+use Rattle.spg_words.specs.declared.load.Load.{Load}
+use Rattle.spg_words.specs.declared.run_line.RunLine.{RunLine}
+use Rattle.spg_words.specs.Reading.{word_in}
+use Rattle.spg_words.specs.Asked.{run_told, run_of, name_told, check_of, load_of}
+use Rattle.spg_words.specs.Lines.{IsRunLine, IsCheckLine, IsLoadLine}
+use Rattle.spg_words.proofs.Lines.{exact}
+use Rattle.spg_histories.specs.declared.status.Status.{Status}
+use Rattle.spg_app.specs.declared.end_state.EndState.{EndState}
+use Rattle.spg_app.specs.Checks.{IsChecked}
+use Rattle.spg_app.specs.Ending.{Outlets}
+use Rattle.spg_app.specs.Loads.{IsGen}
+use Rattle.spg_app.specs.Headline.{Streams, IsRun}
+
+-- what is no value is None
+pub none_of : {A : Type 0} (o : Option A) → ((x : A) → o ≡ Some x → ⊥) → o ≡ None
+none_of None not_some = refl
+none_of (Some x) not_some = absurd (not_some x refl)
+
+module _ (words : List (List ℕ)) where
+  pub run_line : (o : Option RunLine) (line : RunLine) → run_told o ≡ run_of words → o ≡ Some line → IsRunLine line.limit (word_in line.from) words
+  run_line o line value is = (exact.run words line.limit (word_in line.from)).0 (sym value ∙ ap run_told is)
+
+  pub no_run_line : (o : Option RunLine) → run_told o ≡ run_of words → o ≡ None → (n : ℕ) (from : Option (List ℕ)) → IsRunLine n from words → ⊥
+  no_run_line o value none n from line = let some = (exact.run words n from).1 line in absurd (cc (sym value ∙ ap run_told none, some))
+
+  pub check_line : (o : Option (Bor (List ℕ))) (name : Bor (List ℕ)) → name_told o ≡ check_of words → o ≡ Some name → IsCheckLine name.now words
+  check_line o name value is = (exact.check words name.now).0 (sym value ∙ ap name_told is)
+
+  pub no_check_line : (o : Option (Bor (List ℕ))) → name_told o ≡ check_of words → o ≡ None → (name : List ℕ) → IsCheckLine name words → ⊥
+  no_check_line o value none name line = let some = (exact.check words name).1 line in absurd (cc (sym value ∙ ap name_told none, some))
+
+  pub load_line : (o : Option Load) (load : Load) → o ≡ load_of words → o ≡ Some load → IsLoadLine load words
+  load_line o load value is = (exact.load words load).0 (sym value ∙ is)
+
+  pub no_load_line : (o : Option Load) → o ≡ load_of words → o ≡ None → (load : Load) → IsLoadLine load words → ⊥
+  no_load_line o value none load line = let some = (exact.load words load).1 line in absurd (cc (sym value ∙ none, some))
+
+  -- ---- one line asks for one thing
+
+  pub run_asked : (m n : ℕ) (a b : Option (List ℕ)) (io : Streams) (out : Outlets) (status : Status) (end : Option EndState) → IsRunLine m a words → IsRunLine n b words → IsRun m a io out status end → IsRun n b io out status end
+  run_asked m n a b io out status end line other run =
+      let same = exact.one_run words m n a b line other in
+      subst (λ k. IsRun k b io out status end) same.0 (subst (λ (x : Option (List ℕ)). IsRun m x io out status end) same.1 run)
+
+  pub check_asked : (a b : List ℕ) (out : Outlets) (status : Status) → IsCheckLine a words → IsCheckLine b words → IsChecked a out status → IsChecked b out status
+  check_asked a b out status line other checked = subst (λ (x : List ℕ). IsChecked x out status) (exact.one_check words a b line other) checked

@@ -1,0 +1,170 @@
+ghost use Rattle.std.specs.Prelude.{◌≡◌, take};
+ghost use Rattle.spg_script.specs.Reading.{len_before};
+ghost use Rattle.spg_script.specs.Wanting.{first_word, last_corner, are_corners, insert_wants, cond_wants, conds_want, find_wants, command_wants, between_wants, lane_wants, line_wants, end_wants};
+
+use crate::bytes::{len_before, split};
+use crate::conditions::point_cond_then;
+use crate::numbers::{coordinate, row};
+use crate::spot::Spot;
+use crate::wanted::Wanted;
+
+/// The greatest number of conditions of a query.
+const MOST: usize = 8;
+
+/// The bytes before the first space.
+fn first_word(bytes: &[u8]) -> &[u8]
+    ensures { result.now ≡ first_word bytes.now }
+{
+    &bytes[..len_before(bytes, b' ')]
+}
+
+/// The last of four coordinates, where four stand there.
+#[tactic(auto, unfolding(crate::specs::Wanting::last_corner))]
+fn last_corner(bytes: &[u8]) -> Option<i32>
+    ensures { result ≡ last_corner bytes.now }
+{
+    let (x1, rest) = split(bytes, b',')?;
+    let (y1, rest) = split(rest, b',')?;
+    let (x2, y2) = split(rest, b',')?;
+    coordinate(x1)?;
+    coordinate(y1)?;
+    coordinate(x2)?;
+    coordinate(y2)
+}
+
+/// Whether four coordinates stand behind the first word.
+#[tactic(auto, unfolding(crate::specs::Wanting::are_corners))]
+fn are_corners(bytes: &[u8]) -> bool
+    ensures { result ≡ are_corners bytes.now }
+{
+    match split(bytes, b' ') {
+        Some((_, rest)) => last_corner(first_word(rest)).is_some(),
+        None => false,
+    }
+}
+
+/// What is wanted where bytes begin with no condition on points.
+#[tactic(auto, unfolding(crate::specs::Wanting::cond_wants))]
+fn cond_wants(bytes: &[u8]) -> Wanted
+    ensures { result ≡ cond_wants bytes.now }
+{
+    if first_word(bytes) == b"in".as_slice() && are_corners(bytes) {
+        Wanted::RectangleInOrder
+    } else {
+        Wanted::PointCondition
+    }
+}
+
+/// What is wanted where bytes are no conditions on points.
+fn conds_want(bytes: &[u8]) -> Wanted
+    ensures { result ≡ conds_want 8 bytes.now }
+{
+    let mut rest = bytes;
+    for _read in 0..MOST {
+        let Some((_, left)) = point_cond_then(rest) else {
+            return cond_wants(rest);
+        };
+        if !left.starts_with(b" and ") {
+            return Wanted::And;
+        }
+        rest = &left[5..];
+    }
+    Wanted::FewerConditions
+}
+
+/// What is wanted where bytes are no row and key.
+#[tactic(auto, unfolding(crate::specs::Wanting::insert_wants))]
+fn insert_wants(texts: bool, bytes: &[u8]) -> Wanted
+    ensures { result ≡ insert_wants texts bytes.now }
+{
+    if row(first_word(bytes)).is_none() {
+        Wanted::InsertRow
+    } else if texts {
+        Wanted::TextKey
+    } else {
+        Wanted::PointKey
+    }
+}
+
+/// What is wanted where bytes are no query.
+#[tactic(auto, unfolding(crate::specs::Wanting::find_wants))]
+fn find_wants(texts: bool, bytes: &[u8]) -> Wanted
+    ensures { result ≡ find_wants texts bytes.now }
+{
+    if !bytes.starts_with(b"where ") {
+        Wanted::Query
+    } else if texts {
+        Wanted::TextConditions
+    } else {
+        conds_want(&bytes[6..])
+    }
+}
+
+/// What is wanted where a line is no command. It is `other` where its first word is none of a
+/// command that has more words.
+#[tactic(auto, unfolding(crate::specs::Wanting::command_wants))]
+fn command_wants(texts: bool, other: Wanted, line: &[u8]) -> Wanted
+    ensures { result ≡ command_wants texts other line.now }
+{
+    if line.starts_with(b"insert ") {
+        insert_wants(texts, &line[7..])
+    } else if line.starts_with(b"find ") {
+        find_wants(texts, &line[5..])
+    } else if line.starts_with(b"delete ") {
+        Wanted::DeleteRow
+    } else if line.starts_with(b"save ") {
+        Wanted::Name
+    } else {
+        other
+    }
+}
+
+/// What is wanted in place of a line outside blocks.
+#[tactic(auto, unfolding(crate::specs::Wanting::between_wants))]
+fn between_wants(texts: bool, line: &[u8]) -> Wanted
+    ensures { result ≡ between_wants texts line.now }
+{
+    if line == b"lane".as_slice() || line == b"end".as_slice() {
+        Wanted::Together
+    } else {
+        command_wants(texts, Wanted::Command, line)
+    }
+}
+
+/// What is wanted in place of a line of a lane.
+#[tactic(auto, unfolding(crate::specs::Wanting::lane_wants))]
+fn lane_wants(texts: bool, line: &[u8]) -> Wanted
+    ensures { result ≡ lane_wants texts line.now }
+{
+    if line == b"lane".as_slice() {
+        Wanted::FewerLanes
+    } else if line == b"stat".as_slice() || line.starts_with(b"save ") {
+        Wanted::NoLane
+    } else {
+        command_wants(texts, Wanted::LaneCommand, line)
+    }
+}
+
+/// What is wanted in place of a line that is bad behind what has come.
+#[tactic(auto, unfolding(crate::specs::Wanting::line_wants))]
+pub fn line_wants(spot: Spot, line: &[u8]) -> Wanted
+    ensures { result ≡ line_wants spot line.now }
+{
+    match spot {
+        Spot::Start => Wanted::ClassLine,
+        Spot::Between { texts } => between_wants(texts, line),
+        Spot::Block { texts: _ } => Wanted::FirstLane,
+        Spot::Lane { texts } => lane_wants(texts, line),
+    }
+}
+
+/// What is wanted where a script ends too early behind what has come.
+pub fn end_wants(spot: Spot) -> Wanted
+    ensures { result ≡ end_wants spot }
+{
+    match spot {
+        Spot::Start => Wanted::ClassLine,
+        Spot::Between { texts: _ } => Wanted::Command,
+        Spot::Block { texts: _ } | Spot::Lane { texts: _ } => Wanted::EndOfBlock,
+    }
+}

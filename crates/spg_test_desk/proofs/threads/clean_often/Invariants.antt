@@ -1,9 +1,0 @@
-use Rattle.std.proofs.Common.{◌≡◌}
-use Rattle.spg_desk.specs.Passes.{desk_id, desk_of, view_of}
-use Rattle.spg_test_desk.proofs.threads.clean_often.Given as goal
-
-abbrev pub invariant-loop : goal.invariant-loop
-invariant-loop g l = record {
-  own : desk_of l.pass ≡ desk_id l.desk;
-  number : (view_of l.pass).number ≡ (view_of l.initial.pass).number;
-}

@@ -1,0 +1,4 @@
+pub mod Counting
+pub mod Holding
+pub mod Coming
+pub mod Apart

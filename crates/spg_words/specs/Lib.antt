@@ -1,0 +1,6 @@
+pub mod Numbers
+pub mod Reading
+pub mod Parts
+pub mod Lines
+pub mod Asked
+pub mod Exact

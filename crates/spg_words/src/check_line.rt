@@ -1,0 +1,42 @@
+ghost use Rattle.std.specs.Prelude.{◌≡◌, map, string_bytes};
+ghost use Rattle.spg_words.specs.Reading.{held, word_in};
+ghost use Rattle.spg_words.specs.Asked.{image_name, name_told, checked_in, check_of};
+
+use crate::words::{Words, words_behind};
+use spg_io::is_name;
+use std::str;
+
+/// The name of an image that a word spells.
+pub(crate) fn image_name(word: &[u8]) -> Option<&str>
+    ensures { name_told result ≡ image_name word.now }
+{
+    match str::from_utf8(word) {
+        Ok(name) if is_name(name) => Some(name),
+        _ => None,
+    }
+}
+
+/// The name that the words behind `check` ask for.
+fn checked_in(words: Words<'_>) -> Option<&str>
+    ensures { name_told result ≡ checked_in (held words.entry) }
+{
+    let run_options = words.limit.is_some() || words.from.is_some();
+    let load_options = words.lanes.is_some() || words.class.is_some();
+    if words.second.is_some() || run_options || load_options {
+        return None;
+    }
+    match words.first {
+        Some(word) => image_name(word),
+        None => None,
+    }
+}
+
+/// The name of the image that a line of `check` asks for. None exactly where the words are no such line.
+pub fn check_of(words: &[String]) -> Option<&str>
+    ensures { name_told result ≡ check_of (map string_bytes words.now) }
+{
+    match words_behind(b"check", words) {
+        Some(words) => checked_in(words),
+        None => None,
+    }
+}
