@@ -2,14 +2,15 @@
 """Compares the program with another model of it on random scripts.
 
     compare.py --program 'PATH run' --model 'PATH run' [--count N] [--seed S] [--large PART] [--classes quad,kd,radix]
-        [--no-vacuum] [--no-save] [--no-stat] [--no-blank]
+        [--trips N] [--no-vacuum] [--no-save] [--no-stat] [--no-blank]
 
 Both commands read a script from standard input, each in a folder of its own. They must write the same text, end with
 the same status, name the same bad line, and save images of the same pages: the same header, and the same tuples in the
 order of their offsets. Where the tuples stand on a page, and its free bytes, may differ; how many images differ in that
 alone is told. A script on which they differ is left as NAME.differs. Small scripts have edges and bad lines; large ones
 have hundreds to thousands of inserts of one shape, with deletes, vacuums and finds between and behind them, and rows
-used again. The last four options leave lines out.
+used again. With `--trips N` N scripts of one class are run one after another: each saves the index, and the next goes on
+from that image, both commands with `--from` behind them. The last four options leave lines out.
 """
 
 import argparse
@@ -24,6 +25,7 @@ import tempfile
 from concurrent.futures import ThreadPoolExecutor
 
 PAGE = 8192
+TRIP = "trip"
 EDGES = [-2147483648, -2147483647, -1, 0, 1, 2147483646, 2147483647]
 PLAIN = set(range(32, 127)) - {34, 92} | set(range(128, 256))
 
@@ -200,12 +202,22 @@ def large(rng, classes, kinds):
     return b"\n".join(lines) + b"\n"
 
 
-def ran(words, text):
-    """What a program answers and writes, and what it leaves in its folder."""
+def ran(words, text, images):
+    """What a program answers and writes, and what it leaves in its folder, where these images stood before."""
     with tempfile.TemporaryDirectory() as folder:
-        done = subprocess.run(words, input=text, capture_output=True, check=False, cwd=folder)
+        for name, image in images.items():
+            pathlib.Path(folder, name).write_bytes(image)
+        done = subprocess.run(words, input=text, capture_output=True, check=False, cwd=folder, timeout=600)
         images = {path.name: path.read_bytes() for path in pathlib.Path(folder).iterdir()}
     return done.returncode, done.stdout, done.stderr.splitlines()[:1], images
+
+
+def trips(words, texts):
+    """What each of the scripts leads to. Each goes on from the image that the one before saved."""
+    done = [ran(words, texts[0], {})]
+    for text in texts[1:]:
+        done.append(ran(words + ["--from", TRIP], text, done[-1][3]))
+    return done
 
 
 def as_tuples(page):
@@ -249,6 +261,15 @@ def show(name, text, ours, other):
     pathlib.Path(f"{name}.differs").write_bytes(text)
 
 
+def scripts(rng, options):
+    """So many scripts of one class as there are trips."""
+    kinds, name = kinds_of(options), rng.choice(options.classes.split(","))
+    texts = [(large if rng.random() < options.large else small)(rng, [name], kinds) for _ in range(options.trips)]
+    if options.trips == 1:
+        return texts
+    return [text.rstrip(b"\n") + b"\nsave %s\n" % TRIP.encode() for text in texts]
+
+
 def kinds_of(options):
     """The lines that stand between inserts, deletes and finds."""
     kinds = [(options.vacuum, b"vacuum"), (options.save, b"save"), (options.stat, b"stat"), (options.blank, b"blank")]
@@ -257,21 +278,20 @@ def kinds_of(options):
 
 def compare(options):
     program, model = shlex.split(options.program), shlex.split(options.model)
-    classes = options.classes.split(",")
-    kinds = kinds_of(options)
 
     def one(number):
-        rng = random.Random(f"{options.seed} {number}")
-        text = (large if rng.random() < options.large else small)(rng, classes, kinds)
-        ours, other = ran(program, text), ran(model, text)
-        same = is_same(ours, other)
-        if not same:
-            show(f"{number:05}", text, ours, other)
-        return text.count(b"\n"), other[0] != 0, len(other[3]), same and apart_in_place(ours[3], other[3]), not same
+        texts = scripts(random.Random(f"{options.seed} {number}"), options)
+        pairs = list(zip(texts, trips(program, texts), trips(model, texts)))
+        apart = [trip for trip, (_, ours, other) in enumerate(pairs) if not is_same(ours, other)]
+        for trip in apart[:1]:
+            show(f"{number:05}-{trip}", *pairs[trip])
+        placed = sum(apart_in_place(ours[3], other[3]) for _, ours, other in pairs if not apart)
+        lines = sum(text.count(b"\n") for text in texts)
+        return lines, sum(other[0] != 0 for _, _, other in pairs), sum(len(other[3]) for _, _, other in pairs), placed, bool(apart)
 
     with ThreadPoolExecutor(options.jobs) as pool:
         lines, refused, images, placed, bad = map(sum, zip(*pool.map(one, range(options.count))))
-    print(f"{options.count} scripts, {lines} lines, {refused} refused by the model, {bad} differ")
+    print(f"{options.count * options.trips} scripts, {lines} lines, {refused} refused by the model, {bad} differ")
     print(f"{images} images, {placed} of them with other free bytes, or tuples at other places")
     return bad
 
@@ -284,6 +304,7 @@ def main():
     parser.add_argument("--seed", default="1")
     parser.add_argument("--large", type=float, default=0.3, help="the part of scripts with many inserts")
     parser.add_argument("--classes", default="quad,kd,radix")
+    parser.add_argument("--trips", type=int, default=1, help="how many scripts go on from each other")
     for kind in ("vacuum", "save", "stat", "blank"):
         parser.add_argument(f"--{kind}", action=argparse.BooleanOptionalAction, default=True)
     parser.add_argument("--jobs", type=int, default=os.cpu_count())

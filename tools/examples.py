@@ -4,14 +4,19 @@
     examples.py                          writes examples/town.spg and examples/streets.spg
     examples.py --check 'PROGRAM run'    runs every examples/NAME.spg that has a NAME.spg.stdout, and compares
 
-The scripts are the same on every machine: all that looks random comes from `Draws`.
+A script that begins with '# Goes on from the image IMAGE of OTHER.spg' is run with `--from IMAGE` in a folder in which
+OTHER.spg was run before. The scripts are the same on every machine: all that looks random comes from `Draws`.
 """
 
 import argparse
+import os
 import pathlib
+import re
 import shlex
+import shutil
 import subprocess
 import sys
+import tempfile
 
 FOLDER = pathlib.Path(__file__).resolve().parent.parent / "examples"
 
@@ -140,11 +145,22 @@ def write(name, lines):
     (FOLDER / name).write_text("\n".join(lines) + "\n", encoding="utf-8")
 
 
+def ran(script, words, folder):
+    """What the program prints, in this folder."""
+    before = re.match(rb"# Goes on from the image (\S+) of (\S+\.spg)", script.read_bytes())
+    if before:
+        image, other = before[1].decode(), before[2].decode()
+        ran(FOLDER / other, words, folder)
+        words = words + ["--from", image]
+    with script.open("rb") as source:
+        return subprocess.run(words, stdin=source, stdout=subprocess.PIPE, check=False, cwd=folder).stdout
+
+
 def differs(script, words):
     """Whether the program prints another text than the one beside the script."""
     wanted = pathlib.Path(f"{script}.stdout").read_bytes()
-    with script.open("rb") as source:
-        printed = subprocess.run(words, stdin=source, stdout=subprocess.PIPE, check=False).stdout
+    with tempfile.TemporaryDirectory() as folder:
+        printed = ran(script, words, folder)
     print(f"{script.name}: {'as expected' if printed == wanted else 'DIFFERS'}")
     return printed != wanted
 
@@ -158,6 +174,7 @@ def main():
         write("streets.spg", streets())
         return 0
     words = shlex.split(given.check)
+    words[0] = os.path.abspath(shutil.which(words[0]) or words[0])
     scripts = [script for script in sorted(FOLDER.glob("*.spg")) if pathlib.Path(f"{script}.stdout").exists()]
     return int(any([differs(script, words) for script in scripts]))
 

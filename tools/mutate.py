@@ -3,11 +3,13 @@
 
     mutate.py --program PATH --model PATH [--scripts N] [--copies N] [--seed S] [--large PART] [--classes quad,kd,radix]
 
-Random scripts, run by the model, save images. Of each image copies are made: as it is, cut off, longer, or with changes
-of any bytes, of the meta page, of headers, item pointers, tags, sizes, links, stamps, rows and keys. Both programs are
-asked to check each copy, and to go on from it by a script that saves again under two names. They must write the same
-text, end with the same status and the same line on standard error, and leave images of the same pages. A copy on which
-they differ is left as NAME.image, the script as NAME.differs.
+PATH is a program with the words `run`, `run --from NAME` and `check NAME`, such as crates/spg_main/out/spg_main; the model
+is another one, beside which it is held. Random scripts, run by the model, save images. Of each image copies are made: as
+it is, cut off, longer, or with changes of any bytes, of the meta page, of headers, item pointers, tags, sizes, links,
+stamps, rows and keys. No copy says version 2, which a model may know. Both are asked to check each copy, and to go on
+from it by a script that saves again under two names. They must write the same text, end with the same status and the same
+line on standard error, and leave images of the same pages. A copy on which they differ is left as NUMBER.image, the script
+as NUMBER-run.differs.
 """
 
 import argparse
@@ -17,25 +19,16 @@ import pathlib
 import random
 import shlex
 import struct
-import subprocess
 import sys
-import tempfile
 from concurrent.futures import ThreadPoolExecutor
 
 import compare
-from compare import PAGE
+from compare import PAGE, ran
 
 NAME = "town"
 
-
-def ran(words, text, image):
-    """What a program answers and writes, and what it leaves in a folder that holds the image."""
-    with tempfile.TemporaryDirectory() as folder:
-        if image is not None:
-            pathlib.Path(folder, NAME).write_bytes(image)
-        done = subprocess.run(words, input=text, capture_output=True, check=False, cwd=folder, timeout=600)
-        images = {path.name: path.read_bytes() for path in pathlib.Path(folder).iterdir()}
-    return done.returncode, done.stdout, done.stderr.splitlines()[:1], images
+# Where the meta page has the version.
+VERSION = slice(4, 6)
 
 
 def pointers(image, block):
@@ -72,19 +65,32 @@ def change_inner(rng, image, at, blocks):
         change_number(rng, image, *field, blocks)
 
 
+def some_tuple(rng, image, block):
+    """Where a tuple begins, and its size: one that is no leaf as often as one of all."""
+    found = [(PAGE * block + begin, size) for begin, size in pointers(image, block) if PAGE * block + begin + 16 <= len(image)]
+    rare = [pointer for pointer in found if image[pointer[0]] != 2]
+    return rng.choice(rare if rare and rng.random() < 0.5 else found) if found else None
+
+
+def swap_links(rng, image, block):
+    """The links of two tuples change places: next offsets of a page, or downlinks of two nodes."""
+    first, second = some_tuple(rng, image, block), some_tuple(rng, image, block)
+    if first is None or image[first[0]] != image[second[0]]:
+        return
+    size = 6 if image[first[0]] == 1 else 2
+    one, other = (at + (8 + 8 * rng.randrange(max(1, length // 8 - 1)) if size == 6 else 4) for at, length in (first, second))
+    if max(one, other) + size <= len(image):
+        image[one : one + size], image[other : other + size] = image[other : other + size], image[one : one + size]
+
+
 def change_tuple(rng, image, block, blocks):
     """A field of a tuple, by what it is; or a tuple of the same size in the place of another."""
-    found = pointers(image, block)
-    if not found:
+    chosen, other = some_tuple(rng, image, block), some_tuple(rng, image, block)
+    if chosen is None:
         return
-    begin, size = rng.choice(found)
-    at = PAGE * block + begin
-    if at + 16 > len(image):
-        return
-    alike = [other for other, length in found if length == size and other != begin]
-    if alike and rng.random() < 0.15:
-        other = PAGE * block + rng.choice(alike)
-        image[at : at + size] = image[other : other + size]
+    at, size = chosen
+    if other[1] == size and rng.random() < 0.15:
+        image[at : at + size] = image[other[0] : other[0] + size]
         return
     tag = image[at]
     if tag == 1:
@@ -109,6 +115,8 @@ def change_once(rng, image):
     elif chance < 0.28 and block and pointers(image, block):
         item = rng.randrange(len(pointers(image, block)))
         change_number(rng, image, PAGE * block + 24 + 4 * item + 2 * rng.randrange(2), 2, blocks)
+    elif chance < 0.4 and block:
+        swap_links(rng, image, block)
     elif chance < 0.85 and block:
         change_tuple(rng, image, block, blocks)
     elif chance < 0.9 and blocks > 2:
@@ -132,6 +140,8 @@ def changed(rng, image):
     copy = bytearray(image)
     for _ in range(rng.choice([1, 1, 1, 1, 2, 3])):
         change_once(rng, copy)
+    if copy[VERSION] == b"\2\0":
+        copy[VERSION] = b"\3\0"
     return bytes(copy)
 
 
@@ -145,10 +155,10 @@ def words_of_run(rng):
     return ["run"] + [word for option in options for word in option]
 
 
-def script_of(rng, options, name):
-    """A script of this class."""
+def script_of(rng, large, name):
+    """A script of this class, one with many inserts in this part of cases."""
     kinds = [b"vacuum", b"stat", b"blank"]
-    make = compare.large if rng.random() < options.large else compare.small
+    make = compare.large if rng.random() < large else compare.small
     return make(rng, [name], kinds).rstrip(b"\n") + b"\n"
 
 
@@ -156,24 +166,23 @@ def on_copy(options, rng, label, name, image):
     """Compares both on one copy, and gives what the model says of it."""
     program, model = shlex.split(options.program), shlex.split(options.model)
     other = rng.choice(options.classes.split(",")) if rng.random() < 0.1 else name
-    text = script_of(rng, options, other) + b"save %s\nsave next\n" % NAME.encode()
+    text = script_of(rng, options.large / 10, other) + b"save %s\nsave next\n" % NAME.encode()
     lines = [["check", NAME], words_of_run(rng)]
-    answers = [[ran(command + line, text, image) for command in (program, model)] for line in lines]
-    same = all(compare.is_same(ours, wanted) for ours, wanted in answers)
-    if not same:
-        for line, (ours, wanted) in zip(lines, answers):
-            print(f"{label} {' '.join(line)}: {ours[:3] == wanted[:3]}, {ours[0]} and {wanted[0]}, {ours[2]} and {wanted[2]}")
+    before = {} if image is None else {NAME: image}
+    answers = [[ran(command + line, text, before) for command in (program, model)] for line in lines]
+    apart = [(line, both) for line, both in zip(lines, answers) if not compare.is_same(*both)]
+    for line, both in apart:
+        compare.show(f"{label}-{line[0]}", text, *both)
         pathlib.Path(f"{label}.image").write_bytes(image or b"")
-        pathlib.Path(f"{label}.differs").write_bytes(text)
     check = answers[0][1]
-    return (check[2][0].split()[-1].decode() if check[2] else "sound"), not same
+    return (check[2][0].split()[-1].decode() if check[2] else "sound"), bool(apart)
 
 
 def images_of(options, number):
     """An image that the model saves, with its class."""
     rng = random.Random(f"{options.seed} {number}")
     name = rng.choice(options.classes.split(","))
-    saved = ran(shlex.split(options.model) + ["run"], script_of(rng, options, name) + b"save %s\n" % NAME.encode(), None)
+    saved = ran(shlex.split(options.model) + ["run"], script_of(rng, options.large, name) + b"save %s\n" % NAME.encode(), {})
     return rng, name, saved[3].get(NAME)
 
 
