@@ -119,6 +119,22 @@ returns-clause-alone g c = λ none.
     (λ l. absurd (omega arith))
     c.seek-sought.ensures.alone
 
+pub returns-in_err-block-clause-refused_alone : goal.returns-in_err-block-clause-refused_alone
+returns-in_err-block-clause-refused_alone g c = on_err _ _ (λ none.
+    let m = g.O.OpClass.meaning in
+    ⊎_elim
+    (λ same. inr (alone m c.args.seat c.args.state.now c.open_scan.new.self c.abandon.new.self c.in_ok-open_scan.ensures.ok (subst (λ (s : Seen _ Point _ _). GivesUp s c.abandon.new.self c.args.seat Given) same c.abandon.ensures.up)))
+    (λ l. absurd (omega arith))
+    c.seek-sought.ensures.alone)
+
+pub returns-in_err-rows-in-Done-clause-refused_alone : goal.returns-in_err-rows-in-Done-clause-refused_alone
+returns-in_err-rows-in-Done-clause-refused_alone g c = on_err _ _ (λ none.
+    let m = g.O.OpClass.meaning in
+    ⊎_elim
+    (λ same. inr (alone m c.args.seat c.args.state.now c.open_scan.new.self c.abandon.new.self c.in_ok-open_scan.ensures.ok (subst (λ (s : Seen _ Point _ _). GivesUp s c.abandon.new.self c.args.seat Given) same c.abandon.ensures.up)))
+    (λ l. absurd (omega arith))
+    c.seek-sought.ensures.alone)
+
 pub returns-clause-walk : goal.returns-clause-walk
 returns-clause-walk g c = λ none last r.
     let m = g.O.OpClass.meaning in
