@@ -3,4 +3,4 @@
 
 mod nearest;
 
-pub use nearest::{Nearest, nearest};
+pub use nearest::{Nearest, find_nearest};

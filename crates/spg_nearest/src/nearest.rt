@@ -21,7 +21,7 @@ pub struct Nearest {
 /// Finds the rows nearest to a point, `limit` at most. No seat has anything open, before and after. The
 /// pages stay as they are, and the journal has two events more: a scan of all rows that opens, and is
 /// left. After a refusal nothing was found.
-pub fn nearest<O: NearClass>(
+pub fn find_nearest<O: NearClass>(
     alloc: Global,
     state: &mut State<O>,
     seat: SeatNo,

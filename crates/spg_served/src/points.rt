@@ -4,7 +4,7 @@ use crate::served::Served;
 use spg_base::{Memory, Point, SeatNo};
 use spg_core::State;
 use spg_kd::Kd;
-use spg_nearest::{Nearest, nearest};
+use spg_nearest::{Nearest, find_nearest};
 use spg_quad::Quad;
 use std::alloc::Global;
 
@@ -18,7 +18,7 @@ impl Served for Quad {
     ) -> Result<Option<Nearest>, Memory> {
         // The pages are well formed.
         let _ = state.pages();
-        Ok(Some(nearest(alloc, state, seat, target, limit)?))
+        Ok(Some(find_nearest(alloc, state, seat, target, limit)?))
     }
 }
 
@@ -32,6 +32,6 @@ impl Served for Kd {
     ) -> Result<Option<Nearest>, Memory> {
         // The pages are well formed.
         let _ = state.pages();
-        Ok(Some(nearest(alloc, state, seat, target, limit)?))
+        Ok(Some(find_nearest(alloc, state, seat, target, limit)?))
     }
 }
