@@ -1,5 +1,5 @@
 -- A search for the nearest rows in a run: its answer, and what it meets, by the class's keys of points.
-use Rattle.std.specs.Prelude.{◌≡◌, ◌⊎◌, ◌≤◌, ◌+◌, ◌-◌, ◌^◌, ◌++◌, ◌&&◌, ℕ, suc, Bool, true, List, [], ◌∷◌, Option, Some, None, Contains, get_or, length, ⊤}
+use Rattle.std.specs.Prelude.{◌≡◌, ◌⊎◌, ◌<◌, ◌≤◌, ◌+◌, ◌-◌, ◌^◌, ◌++◌, ◌&&◌, ℕ, suc, Bool, true, List, [], ◌∷◌, Option, Some, None, Contains, get_or, length, ⊤}
 use Rattle.std.specs.List.Sorted.{IsStrictlySortedBy}
 use Rattle.spg_base.specs.Row.{RowAt}
 use Rattle.spg_base.specs.declared.point.Point.{Point}
@@ -52,32 +52,31 @@ pub record Region (Key Recon : Type 0) : Type 0 where
   pub recon : Recon
   pub may : Key → Bool
 
-module _ {Key Recon Cond : Type 0} (m : Meaning Key Recon Cond) (speech : Speech Key Cond) where
-  -- the children at the given nodes that are not empty: below one stand the keys that its node admits
-  abbrev pub regions_below : Region Key Recon → Frame → List (Option Place) → List ℕ → List (Region Key Recon)
-  regions_below r w ns [] = []
-  regions_below r w ns (i ∷ is) = elim (get_or ns i None) [
-    | None ↦ regions_below r w ns is
-    | Some y ↦ record { place = y; recon = m.down r.recon w i; may = λ key. r.may key && m.admits r.recon w i key } ∷ regions_below r w ns is
-  ]
+-- the children at the given nodes that are not empty: below one stand the keys that its node admits
+abbrev pub regions_below : {Key Recon Cond : Type 0} → Meaning Key Recon Cond → Region Key Recon → Frame → List (Option Place) → List ℕ → List (Region Key Recon)
+regions_below m r w ns [] = []
+regions_below m r w ns (i ∷ is) = elim (get_or ns i None) [
+  | None ↦ regions_below m r w ns is
+  | Some y ↦ record { place = y; recon = m.down r.recon w i; may = λ key. r.may key && m.admits r.recon w i key } ∷ regions_below m r w ns is
+]
 
-  -- From these places on n inner, leaf and dead tuples stand at places whose bound is at most the last distance, or anywhere where there is no last distance. Below a place whose bound is more there is no such place
-  pub data MetWithin (S : Sheets) (p : Point) (last : Option ℕ) : List (Region Key Recon) → ℕ → Type 0 where
-    done : MetWithin S p last [] 0
-    beyond : {r : Region Key Recon} {regions : List (Region Key Recon)} {n bound : ℕ} → IsLeast speech p r.may bound → IsBeyond last bound → MetWithin S p last regions n → MetWithin S p last (r ∷ regions) n
-    inner : {r : Region Key Recon} {regions : List (Region Key Recon)} {n bound : ℕ} {w : Frame} {ns : List (Option Place)} → IsLeast speech p r.may bound → IsWithin last bound → spots S r.place ≡ Branch w ns →
-        MetWithin S p last (regions_below r w ns (below (length ns)) ++ regions) n → MetWithin S p last (r ∷ regions) (suc n)
-    leaves : {r : Region Key Recon} {regions : List (Region Key Recon)} {n bound : ℕ} {ls : List Leaf} → IsLeast speech p r.may bound → IsWithin last bound → spots S r.place ≡ Bucket ls →
-        MetWithin S p last regions n → MetWithin S p last (r ∷ regions) (met_at r.place ls + n)
+-- From these places on n inner, leaf and dead tuples stand at places whose bound is at most the last distance, or at all places where there is no last distance. Below a place whose bound is more there is no such place
+pub data MetWithin {Key Recon Cond : Type 0} (m : Meaning Key Recon Cond) (speech : Speech Key Cond) (S : Sheets) (p : Point) (last : Option ℕ) : List (Region Key Recon) → ℕ → Type 0 where
+  done : MetWithin m speech S p last [] 0
+  beyond : {r : Region Key Recon} {regions : List (Region Key Recon)} {n bound : ℕ} → IsLeast speech p r.may bound → IsBeyond last bound → MetWithin m speech S p last regions n → MetWithin m speech S p last (r ∷ regions) n
+  inner : {r : Region Key Recon} {regions : List (Region Key Recon)} {n bound : ℕ} {w : Frame} {ns : List (Option Place)} → IsLeast speech p r.may bound → IsWithin last bound → spots S r.place ≡ Branch w ns →
+      MetWithin m speech S p last (regions_below m r w ns (below (length ns)) ++ regions) n → MetWithin m speech S p last (r ∷ regions) (suc n)
+  leaves : {r : Region Key Recon} {regions : List (Region Key Recon)} {n bound : ℕ} {ls : List Leaf} → IsLeast speech p r.may bound → IsWithin last bound → spots S r.place ≡ Bucket ls →
+      MetWithin m speech S p last regions n → MetWithin m speech S p last (r ∷ regions) (met_at r.place ls + n)
 
-  -- of the main tree
-  abbrev pub WalkWithin : Sheets → Point → Option ℕ → ℕ → Type 0
-  WalkWithin S p last n = MetWithin S p last (record { place = place 1 0; recon = m.start; may = m.is_key } ∷ []) n
+-- of the main tree
+abbrev pub WalkWithin : {Key Recon Cond : Type 0} → Meaning Key Recon Cond → Speech Key Cond → Sheets → Point → Option ℕ → ℕ → Type 0
+WalkWithin m speech S p last n = MetWithin m speech S p last (record { place = place 1 0; recon = m.start; may = m.is_key } ∷ []) n
 
-  -- what such a search printed as its walk, counted in 64 bits, is the number of tuples within the last distance of its rows
-  abbrev pub WalksNear : Sheets → Point → ℕ → List NearRow → ℕ → Type 0
-  WalksNear S p limit rows walk = (last : Option ℕ) → IsReach limit rows last → (n : ℕ) × WalkWithin S p last n × (walk ≡ counted n)
+-- what such a search printed as its walk, counted in 64 bits, is the number of tuples within the last distance of its rows
+abbrev pub WalksNear : {Key Recon Cond : Type 0} → Meaning Key Recon Cond → Speech Key Cond → Sheets → Point → ℕ → List NearRow → ℕ → Type 0
+WalksNear m speech S p limit rows walk = (last : Option ℕ) → IsReach limit rows last → (n : ℕ) × WalkWithin m speech S p last n × (walk ≡ counted n)
 
-  abbrev pub TellsNear : Sheets → List NearRow → ℕ → Command → Type 0
-  TellsNear S rows walk (asked.Near target limit) = WalksNear S target limit rows walk
-  TellsNear S rows walk c = ⊤
+abbrev pub TellsNear : {Key Recon Cond : Type 0} → Meaning Key Recon Cond → Speech Key Cond → Sheets → List NearRow → ℕ → Command → Type 0
+TellsNear m speech S rows walk (asked.Near target limit) = WalksNear m speech S target limit rows walk
+TellsNear m speech S rows walk c = ⊤

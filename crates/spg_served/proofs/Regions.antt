@@ -12,7 +12,7 @@ use Rattle.spg_forest.specs.Classes.{HasRecon, down_of}
 use Rattle.spg_forest.specs.Pages.{place}
 use Rattle.spg_forest.specs.Sheets.{Sheets}
 use Rattle.spg_forest.specs.Shape.{Shape, spots}
-use Rattle.spg_forest.specs.Walk.{below}
+use Rattle.spg_forest.specs.Walk.{below, met_at}
 use Rattle.spg_forest.proofs.Relocate.{within_from_some}
 use Rattle.spg_scan.proofs.CoverRoots.{main_stands}
 use Rattle.spg_scan.proofs.CoverWays.{main_tuple, node_count}
@@ -84,13 +84,13 @@ module _ {Recon : Type 0} (m : Meaning Point Recon PointCond) (boxing : Boxing R
       plane = λ q h. like.plane q (narrows it.recon w j it.area q h);
     }
 
-  children_like : (it : NearItem Recon) (r : Region Point Recon) → IsLike it r → (w : Frame) (ns : List (Option Place)) → spots S it.place ≡ Branch w ns → (is : List ℕ) → AreLike (near_children m boxing it w ns is) (regions_below m point_speech r w ns is)
+  children_like : (it : NearItem Recon) (r : Region Point Recon) → IsLike it r → (w : Frame) (ns : List (Option Place)) → spots S it.place ≡ Branch w ns → (is : List ℕ) → AreLike (near_children m boxing it w ns is) (regions_below m r w ns is)
   children_like it r like w ns e [] = tt
   children_like it r like w ns e (j ∷ is) = go (get_or ns j None) refl (children_like it r like w ns e is)
     where
-      go : (o : Option Place) → get_or ns j None ≡ o → AreLike (near_children m boxing it w ns is) (regions_below m point_speech r w ns is) →
+      go : (o : Option Place) → get_or ns j None ≡ o → AreLike (near_children m boxing it w ns is) (regions_below m r w ns is) →
           AreLike (elim o [ None ↦ near_children m boxing it w ns is | Some y ↦ record { place = y; recon = m.down it.recon w j; area = boxing it.recon w j it.area } ∷ near_children m boxing it w ns is ])
-          (elim o [ None ↦ regions_below m point_speech r w ns is | Some y ↦ record { place = y; recon = m.down r.recon w j; may = λ key. r.may key && m.admits r.recon w j key } ∷ regions_below m point_speech r w ns is ])
+          (elim o [ None ↦ regions_below m r w ns is | Some y ↦ record { place = y; recon = m.down r.recon w j; may = λ key. r.may key && m.admits r.recon w j key } ∷ regions_below m r w ns is ])
       go None link rest = rest
       go (Some y) link rest = (child_like it r like w ns e j y link, rest)
 
@@ -103,13 +103,13 @@ module _ {Recon : Type 0} (m : Meaning Point Recon PointCond) (boxing : Boxing R
   met_within last items n (NearMet.inner {it = it} {items = more} {n = k} {w = w} {ns = ns} near e t) [] like = absurd like
   met_within last items n (NearMet.inner {it = it} {items = more} {n = k} {w = w} {ns = ns} near e t) (r ∷ rs) like =
       let cs : List (NearItem Recon) = near_children m boxing it w ns (below (length ns)) in
-      let qs : List (Region Point Recon) = regions_below m point_speech r w ns (below (length ns)) in
-      MetWithin.inner (least it r like.0) near (ap (spots S) (IsLike.place_is like.0) ∙ e)
+      let qs : List (Region Point Recon) = regions_below m r w ns (below (length ns)) in
+      MetWithin.inner (least it r like.0) near (ap (spots S) like.0.place_is ∙ e)
       (met_within last (cs ++ more) k t (qs ++ rs) (like_append cs more qs rs (children_like it r like.0 w ns e (below (length ns))) like.1))
   met_within last items n (NearMet.leaves {it = it} {items = more} {n = k} {ls = ls} near e t) [] like = absurd like
   met_within last items n (NearMet.leaves {it = it} {items = more} {n = k} {ls = ls} near e t) (r ∷ rs) like =
-      subst (λ (x : Place). MetWithin m point_speech S p last (r ∷ rs) (Rattle.spg_forest.specs.Walk.met_at x ls + k)) (IsLike.place_is like.0)
-      (MetWithin.leaves (least it r like.0) near (ap (spots S) (IsLike.place_is like.0) ∙ e) (met_within last more k t rs like.1))
+      subst (λ (x : Place). MetWithin m point_speech S p last (r ∷ rs) (met_at x ls + k)) like.0.place_is
+      (MetWithin.leaves (least it r like.0) near (ap (spots S) like.0.place_is ∙ e) (met_within last more k t rs like.1))
 
   -- the whole tree
   pub walk_within : ((q : Point) → m.is_key q ≡ in_box whole_plane q) → ((q : Point) → in_box whole_plane q ≡ true → is_point q ≡ true) → (last : Option ℕ) (n : ℕ) → NearWalk m boxing S p last n → WalkWithin m point_speech S p last n
