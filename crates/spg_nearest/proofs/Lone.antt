@@ -17,6 +17,7 @@ use Rattle.spg_core.proofs.Growing.{grows_as}
 use Rattle.spg_near.specs.declared.near_row.NearRow.{NearRow}
 use Rattle.spg_near.specs.Nearing.{Boxing}
 use Rattle.spg_near.specs.NearRight.{NearRight}
+use Rattle.spg_among.specs.declared.among.NearOut.{NearOut}
 use Rattle.spg_among.specs.declared.among.NearOut.TheVariants as out
 use Rattle.spg_among.specs.Among.{IsAlone, IsEndedAt, IsNearOut, HasWalked}
 use Rattle.spg_among.proofs.Amongs.{past_more}
@@ -54,10 +55,19 @@ module _ {O Recon Cond : Type 0} (m : Meaning Point Recon Cond) (boxing : Boxing
       let all : Leave seat ∷ past ≡ Leave seat ∷ e ∷ past_of old = sym E.journal ∙ two in
       (cc)
 
-  pub finds : (rows : List NearRow) (met : ℕ) (span : _) → IsAlone old new seat → IsNearOut m old new seat target limit (out.Near rows met span) → HasWalked m boxing old target limit (out.Near rows met span) → FindsNearest m boxing old new seat target limit rows met
+  finds : (rows : List NearRow) (met : ℕ) (span : _) → IsAlone old new seat → IsNearOut m old new seat target limit (out.Near rows met span) → HasWalked m boxing old target limit (out.Near rows met span) → FindsNearest m boxing old new seat target limit rows met
   finds rows met span a ((past, E, right), spans) walked = record {
     did = did old new seat closed a;
     pages = a.pages;
     right = subst (λ (h : History O Point Recon Cond). NearRight (past_of old) h target limit rows) (before_end past a E) right;
     walk = λ last r. let (n, walk, is) = walked last r in (n, walk, sym is);
   }
+
+  pub found : (answer : NearOut) (rows : List NearRow) (met : ℕ) (span : _) → answer ≡ out.Near rows met span → IsAlone old new seat → IsNearOut m old new seat target limit answer → HasWalked m boxing old target limit answer → FindsNearest m boxing old new seat target limit rows met
+  found answer rows met span is a near walked = finds rows met span a (subst (λ (x : NearOut). IsNearOut m old new seat target limit x) is near) (subst (λ (x : NearOut). HasWalked m boxing old target limit x) is walked)
+
+  -- it did not stop at a block that another seat holds
+  pub not_latched : (answer : NearOut) (block by : ℕ) → answer ≡ out.Latched block by → IsAlone old new seat → IsNearOut m old new seat target limit answer → LatchesAre new.table new.stages → IsStageOf (open_of by (past_of new)) (stage_at new by) → ⊥
+  not_latched answer block by is a near latches stage =
+      let (ended, held, other) = subst (λ (x : NearOut). IsNearOut m old new seat target limit x) is near in
+      no_latch old new seat closed a latches block by stage held other

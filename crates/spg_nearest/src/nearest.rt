@@ -35,7 +35,8 @@ pub fn find_nearest<O: NearClass>(
 {
     // The seat is free.
     let _ = state.open_of(seat);
-    match near_among(alloc, state, seat, target, limit, &mut Idle)? {
+    let answer = near_among(alloc, state, seat, target, limit, &mut Idle)?;
+    match answer {
         NearOut::Near { rows, met, .. } => Ok(Nearest { rows, met }),
         NearOut::Latched { by, .. } => {
             // Each latch is that of an insert that its seat has open.

@@ -110,8 +110,9 @@ module _ {O Key Recon Cond : Type 0} (m : Meaning Key Recon Cond) (speech : Spee
   found query q asked r (Err n) F (inl same) spans = rests m speech s0 s1 seat true (Find query) outcome.Memory r spans same idle (λ block. inl refl) tt tt (λ z. tt) tt tt
   found query q asked r (Err n) F (inr (D, pages)) spans = did m speech s0 s1 seat true idle idle_then right (Find query) outcome.Memory r spans (OpenScan seat q ∷ Leave seat ∷ []) D (refl, (refl, tt)) (λ block. inr (q, asked, refl)) tt tt (λ z. pages.0) (λ z. tt) tt tt
 
-  -- ---- searches for the nearest rows
+-- ---- searches for the nearest rows
 
+module _ {O Key Recon Cond : Type 0} (m : Meaning Key Recon Cond) (speech : Speech Key Cond) (s0 s1 : Seen O Key Recon Cond) (seat : ℕ) where
   pub answered : (target : Point) (limit : ℕ) → IsKnown speech (Near target limit) → (result : Result (Option Nearest) NoMemory) → IfOk result (λ found. IsServed m speech s0 s1 seat target limit found) → IsAnswered result
   answered target limit known (Ok (Some found)) served = tt
   answered target limit known (Ok None) served = served.0 known.0 known.1
@@ -123,6 +124,7 @@ module _ {O Key Recon Cond : Type 0} (m : Meaning Key Recon Cond) (speech : Spee
   closed_then target limit closed (Err n) served (inl same) = subst (λ (s : Seen O Key Recon Cond). AllClosed (past_of s)) (sym same) closed
   closed_then target limit closed (Err n) served (inr (D, pages)) = D.closed
 
+module _ {O Key Recon Cond : Type 0} (m : Meaning Key Recon Cond) (speech : Speech Key Cond) (s0 s1 : Seen O Key Recon Cond) (seat : ℕ) (idle : stage_at s0 seat ≡ free) (idle_then : stage_at s1 seat ≡ free) (right : Right m s1.journal) where
   pub nearest : (target : Point) (limit : ℕ) → IsKnown speech (Near target limit) → (r : Record) (result : Result (Option Nearest) NoMemory) → IfOk result (λ found. IsServed m speech s0 s1 seat target limit found) → OnErr result (FindsNone s0 s1 seat asks.All)
       → Spans r (near_outcome result) (length s0.journal) (length s1.journal) → Acts m speech s0 s1 seat true (Near target limit) r
   nearest target limit known r (Ok (Some found)) served e spans =

@@ -219,12 +219,16 @@ near_of-spelled target limit is some few =
     let small : limit < 2 ^ 32 = omega arith in
     rw (split_at-front 32 (point_text target) (decimal limit) (point_apart 32 target (omega arith) is)) (rw (point_of-text target is, number_of-decimal limit small) (near_at-is target limit some few))
 
+positive : (n : ℕ) → (n ≡ 0 → ⊥) → 0 < n
+positive zero other = absurd (other refl)
+positive (suc n) other = omega arith
+
 near_at-some : (target : Point) (limit : ℕ) (c : Command) → near_at target limit ≡ Some c → (0 < limit) × (limit < 2 ^ 16) × (Near target limit ≡ c)
 near_at-some target limit c is = elim (eqb_tells limit 0) [
   | inl none ↦ let clash : None ≡ Some c = rw none.0 at is in (cc)
   | inr some ↦ elim (cases_lt 65535 limit) [
     | inl high ↦ let clash : None ≡ Some c = rw (some.0, lt-ltb 65535 limit high) at is in (cc)
-    | inr low ↦ let same : Some (Near target limit) ≡ Some c = rw (some.0, le-ltb 65535 limit (omega arith)) at is in (omega (arith, some.1), omega arith, same_Some _ _ same)
+    | inr low ↦ let same : Some (Near target limit) ≡ Some c = rw (some.0, le-ltb 65535 limit (omega arith)) at is in (positive limit some.1, omega arith, same_Some _ _ same)
   ]
 ]
 

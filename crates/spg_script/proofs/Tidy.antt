@@ -146,7 +146,7 @@ command_is texts (Find query) line are (bytes, all, spelled) = query_is texts qu
 command_is texts Vacuum line are is = tt
 command_is texts (Save name) line are is = is.1
 command_is texts Stat line are is = tt
-command_is false (Near target limit) line are is = is.1
+command_is false (Near target limit) line are is = (is.1, is.2, is.3)
 command_is true (Near target limit) line are is = absurd is
 
 -- ---- scripts

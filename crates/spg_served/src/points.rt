@@ -18,7 +18,8 @@ impl Served for Quad {
     ) -> Result<Option<Nearest>, Memory> {
         // The pages are well formed.
         let _ = state.pages();
-        Ok(Some(find_nearest(alloc, state, seat, target, limit)?))
+        let found = find_nearest(alloc, state, seat, target, limit)?;
+        Ok(Some(found))
     }
 }
 
@@ -32,6 +33,7 @@ impl Served for Kd {
     ) -> Result<Option<Nearest>, Memory> {
         // The pages are well formed.
         let _ = state.pages();
-        Ok(Some(find_nearest(alloc, state, seat, target, limit)?))
+        let found = find_nearest(alloc, state, seat, target, limit)?;
+        Ok(Some(found))
     }
 }
