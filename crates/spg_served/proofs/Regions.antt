@@ -16,7 +16,7 @@ use Rattle.spg_forest.specs.Walk.{below, met_at}
 use Rattle.spg_forest.proofs.Relocate.{within_from_some}
 use Rattle.spg_scan.proofs.CoverRoots.{main_stands}
 use Rattle.spg_scan.proofs.CoverWays.{main_tuple, node_count}
-use Rattle.spg_near.specs.Boxes.{in_box, distance, bound_of, whole_plane}
+use Rattle.spg_near.specs.Boxes.{in_box, distance, bound_of, whole_plane, IsBound}
 use Rattle.spg_near.specs.Nearing.{NearItem, Boxing, near_children}
 use Rattle.spg_near.specs.NearRest.{NearMet, NearWalk}
 use Rattle.spg_near.specs.Laws.{CutLaw, NarrowLaw}
@@ -47,13 +47,14 @@ module _ {Recon : Type 0} (m : Meaning Point Recon PointCond) (boxing : Boxing R
 
   -- the bound
   least : (it : NearItem Recon) (r : Region Point Recon) → IsLike it r → IsLeast point_speech p r.may (bound_of p it.area)
-  least it r like = ⊎_elim
-      (λ ((q, inside, far), all). inl ((q, q, refl, like.may_is q ∙ inside, far), λ z key is h. all z (boxed z key is h)))
-      (λ (none, e). inr ((λ z key is h. none z (boxed z key is h)), e))
-      (bound_is_least p it.area)
+  least it r like = go (bound_is_least p it.area)
     where
       boxed : (z key : Point) → Some z ≡ Some key → r.may key ≡ true → in_box it.area z ≡ true
       boxed z key is h = sym (like.may_is z) ∙ ap r.may (same_Some z key is) ∙ h
+
+      go : IsBound p it.area (bound_of p it.area) → IsLeast point_speech p r.may (bound_of p it.area)
+      go (inl ((q, inside, far), all)) = inl ((q, q, refl, like.may_is q ∙ inside, far), λ z key is h. all z (boxed z key is h))
+      go (inr (none, e)) = inr ((λ z key is h. none z (boxed z key is h)), e)
 
   -- a child
   module _ (it : NearItem Recon) (r : Region Point Recon) (like : IsLike it r) (w : Frame) (ns : List (Option Place)) (e : spots S it.place ≡ Branch w ns) (j : ℕ) (y : Place) (link : get_or ns j None ≡ Some y) where

@@ -1,5 +1,5 @@
 -- A search for the nearest rows, as a class of points serves it.
-use Rattle.std.proofs.Common.{◌≡◌, ℕ, true, List, ◌∷◌, Option, Some, Contains, refl, sym, ap, ◌∙◌, subst}
+use Rattle.std.proofs.Common.{◌≡◌, ◌<◌, ◌⊎◌, ℕ, true, List, ◌∷◌, Option, Some, Contains, length, refl, sym, ap, ◌∙◌, subst}
 use Rattle.std.proofs.lemmas.Option.{same_Some}
 use Rattle.spg_base.specs.Row.{RowAt}
 use Rattle.spg_base.specs.declared.point.Point.{Point}
@@ -13,7 +13,7 @@ use Rattle.spg_tree.specs.Table.{sheets_of}
 use Rattle.spg_core.specs.Seen.{Seen, past_of}
 use Rattle.spg_near.specs.declared.near_row.NearRow.{NearRow}
 use Rattle.spg_near.specs.Boxes.{in_box, whole_plane}
-use Rattle.spg_near.specs.Nearing.{Boxing}
+use Rattle.spg_near.specs.Nearing.{Boxing, IsBefore}
 use Rattle.spg_near.specs.NearRight.{NearRight, near_of}
 use Rattle.spg_near.specs.Laws.{CutLaw, NarrowLaw}
 use Rattle.spg_nearest.specs.Finds.{FindsNearest}
@@ -30,7 +30,7 @@ nearest_are before past p limit rows right = record {
   found = λ h c. let (life, key, has, is, lived, e) = right.found h c in (life, key, key, has, is, refl, lived, e);
   complete = λ row life key q has is of put kill near.
       let same : q ≡ key = same_Some q key of in
-      subst (λ (k : Point). Contains rows (near_of p row k)) (sym same) (right.complete row life key has is put kill (subst (λ (k : Point). _) same near));
+      subst (λ (k : Point). Contains rows (near_of p row k)) (sym same) (right.complete row life key has is put kill (subst (λ (k : Point). (length rows < limit) ⊎ ((last : NearRow) × Contains rows last × IsBefore (near_of p row k) last)) same near));
 }
 
 pub serves : {O Recon : Type 0} (m : Meaning Point Recon PointCond) (boxing : Boxing Recon) → CutLaw m boxing → NarrowLaw boxing → ((q : Point) → m.is_key q ≡ in_box whole_plane q) → ((q : Point) → in_box whole_plane q ≡ true → is_point q ≡ true)

@@ -25,6 +25,6 @@ pub trait Served: Spoken {
     ) -> Result<Option<Nearest>, Memory>
         requires closed { AllClosed (past_of state.old) }
         requires some { 0 < limit }
-        ensures ok { IfOk result (λ found. IsServed Self.OpClass.meaning Self.Spoken.speech state.old state.new seat target limit found) }
+        ensures ok { IfOk result (λ found. IsServed Self.meaning Self.speech state.old state.new seat target limit found) }
         ensures err { OnErr result (FindsNone state.old state.new seat All) };
 }
