@@ -56,7 +56,7 @@ module _ {O Recon Cond : Type 0} (m : Meaning Point Recon Cond) (boxing : Boxing
       (cc)
 
   finds : (rows : List NearRow) (met : ℕ) (span : _) → IsAlone old new seat → IsNearOut m old new seat target limit (out.Near rows met span) → HasWalked m boxing old target limit (out.Near rows met span) → FindsNearest m boxing old new seat target limit rows met
-  finds rows met span a ((past, E, right), spans) walked = record {
+  finds rows met span a ((past, E, right), from, to) walked = record {
     did = did old new seat closed a;
     pages = a.pages;
     right = subst (λ (h : History O Point Recon Cond). NearRight (past_of old) h target limit rows) (before_end past a E) right;

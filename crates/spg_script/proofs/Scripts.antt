@@ -34,7 +34,7 @@ command_printed texts (Find query) is = (any_query_text query, refl, query_print
 command_printed texts Vacuum is = refl
 command_printed texts (Save name) is = (refl, is)
 command_printed texts Stat is = refl
-command_printed false (Near target limit) is = (refl, is)
+command_printed false (Near target limit) is = (refl, is.0, is.1, is.2)
 command_printed true (Near target limit) is = absurd is
 
 row_no_lf : (row : RowAt) → IsRow row → HasNo 10 (row_text row)
