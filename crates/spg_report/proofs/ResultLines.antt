@@ -70,6 +70,9 @@ stat_parts s fits =
     behind (codes "pages") s.pages _ _ refl fits.pages (behind (codes "inner") s.inner _ _ refl fits.inner (behind (codes "leaf") s.leaf _ _ refl fits.leaf (behind (codes "redirect") s.redirect _ _ refl fits.redirect
     (behind (codes "dead") s.dead _ _ refl fits.dead (behind (codes "placeholder") s.placeholder _ _ refl fits.placeholder (last_behind (codes "clock") s.clock refl fits.clock))))))
 
+near_grouped : (count walk rows : List ℕ) → codes "near " ++ count ++ codes " walk " ++ walk ++ rows ≡ codes "near" ++ 32 ∷ (count ++ 32 ∷ (codes "walk" ++ 32 ∷ (walk ++ rows)))
+near_grouped count walk rows = simp append_assoc refl
+
 outcome_parts : (o : Outcome) → FitsOutcome o → parts_at 32 (outcome_text o) ≡ outcome_words o
 outcome_parts outcome.Added fits = refl
 outcome_parts outcome.RowUsed fits = refl
@@ -90,8 +93,7 @@ outcome_parts (outcome.Saved pages) fits = last_behind (codes "saved") pages ref
 outcome_parts outcome.ImageFault fits = refl
 outcome_parts (outcome.Stat counts) fits = ap (parts_at 32) (stat_grouped counts) ∙ ap (λ l. codes "stat" ∷ l) (stat_parts counts fits)
 outcome_parts (outcome.Near rows walk) fits =
-    let grouped : outcome_text (outcome.Near rows walk) ≡ codes "near" ++ 32 ∷ (decimal (length rows) ++ 32 ∷ (codes "walk" ++ 32 ∷ (decimal walk ++ near_rows_text rows))) = simp append_assoc refl in
-    ap (parts_at 32) grouped
+    ap (parts_at 32) (near_grouped (decimal (length rows)) (decimal walk) (near_rows_text rows))
     ∙ behind (codes "near") (length rows) (codes "walk" ++ 32 ∷ (decimal walk ++ near_rows_text rows)) (codes "walk" ∷ decimal walk ∷ map near_row_text rows) refl fits.1
     (ap (λ l. codes "walk" ∷ l) (near_rows_parts (decimal walk) rows (digits_apart walk fits.2) fits.0))
 outcome_parts outcome.Memory fits = refl
