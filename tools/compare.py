@@ -2,7 +2,7 @@
 """Compares the program with another model of it on random scripts.
 
     compare.py --program 'PATH run' --model 'PATH run' [--count N] [--seed S] [--large PART] [--classes quad,kd,radix]
-        [--trips N] [--no-vacuum] [--no-save] [--no-stat] [--no-blank]
+        [--trips N] [--no-vacuum] [--no-save] [--no-stat] [--no-blank] [--no-near]
 
 Both commands read a script from standard input, each in a folder of its own. They must write the same text, end with
 the same status, name the same bad line, and save images of the same pages: the same header, and the same tuples in the
@@ -10,7 +10,7 @@ order of their offsets. Where the tuples stand on a page, and its free bytes, ma
 alone is told. A script on which they differ is left as NAME.differs. Small scripts have edges and bad lines; large ones
 have hundreds to thousands of inserts of one shape, with deletes, vacuums and finds between and behind them, and rows
 used again. With `--trips N` N scripts of one class are run one after another: each saves the index, and the next goes on
-from that image, both commands with `--from` behind them. The last four options leave lines out.
+from that image, both commands with `--from` behind them. The last five options leave lines out.
 """
 
 import argparse
@@ -53,6 +53,12 @@ class Points:
 
     def key(self, i):
         return b"%d,%d" % self.at(i)
+
+    def nearest(self):
+        """A search for the nearest rows of a point that may have a key or may be an edge."""
+        rng = self.rng
+        x, y = self.at(rng.randrange(4000)) if rng.random() < 0.8 else (rng.choice(EDGES), rng.choice(EDGES))
+        return b"near %d,%d %d" % (x, y, rng.choice([1, 1, 2, 3, 10, 100, 1000, 65535]))
 
     def condition(self):
         x, y = self.at(self.rng.randrange(4000))
@@ -102,7 +108,9 @@ class Texts:
         return kind + b" " + self.spelled(text[: self.rng.randint(0, len(text))])
 
 
-def query(rng, keys):
+def query(rng, keys, kinds):
+    if b"near" in kinds and isinstance(keys, Points) and rng.random() < 0.4:
+        return keys.nearest()
     chance = rng.random()
     if chance < 0.15:
         return b"find all"
@@ -146,7 +154,7 @@ def name_of(rng):
 
 def other(rng, kinds):
     """A line that is no insert, delete or find."""
-    kind = rng.choice(kinds)
+    kind = rng.choice([kind for kind in kinds if kind != b"near"] or [b"blank"])
     if kind == b"blank":
         return rng.choice([b"", b"#", b"# a remark", b"#insert 1.1 0,0"])
     return b"save " + name_of(rng) if kind == b"save" else kind
@@ -164,7 +172,7 @@ def small(rng, classes, kinds):
         elif chance < 0.25 and kinds:
             lines.append(other(rng, kinds))
         else:
-            lines.append(insert(rng, keys, i, row, 0.1) if chance < 0.8 else query(rng, keys))
+            lines.append(insert(rng, keys, i, row, 0.1) if chance < 0.8 else query(rng, keys, kinds))
     if b"blank" in kinds and rng.random() < 0.2:
         lines.insert(0, b"# before the class")
     if rng.random() < 0.2:
@@ -192,11 +200,11 @@ def large(rng, classes, kinds):
             row = rows[rng.randint(0, min(i + 3, count - 1))]
             lines.append(b"delete %d.%d" % (row // 300, row % 300 + 1))
         if rng.random() < 8 / count:
-            lines.append(query(rng, keys))
+            lines.append(query(rng, keys, kinds))
         if kinds and rng.random() < others / count:
             lines.append(other(rng, kinds))
     for _ in range(rng.randint(1, 6)):
-        lines.append(query(rng, keys))
+        lines.append(query(rng, keys, kinds))
         if kinds and rng.random() < 0.5:
             lines.append(other(rng, kinds))
     return b"\n".join(lines) + b"\n"
@@ -271,8 +279,14 @@ def scripts(rng, options):
 
 
 def kinds_of(options):
-    """The lines that stand between inserts, deletes and finds."""
-    kinds = [(options.vacuum, b"vacuum"), (options.save, b"save"), (options.stat, b"stat"), (options.blank, b"blank")]
+    """The lines that stand between inserts, deletes and finds, and searches for the nearest rows."""
+    kinds = [
+        (options.vacuum, b"vacuum"),
+        (options.save, b"save"),
+        (options.stat, b"stat"),
+        (options.blank, b"blank"),
+        (options.near, b"near"),
+    ]
     return [kind for wanted, kind in kinds if wanted]
 
 
@@ -305,7 +319,7 @@ def main():
     parser.add_argument("--large", type=float, default=0.3, help="the part of scripts with many inserts")
     parser.add_argument("--classes", default="quad,kd,radix")
     parser.add_argument("--trips", type=int, default=1, help="how many scripts go on from each other")
-    for kind in ("vacuum", "save", "stat", "blank"):
+    for kind in ("vacuum", "save", "stat", "blank", "near"):
         parser.add_argument(f"--{kind}", action=argparse.BooleanOptionalAction, default=True)
     parser.add_argument("--jobs", type=int, default=os.cpu_count())
     return 1 if compare(parser.parse_args()) else 0

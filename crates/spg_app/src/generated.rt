@@ -15,7 +15,8 @@ use spg_opclass::SharedClass;
 use spg_perform::{Gate, perform};
 use spg_quad::Quad;
 use spg_radix::Radix;
-use spg_script::{ClassName, Script, Spoken, generate};
+use spg_script::{ClassName, Script, generate};
+use spg_served::Served;
 use spg_words::{Load, USUAL_PAGES};
 use std::sync::Wait;
 use std::thread::Threads;
@@ -24,7 +25,7 @@ use std::thread::Threads;
 /// of the run. There is no state where memory was wanting before the first command.
 fn run_load<
     R: AllocGlobal + Threads + Wait + Sync,
-    O: Spoken + SharedClass,
+    O: Served + SharedClass,
     K: Sink,
     M: Images,
     G: Gate,

@@ -12,7 +12,8 @@ use spg_io::{Images, IoRefused, Sink};
 use spg_opclass::SharedClass;
 use spg_perform::{Gate, perform};
 use spg_report::{Outcome, Record};
-use spg_script::{Script, Spoken};
+use spg_script::Script;
+use spg_served::Served;
 use spg_words::RunLine;
 use std::sync::Wait;
 use std::thread::Threads;
@@ -77,7 +78,7 @@ pub fn status_after(written: Result<(), IoRefused>, records: &[Record]) -> Statu
 /// was wanting before the first one.
 pub fn run_commands<
     R: AllocGlobal + Threads + Wait + Sync,
-    O: Spoken + SharedClass,
+    O: Served + SharedClass,
     K: Sink,
     M: Images,
     G: Gate,

@@ -70,6 +70,7 @@ no_save_in A (asked.Find query) lane of = of
 no_save_in A asked.Vacuum lane of = of
 no_save_in A (asked.Save name) lane of = lane
 no_save_in A asked.Stat lane of = of
+no_save_in A (asked.Near target limit) lane of = of
 
 lane_prints : (S : Sheets) (o : Outcome) → IsOfLane o → PrintsPages S o
 lane_prints S (outcome.Stat counts) is = absurd is

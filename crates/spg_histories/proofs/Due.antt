@@ -37,6 +37,7 @@ of_insert P Q (asked.Find query) from of = of
 of_insert P Q asked.Vacuum from of = of
 of_insert P Q (asked.Save name) from of = of
 of_insert P Q asked.Stat from of = of
+of_insert P Q (asked.Near target limit) from of = of
 
 both_insert : (P Q : RowAt → Option AnyKey → Type 0) (c : Command) → OfInsert P c → OfInsert Q c → OfInsert (λ row key. P row key × Q row key) c
 both_insert P Q (asked.Insert row key) one two = (one, two)
@@ -45,6 +46,7 @@ both_insert P Q (asked.Find query) one two = one
 both_insert P Q asked.Vacuum one two = one
 both_insert P Q (asked.Save name) one two = one
 both_insert P Q asked.Stat one two = one
+both_insert P Q (asked.Near target limit) one two = one
 
 of_delete : (P Q : RowAt → Type 0) (c : Command) → ((row : RowAt) → P row → Q row) → OfDelete P c → OfDelete Q c
 of_delete P Q (asked.Insert row key) from of = of
@@ -53,6 +55,7 @@ of_delete P Q (asked.Find query) from of = of
 of_delete P Q asked.Vacuum from of = of
 of_delete P Q (asked.Save name) from of = of
 of_delete P Q asked.Stat from of = of
+of_delete P Q (asked.Near target limit) from of = of
 
 of_vacuum : (P Q : Type 0) (c : Command) → (P → Q) → OfVacuum P c → OfVacuum Q c
 of_vacuum P Q (asked.Insert row key) from of = of
@@ -61,6 +64,7 @@ of_vacuum P Q (asked.Find query) from of = of
 of_vacuum P Q asked.Vacuum from of = from of
 of_vacuum P Q (asked.Save name) from of = of
 of_vacuum P Q asked.Stat from of = of
+of_vacuum P Q (asked.Near target limit) from of = of
 
 -- what was opened for the commands of a kind
 from_insert : (P : RowAt → Option AnyKey → Type 0) (A : Type 0) (c : Command) → ((row : RowAt) (key : Option AnyKey) → P row key → A) → OfInsert P c → A
@@ -70,6 +74,7 @@ from_insert P A (asked.Find query) from of = absurd of
 from_insert P A asked.Vacuum from of = absurd of
 from_insert P A (asked.Save name) from of = absurd of
 from_insert P A asked.Stat from of = absurd of
+from_insert P A (asked.Near target limit) from of = absurd of
 
 module _ {O Key Recon Cond : Type 0} where
   -- ---- positions of a legal journal

@@ -12,6 +12,7 @@ use Rattle.spg_rows.specs.declared.event.Why.TheVariants as cause
 use Rattle.spg_rows.specs.History.{History, seat_of, own}
 use Rattle.spg_script.specs.declared.any_key.AnyKey.{AnyKey}
 use Rattle.spg_script.specs.declared.any_query.AnyQuery.{AnyQuery}
+use Rattle.spg_script.specs.declared.any_query.AnyQuery.TheVariants.{All}
 use Rattle.spg_script.specs.declared.command.Command.{Command}
 use Rattle.spg_script.specs.declared.command.Command.TheVariants as asked
 use Rattle.spg_script.specs.Blocks.{Part}
@@ -46,6 +47,7 @@ why_of (outcome.OpenBy seat) = cause.Given
 why_of (outcome.Saved pages) = cause.Given
 why_of outcome.ImageFault = cause.Given
 why_of (outcome.Stat counts) = cause.Given
+why_of (outcome.Near rows walk) = cause.Given
 why_of outcome.Memory = cause.Given
 
 abbrev rows_of : Outcome → List RowAt
@@ -62,6 +64,7 @@ rows_of (outcome.OpenBy seat) = []
 rows_of (outcome.Saved pages) = []
 rows_of outcome.ImageFault = []
 rows_of (outcome.Stat counts) = []
+rows_of (outcome.Near rows walk) = []
 rows_of outcome.Memory = []
 
 -- ---- the load
@@ -153,6 +156,7 @@ module _ {O Key Recon Cond : Type 0} where
     said_up seat events asked.Vacuum is up = said_vacuum outcome.Memory seat up.0 (Leave seat) events (record { same = refl; named = tt }) up.1
     said_up seat events (asked.Save name) is up = absurd up
     said_up seat events asked.Stat is up = absurd up
+    said_up seat events (asked.Near target limit) is up = said_scan outcome.Memory seat All (Leave seat) events tt (record { same = refl; named = tt }) up
 
     said_by : (block seat : ℕ) (alone : Bool) (before : History O Key Recon Cond) (events : List (Event O Key Recon Cond)) (c : Command) (o : Outcome) → IsCommand texts c
         → Does speech (record { block = block; seat = seat; alone = alone; command = c }) before events o → AllByRecursion (IsSaid o) events
@@ -169,6 +173,7 @@ module _ {O Key Recon Cond : Type 0} where
     said_by block seat alone before events (asked.Save name) (outcome.Saved pages) is does = said_none (outcome.Saved pages) events does
     said_by block seat alone before events (asked.Save name) outcome.ImageFault is does = said_none outcome.ImageFault events does
     said_by block seat alone before events asked.Stat (outcome.Stat counts) is does = said_none (outcome.Stat counts) events does
+    said_by block seat alone before events (asked.Near target limit) (outcome.Near rows walk) is does = said_scan (outcome.Near rows walk) seat All (Leave seat) events tt (record { same = refl; named = tt }) does.0
     said_by block seat alone before events c outcome.Memory is (inl none) = said_none outcome.Memory events none
     said_by block seat alone before events c outcome.Memory is (inr up) = said_up seat events c is up
     said_by block seat alone before events c o is does = absurd does

@@ -86,6 +86,7 @@ no_save name (asked.Find query) lane = refl
 no_save name asked.Vacuum lane = refl
 no_save name (asked.Save other) lane = absurd lane
 no_save name asked.Stat lane = absurd lane
+no_save name (asked.Near target limit) lane = absurd lane
 
 pub no_stat : (A : Type 0) (c : Command) → IsLaneCommand c → OfStat A c → ⊥
 no_stat A (asked.Insert row key) lane of = of
@@ -94,6 +95,7 @@ no_stat A (asked.Find query) lane of = of
 no_stat A asked.Vacuum lane of = of
 no_stat A (asked.Save other) lane of = of
 no_stat A asked.Stat lane of = lane
+no_stat A (asked.Near target limit) lane of = of
 
 module _ {O Key Recon Cond : Type 0} (m : Meaning Key Recon Cond) (speech : Speech Key Cond) where
   leaf_of : (present : ℕ) (t : Task) (before : History O Key Recon Cond) (events : List (Event O Key Recon Cond)) (o : Outcome) → IsLaneCommand t.command → Does speech t before events o → LeafIs present o

@@ -1,4 +1,5 @@
 pub mod Tasks
+pub mod Nearest
 pub mod Run
 pub mod Blocks
 pub mod Exact

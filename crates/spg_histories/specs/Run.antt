@@ -1,8 +1,10 @@
 -- When a journal and a list of records are a run of a script.
-use Rattle.std.specs.Prelude.{◌≡◌, ◌<◌, ◌≤◌, ◌⊎◌, ◌-◌, ◌*◌, ◌++◌, ℕ, false, List, [], ◌∷◌, length, map, Option, is_some, Some, ⊤}
+use Rattle.std.specs.Prelude.{◌≡◌, ◌<◌, ◌≤◌, ◌⊎◌, ◌-◌, ◌*◌, ◌++◌, ℕ, true, false, List, [], ◌∷◌, length, map, Option, is_some, Some, ⊤}
 use Rattle.std.specs.List.{AllZip, AllByRecursion}
 use Rattle.spg_base.specs.Row.{RowAt}
+use Rattle.spg_base.specs.declared.point.Point.{Point}
 use Rattle.spg_opclass.specs.declared.query.Query.{Query}
+use Rattle.spg_opclass.specs.declared.query.Query.TheVariants as scan
 pub use Rattle.spg_rows.specs.declared.entry.Entry.{Entry}
 use Rattle.spg_rows.specs.declared.event.Event.{Event}
 use Rattle.spg_rows.specs.declared.event.Event.TheVariants.{OpenInsert, Put, Drop, Kill, OpenScan, CloseScan, OpenVacuum, Sweep, CloseVacuum, Leave}
@@ -14,6 +16,7 @@ use Rattle.spg_rows.specs.Told.{IsUsed}
 pub use Rattle.spg_calls.specs.Calls.{between, past_at, IsBySeat}
 use Rattle.spg_script.specs.declared.any_key.AnyKey.{AnyKey}
 use Rattle.spg_script.specs.declared.any_query.AnyQuery.{AnyQuery}
+use Rattle.spg_script.specs.declared.any_query.AnyQuery.TheVariants.{All}
 use Rattle.spg_script.specs.declared.command.Command.{Command}
 use Rattle.spg_script.specs.declared.command.Command.TheVariants as asked
 use Rattle.spg_script.specs.Speech.{Speech, key_or_null_in, query_in}
@@ -21,6 +24,7 @@ use Rattle.spg_report.specs.declared.outcome.Outcome.{Outcome}
 use Rattle.spg_report.specs.declared.outcome.Outcome.TheVariants as outcome
 use Rattle.spg_report.specs.declared.record.Record.{Record}
 use Rattle.spg_histories.specs.Tasks.{Task}
+use Rattle.spg_histories.specs.Nearest.{AreNearest}
 
 -- ---- kinds of commands
 
@@ -48,6 +52,10 @@ abbrev pub OfStat : Type 0 → Command → Type 0
 OfStat P asked.Stat = P
 OfStat P c = ⊥
 
+abbrev pub OfNear : (Point → ℕ → Type 0) → Command → Type 0
+OfNear P (asked.Near target limit) = P target limit
+OfNear P c = ⊥
+
 -- ---- the events of a command
 
 module _ {O Key Recon Cond : Type 0} (speech : Speech Key Cond) where
@@ -67,6 +75,7 @@ module _ {O Key Recon Cond : Type 0} (speech : Speech Key Cond) where
   abbrev pub GivesUp : ℕ → List (Event O Key Recon Cond) → Command → Type 0
   GivesUp seat events (asked.Insert row key) = Inserts seat row key (Drop seat row cause.Given ∷ []) events
   GivesUp seat events (asked.Find query) = Scans seat query (Leave seat) events
+  GivesUp seat events (asked.Near target limit) = Scans seat All (Leave seat) events
   GivesUp seat events asked.Vacuum = (n : ℕ) × Sweeps seat n (Leave seat) events
   GivesUp seat events c = ⊥
 
@@ -85,6 +94,7 @@ module _ {O Key Recon Cond : Type 0} (speech : Speech Key Cond) where
   Does t before events (outcome.Saved pages) = OfSave (events ≡ []) t.command
   Does t before events outcome.ImageFault = OfSave (events ≡ []) t.command
   Does t before events (outcome.Stat counts) = OfStat (events ≡ []) t.command
+  Does t before events (outcome.Near rows walk) = OfNear (λ target limit. Scans t.seat All (Leave t.seat) events × AreNearest speech before (OpenScan t.seat scan.All ∷ before) target limit rows × (t.alone ≡ true)) t.command
   Does t before events outcome.Memory = (events ≡ []) ⊎ GivesUp t.seat events t.command
 
 -- ---- records

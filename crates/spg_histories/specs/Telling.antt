@@ -13,6 +13,7 @@ use Rattle.spg_report.specs.declared.outcome.Outcome.TheVariants as outcome
 use Rattle.spg_report.specs.declared.record.Record.{Record}
 use Rattle.spg_histories.specs.Tasks.{Task}
 use Rattle.spg_histories.specs.Run.{Entry, Did, RunOf}
+use Rattle.spg_histories.specs.Nearest.{TellsNear}
 use Rattle.spg_histories.specs.Pages.{IsCount, TellsWalk, HoldsAt, present_at}
 
 -- a command that was done
@@ -29,11 +30,12 @@ steps_onto past (t ∷ tasks) (r ∷ records) = steps_onto (record { task = t; d
 abbrev pub steps_of : List Task → List Record → List Step
 steps_of tasks records = steps_onto [] tasks records
 
--- a find, a count or a save changes no page
+-- a find, a search for the nearest rows, a count or a save changes no page
 abbrev pub is_quiet_command : Command → Bool
 is_quiet_command (asked.Find query) = true
 is_quiet_command (asked.Save name) = true
 is_quiet_command asked.Stat = true
+is_quiet_command (asked.Near target limit) = true
 is_quiet_command c = false
 
 -- a quiet command outside lanes
@@ -59,11 +61,12 @@ LeafIs present (outcome.Stat counts) = counts.leaf ≡ present
 LeafIs present o = ⊤
 
 module _ {Key Recon Cond : Type 0} (O : Type 0) (m : Meaning Key Recon Cond) (speech : Speech Key Cond) where
-  -- what a record tells is true of the pages: a find tells the walk of its query, a save the number of pages, a count the counts
+  -- what a record tells is true of the pages: a find tells the walk of its query, a search for the nearest rows the tuples within its last distance, a save the number of pages, a count the counts
   abbrev pub TellsOf : Sheets → Command → Outcome → Type 0
   TellsOf g c (outcome.Found rows walk) = TellsWalk O m speech g walk c
   TellsOf g c (outcome.Saved pages) = length g.sheets ≡ pages
   TellsOf g c (outcome.Stat counts) = IsCount g counts
+  TellsOf g c (outcome.Near rows walk) = TellsNear m speech g rows walk c
   TellsOf g c o = ⊤
 
   abbrev pub Tells : Sheets → Step → Type 0

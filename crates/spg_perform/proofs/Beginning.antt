@@ -9,7 +9,7 @@ use Rattle.spg_rows.specs.Right.{Right}
 use Rattle.spg_tree.specs.Table.{sheets_of}
 use Rattle.spg_core.specs.Seen.{Seen, past_of}
 use Rattle.spg_script.specs.declared.command.Command.{Command}
-use Rattle.spg_script.specs.declared.command.Command.TheVariants.{Insert, Delete, Find, Vacuum, Save, Stat}
+use Rattle.spg_script.specs.declared.command.Command.TheVariants.{Insert, Delete, Find, Vacuum, Save, Stat, Near}
 use Rattle.spg_script.specs.Blocks.{Part, Script}
 use Rattle.spg_script.specs.Laws.{IsCommand}
 use Rattle.spg_script.specs.Line.{has_texts}
@@ -33,6 +33,8 @@ named texts (Find query) is = tt
 named texts Vacuum is = tt
 named texts (Save name) is = is
 named texts Stat is = tt
+named false (Near target limit) is = is.1
+named true (Near target limit) is = absurd is
 
 few_lanes : (together : Bool) (lanes : List (List Command)) → IsBlock together lanes → length lanes ≤ 32
 few_lanes true lanes is = is.1

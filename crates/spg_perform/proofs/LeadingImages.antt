@@ -12,7 +12,7 @@ use Rattle.spg_rows.specs.History.{History}
 use Rattle.spg_rows.specs.Present.{IsPresentWith}
 use Rattle.spg_tree.specs.Table.{Table, sheets_of}
 use Rattle.spg_script.specs.declared.command.Command.{Command}
-use Rattle.spg_script.specs.declared.command.Command.TheVariants.{Insert, Delete, Find, Vacuum, Save, Stat}
+use Rattle.spg_script.specs.declared.command.Command.TheVariants.{Insert, Delete, Find, Vacuum, Save, Stat, Near}
 use Rattle.spg_script.specs.Speech.{Speech}
 use Rattle.spg_report.specs.declared.outcome.Outcome.{Outcome}
 use Rattle.spg_report.specs.declared.outcome.Outcome.TheVariants as outcome
@@ -42,6 +42,7 @@ SavesNone (Find query) = ⊤
 SavesNone Vacuum = ⊤
 SavesNone (Save name) = ⊥
 SavesNone Stat = ⊤
+SavesNone (Near target limit) = ⊤
 
 no_save : (name : List ℕ) (c : Command) → SavesNone c → is_save name c ≡ true → ⊥
 no_save name (Insert row key) none is = let clash : false ≡ true = is in (cc)
@@ -50,6 +51,7 @@ no_save name (Find query) none is = let clash : false ≡ true = is in (cc)
 no_save name Vacuum none is = let clash : false ≡ true = is in (cc)
 no_save name (Save other) none is = absurd none
 no_save name Stat none is = let clash : false ≡ true = is in (cc)
+no_save name (Near target limit) none is = let clash : false ≡ true = is in (cc)
 
 not_of_save : (A : Type 0) (c : Command) → SavesNone c → OfSave A c → ⊥
 not_of_save A (Insert row key) none of = of
@@ -58,6 +60,7 @@ not_of_save A (Find query) none of = of
 not_of_save A Vacuum none of = of
 not_of_save A (Save other) none of = none
 not_of_save A Stat none of = of
+not_of_save A (Near target limit) none of = of
 
 -- an image fault is a save's
 no_fault : {O Key Recon Cond : Type 0} (speech : Speech Key Cond) (t : Task) (before : History O Key Recon Cond) (events : List (Event O Key Recon Cond)) (o : Outcome) → SavesNone t.command → Does speech t before events o → is_image_fault o ≡ 0

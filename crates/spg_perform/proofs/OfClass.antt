@@ -9,7 +9,7 @@ use Rattle.spg_script.specs.declared.any_cond.AnyCond.{AnyCond}
 use Rattle.spg_script.specs.declared.any_cond.AnyCond.TheVariants as any_cond
 use Rattle.spg_script.specs.declared.any_query.AnyQuery.TheVariants.{All, Null, Where}
 use Rattle.spg_script.specs.declared.command.Command.{Command}
-use Rattle.spg_script.specs.declared.command.Command.TheVariants.{Insert, Delete, Find, Vacuum, Save, Stat}
+use Rattle.spg_script.specs.declared.command.Command.TheVariants.{Insert, Delete, Find, Vacuum, Save, Stat, Near}
 use Rattle.spg_script.specs.Laws.{IsCommand, IsAnyCond}
 use Rattle.spg_script.specs.Speech.{conds_in, IsKnown, point_speech, text_speech}
 use Rattle.spg_perform.specs.Session.{IsOfClass}
@@ -32,6 +32,7 @@ known_point (Find (Where conds)) is = point_conds conds is.0
 known_point Vacuum is = tt
 known_point (Save name) is = tt
 known_point Stat is = tt
+known_point (Near target limit) is = (target, refl)
 
 pub quad_is_of_class : IsOfClass point_speech Quad
 quad_is_of_class = known_point
@@ -57,6 +58,7 @@ known_text (Find (Where conds)) is = text_conds conds is.0
 known_text Vacuum is = tt
 known_text (Save name) is = tt
 known_text Stat is = tt
+known_text (Near target limit) is = absurd is
 
 pub radix_is_of_class : IsOfClass text_speech Radix
 radix_is_of_class = known_text

@@ -1,12 +1,12 @@
 -- What one command of a seat does.
-use Rattle.std.specs.Prelude.{◌≡◌, ◌≤◌, ℕ, Bool, true, false, not, List, All, length, ⊤}
+use Rattle.std.specs.Prelude.{◌≡◌, ◌<◌, ◌≤◌, ℕ, Bool, true, false, not, List, All, length, ⊤}
 use Rattle.spg_opclass.specs.Meaning.{Meaning}
 use Rattle.spg_rows.specs.Rows.{present_count}
 use Rattle.spg_tree.specs.Table.{sheets_of}
 use Rattle.spg_core.specs.Stage.{free}
 use Rattle.spg_core.specs.Seen.{Seen, stage_at, past_of}
 use Rattle.spg_script.specs.declared.command.Command.{Command}
-use Rattle.spg_script.specs.declared.command.Command.TheVariants.{Insert, Delete, Find, Vacuum, Save, Stat}
+use Rattle.spg_script.specs.declared.command.Command.TheVariants.{Insert, Delete, Find, Vacuum, Save, Stat, Near}
 use Rattle.spg_script.specs.Blocks.{Part}
 use Rattle.spg_script.specs.Line.{is_name}
 use Rattle.spg_script.specs.Script.{IsLaneCommand}
@@ -21,7 +21,7 @@ use Rattle.spg_histories.specs.Causes.{IsDue, IsCaused, GrewInto, PrintsPages}
 abbrev pub task_of : ℕ → ℕ → Bool → Command → Task
 task_of block seat alone command = record { block = block; seat = seat; alone = alone; command = command }
 
--- the name of a save is one
+-- the name of a save is one, and a search for the nearest rows asks for some
 abbrev pub HasName : Command → Type 0
 HasName (Save name) = is_name name ≡ true
 HasName (Insert row key) = ⊤
@@ -29,6 +29,7 @@ HasName (Delete row) = ⊤
 HasName (Find query) = ⊤
 HasName Vacuum = ⊤
 HasName Stat = ⊤
+HasName (Near target limit) = 0 < limit
 
 -- a command that can be done: the class has its keys and conditions, and in a lane it is one of a lane
 pub record CanBeDone {Key Cond : Type 0} (speech : Speech Key Cond) (alone : Bool) (c : Command) : Type 0 where

@@ -1,7 +1,8 @@
 -- The outcome of a command, by what its call answered.
-use Rattle.std.specs.Prelude.{ℕ, Bool, true, false, Some, Result, Ok, Err}
+use Rattle.std.specs.Prelude.{ℕ, Bool, true, false, Option, Some, None, Result, Ok, Err, ⊤}
 use Rattle.spg_base.specs.declared.memory.Memory.{Memory}
 use Rattle.spg_scan.specs.declared.walk.Closed.{Closed}
+use Rattle.spg_nearest.specs.declared.nearest.Nearest.{Nearest}
 use Rattle.spg_report.specs.declared.outcome.Outcome.{Outcome}
 use Rattle.spg_report.specs.declared.outcome.Outcome.TheVariants as outcome
 use Rattle.spg_whole.specs.declared.refused.InsertRefused.{InsertRefused}
@@ -25,6 +26,17 @@ delete_outcome (Err e) = outcome.Memory
 abbrev pub find_outcome : Result Closed Memory → Outcome
 find_outcome (Ok closed) = outcome.Found closed.rows (Some closed.met)
 find_outcome (Err e) = outcome.Memory
+
+abbrev pub near_outcome : Result (Option Nearest) Memory → Outcome
+near_outcome (Ok (Some found)) = outcome.Near found.rows found.met
+near_outcome (Ok None) = outcome.Memory
+near_outcome (Err e) = outcome.Memory
+
+-- the class has points for keys
+abbrev pub IsAnswered : Result (Option Nearest) Memory → Type 0
+IsAnswered (Ok None) = ⊥
+IsAnswered (Ok (Some found)) = ⊤
+IsAnswered (Err e) = ⊤
 
 abbrev pub vacuum_outcome : Result ℕ Memory → Outcome
 vacuum_outcome (Ok swept) = outcome.Vacuumed swept

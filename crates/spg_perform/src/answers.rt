@@ -1,10 +1,11 @@
 // The outcomes of what the calls of an index answer.
 ghost use Rattle.std.specs.Prelude.{◌≡◌};
-ghost use Rattle.spg_perform.specs.Outcomes.{insert_outcome, delete_outcome, find_outcome, vacuum_outcome};
+ghost use Rattle.spg_perform.specs.Outcomes.{insert_outcome, delete_outcome, find_outcome, vacuum_outcome, near_outcome, IsAnswered};
 
 use spg_base::Memory;
 use spg_core::Closed;
 use spg_report::Outcome;
+use spg_served::Nearest;
 use spg_whole::InsertRefused;
 
 pub(crate) fn insert_outcome(inserted: Result<(), InsertRefused>) -> Outcome
@@ -37,6 +38,21 @@ pub(crate) fn find_outcome(found: Result<Closed, Memory>) -> Outcome
             rows: closed.rows,
             walk: Some(closed.met),
         },
+        Err(Memory) => Outcome::Memory,
+    }
+}
+
+/// A class of points has been asked.
+pub(crate) fn near_outcome(found: Result<Option<Nearest>, Memory>) -> Outcome
+    requires { IsAnswered found }
+    ensures { result ≡ near_outcome found }
+{
+    match found {
+        Ok(Some(nearest)) => Outcome::Near {
+            rows: nearest.rows,
+            walk: nearest.met,
+        },
+        Ok(None) => unreachable!(),
         Err(Memory) => Outcome::Memory,
     }
 }

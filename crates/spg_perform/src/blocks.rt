@@ -13,13 +13,14 @@ use spg_base::SeatNo;
 use spg_core::State;
 use spg_io::Images;
 use spg_opclass::SharedClass;
-use spg_script::{Command, Part, PartRef, Spoken};
+use spg_script::{Command, Part, PartRef};
+use spg_served::Served;
 use std::alloc::Global;
 use std::sync::Wait;
 use std::thread::Threads;
 
 /// Does the command of a block outside lanes, with the first seat.
-fn alone<O: Spoken, M: Images>(
+fn alone<O: Served, M: Images>(
     alloc: Global,
     state: &mut State<O>,
     images: &mut M,
@@ -40,7 +41,7 @@ fn alone<O: Spoken, M: Images>(
 }
 
 /// Does a block: its command, or its lanes beside each other, lane i with seat i.
-fn part<R: AllocGlobal + Threads + Wait + Sync, O: Spoken + SharedClass, M: Images, G: Gate>(
+fn part<R: AllocGlobal + Threads + Wait + Sync, O: Served + SharedClass, M: Images, G: Gate>(
     rt: &R,
     state: State<O>,
     images: &mut M,
@@ -71,7 +72,7 @@ fn part<R: AllocGlobal + Threads + Wait + Sync, O: Spoken + SharedClass, M: Imag
 /// Does blocks one after another.
 pub(crate) fn parts<
     R: AllocGlobal + Threads + Wait + Sync,
-    O: Spoken + SharedClass,
+    O: Served + SharedClass,
     M: Images,
     G: Gate,
 >(rt: &R, state: State<O>, images: &mut M, book: &mut Book, blocks: &[Part], gate: &G) -> State<O>

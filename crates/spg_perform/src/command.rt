@@ -11,6 +11,7 @@ ghost use Rattle.spg_perform.specs.Acted.{Acts, CanBeDone, task_of};
 use crate::delete::delete;
 use crate::find::find;
 use crate::insert::insert;
+use crate::near::near;
 use crate::position::{position, recorded};
 use crate::save::save;
 use crate::stat::stat;
@@ -20,6 +21,7 @@ use spg_core::State;
 use spg_io::Images;
 use spg_report::Record;
 use spg_script::{Command, Spoken};
+use spg_served::Served;
 use std::alloc::Global;
 
 /// Saves the pages under a name. The journal is as it was.
@@ -41,7 +43,7 @@ fn saved<O: Spoken, M: Images>(
 }
 
 /// Does one command of a seat.
-pub(crate) fn command<O: Spoken, M: Images>(
+pub(crate) fn command<O: Served, M: Images>(
     alloc: Global,
     state: &mut State<O>,
     images: &mut M,
@@ -64,6 +66,7 @@ pub(crate) fn command<O: Spoken, M: Images>(
         Command::Find { query } => find(alloc, state, seat, query),
         Command::Save { name } => saved(state, images, seat, name),
         Command::Stat => stat(state, seat),
+        Command::Near { target, limit } => near(alloc, state, seat, *target, *limit),
         Command::Vacuum => vacuum(state, seat),
     };
     let _ = state.open_of(seat);

@@ -164,7 +164,7 @@ fn lane_command<R: Wait + AllocGlobal, O: Spoken>(
         Command::Find { query } => find(rt, desk, pass, query),
         Command::Vacuum => vacuum(rt, desk, pass),
         // No lane has these.
-        Command::Save { name: _ } | Command::Stat => unreachable!(),
+        Command::Save { name: _ } | Command::Stat | Command::Near { .. } => unreachable!(),
     }
 }
 

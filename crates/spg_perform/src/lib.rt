@@ -15,6 +15,7 @@ mod gate;
 mod gathering;
 mod insert;
 mod lane;
+mod near;
 mod position;
 mod post;
 mod save;

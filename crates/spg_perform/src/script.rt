@@ -12,7 +12,8 @@ use spg_core::State;
 use spg_io::Images;
 use spg_opclass::SharedClass;
 use spg_report::Records;
-use spg_script::{Part, Script, Spoken};
+use spg_script::{Part, Script};
+use spg_served::Served;
 use std::alloc::Global;
 use std::sync::Wait;
 use std::thread::Threads;
@@ -34,7 +35,7 @@ fn book_for(alloc: Global, blocks: &[Part]) -> Result<Book, Memory>
 /// of a command: the record says it, and `Memory` there means that what the command had opened was given
 /// up. `Memory` comes only before the first command: the state is handed back as it was then, and the
 /// images are as they were.
-pub fn perform<R: AllocGlobal + Threads + Wait + Sync, O: Spoken + SharedClass, M: Images, G: Gate>(
+pub fn perform<R: AllocGlobal + Threads + Wait + Sync, O: Served + SharedClass, M: Images, G: Gate>(
     rt: &R,
     state: State<O>,
     script: &Script,

@@ -11,7 +11,7 @@ use Rattle.spg_rows.specs.declared.event.Event.TheVariants.{OpenInsert, Put, Dro
 use Rattle.spg_rows.specs.declared.event.Why.TheVariants as cause
 use Rattle.spg_rows.specs.History.{seat_of}
 use Rattle.spg_script.specs.declared.command.Command.{Command}
-use Rattle.spg_script.specs.declared.command.Command.TheVariants.{Insert, Delete, Find, Vacuum, Save, Stat}
+use Rattle.spg_script.specs.declared.command.Command.TheVariants.{Insert, Delete, Find, Vacuum, Save, Stat, Near}
 use Rattle.spg_script.specs.Spelling.{IsRow}
 use Rattle.spg_script.specs.Reading.{◌>>=◌, split_at, row_of, insert_of, find_of}
 use Rattle.spg_script.specs.Speech.{Speech, SpeaksAsPrinted, key_or_null_in, query_in, key_or_null_text, query_text, any_key_or_null_text, any_query_text}
@@ -66,6 +66,7 @@ module _ {O Key Recon Cond : Type 0} (texts : Bool) (speech : Speech Key Cond) (
   opened_so seat Vacuum = None
   opened_so seat (Save name) = None
   opened_so seat Stat = None
+  opened_so seat (Near target limit) = None
 
   abbrev did_so : ℕ → Deed → Option (Event O Key Recon Cond)
   did_so seat (opens c) = opened_so seat c

@@ -22,7 +22,7 @@ num_from v (b ∷ bytes) = num_from (v * 10 + (b - 48)) bytes
 abbrev pub num : List ℕ → ℕ
 num bytes = num_from 0 bytes
 
-num_from-append : (v : ℕ) (digits : List ℕ) (b : ℕ) → num_from v (digits ++ b ∷ []) ≡ num_from v digits * 10 + (b - 48)
+pub num_from-append : (v : ℕ) (digits : List ℕ) (b : ℕ) → num_from v (digits ++ b ∷ []) ≡ num_from v digits * 10 + (b - 48)
 num_from-append v [] b = refl
 num_from-append v (d ∷ digits) b = num_from-append (v * 10 + (d - 48)) digits b
 

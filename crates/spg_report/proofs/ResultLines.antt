@@ -10,11 +10,13 @@ use Rattle.spg_base.specs.Text.{row_text}
 use Rattle.spg_base.specs.declared.recorded.Stat.{Stat}
 use Rattle.spg_script.specs.Spelling.{IsRow}
 use Rattle.spg_script.proofs.Digits.{HasNo, HasNo-cons, HasNo-append, HasNo-decimal}
+use Rattle.spg_near.specs.declared.near_row.NearRow.{NearRow}
 use Rattle.spg_report.specs.declared.outcome.Outcome.{Outcome}
 use Rattle.spg_report.specs.declared.outcome.Outcome.TheVariants as outcome
 use Rattle.spg_report.specs.declared.record.Record.{Record}
-use Rattle.spg_report.specs.Text.{rows_text, stat_text, outcome_text, result_text}
+use Rattle.spg_report.specs.Text.{rows_text, stat_text, near_row_text, near_rows_text, outcome_text, result_text}
 use Rattle.spg_report.specs.Told.{FitsStat, FitsOutcome, FitsRecord}
+use Rattle.spg_report.proofs.NearLines.{near_row_read, near_rows_parts, near_rows_read, near_rows_no_lf}
 use Rattle.spg_report.proofs.Parts.{num, num-decimal, parts_at, parts-front, parts-end, row_read, row_parts, rows_parts, rows_read, rows_no_lf}
 
 -- ---- the words of an outcome
@@ -41,6 +43,7 @@ outcome_words (outcome.OpenBy seat) = codes "open" ∷ codes "by" ∷ decimal se
 outcome_words (outcome.Saved pages) = codes "saved" ∷ decimal pages ∷ []
 outcome_words outcome.ImageFault = codes "image" ∷ codes "fault" ∷ []
 outcome_words (outcome.Stat counts) = codes "stat" ∷ stat_words counts
+outcome_words (outcome.Near rows walk) = codes "near" ∷ decimal (length rows) ∷ codes "walk" ∷ decimal walk ∷ map near_row_text rows
 outcome_words outcome.Memory = codes "memory" ∷ []
 
 digits_apart : (n : ℕ) → n < 2 ^ 64 → HasNo 32 (decimal n)
@@ -67,6 +70,9 @@ stat_parts s fits =
     behind (codes "pages") s.pages _ _ refl fits.pages (behind (codes "inner") s.inner _ _ refl fits.inner (behind (codes "leaf") s.leaf _ _ refl fits.leaf (behind (codes "redirect") s.redirect _ _ refl fits.redirect
     (behind (codes "dead") s.dead _ _ refl fits.dead (behind (codes "placeholder") s.placeholder _ _ refl fits.placeholder (last_behind (codes "clock") s.clock refl fits.clock))))))
 
+near_grouped : (count walk rows : List ℕ) → codes "near " ++ count ++ codes " walk " ++ walk ++ rows ≡ codes "near" ++ 32 ∷ (count ++ 32 ∷ (codes "walk" ++ 32 ∷ (walk ++ rows)))
+near_grouped count walk rows = simp append_assoc refl
+
 outcome_parts : (o : Outcome) → FitsOutcome o → parts_at 32 (outcome_text o) ≡ outcome_words o
 outcome_parts outcome.Added fits = refl
 outcome_parts outcome.RowUsed fits = refl
@@ -86,6 +92,10 @@ outcome_parts (outcome.OpenBy seat) fits = ap (λ l. codes "open" ∷ l) (last_b
 outcome_parts (outcome.Saved pages) fits = last_behind (codes "saved") pages refl fits
 outcome_parts outcome.ImageFault fits = refl
 outcome_parts (outcome.Stat counts) fits = ap (parts_at 32) (stat_grouped counts) ∙ ap (λ l. codes "stat" ∷ l) (stat_parts counts fits)
+outcome_parts (outcome.Near rows walk) fits =
+    ap (parts_at 32) (near_grouped (decimal (length rows)) (decimal walk) (near_rows_text rows))
+    ∙ behind (codes "near") (length rows) (codes "walk" ++ 32 ∷ (decimal walk ++ near_rows_text rows)) (codes "walk" ∷ decimal walk ∷ map near_row_text rows) refl fits.1
+    (ap (λ l. codes "walk" ∷ l) (near_rows_parts (decimal walk) rows (digits_apart walk fits.2) fits.0))
 outcome_parts outcome.Memory fits = refl
 
 -- ---- an outcome from its words
@@ -120,6 +130,10 @@ stat_from (a ∷ pages ∷ b ∷ inner ∷ c ∷ leaf ∷ d ∷ redirect ∷ e �
     outcome.Stat (record { pages = num pages; inner = num inner; leaf = num leaf; redirect = num redirect; dead = num dead; placeholder = num placeholder; clock = num clock })
 stat_from other = outcome.Memory
 
+abbrev near_from : List (List ℕ) → Outcome
+near_from (count ∷ w ∷ walk ∷ rows) = outcome.Near (map near_row_read rows) (num walk)
+near_from other = outcome.Memory
+
 abbrev outcome_from : List (List ℕ) → Outcome
 outcome_from [] = outcome.Memory
 outcome_from (w ∷ more) =
@@ -134,7 +148,8 @@ outcome_from (w ∷ more) =
     (cond (is_word w (codes "open")) (open_from more)
     (cond (is_word w (codes "saved")) (first_number (λ n. outcome.Saved n) more)
     (cond (is_word w (codes "image")) outcome.ImageFault
-    (cond (is_word w (codes "stat")) (stat_from more) outcome.Memory)))))))))))
+    (cond (is_word w (codes "stat")) (stat_from more)
+    (cond (is_word w (codes "near")) (near_from more) outcome.Memory))))))))))))
 
 not_true : (b : Bool) → (b ≡ true → ⊥) → b ≡ false
 not_true true other = absurd (other refl)
@@ -171,6 +186,8 @@ outcome_read (outcome.OpenBy seat) fits = ap (λ (n : ℕ). outcome.OpenBy n) (n
 outcome_read (outcome.Saved pages) fits = ap (λ (n : ℕ). outcome.Saved n) (num-decimal pages fits)
 outcome_read outcome.ImageFault fits = refl
 outcome_read (outcome.Stat counts) fits = stat_read counts fits
+outcome_read (outcome.Near rows walk) fits =
+    ap (λ (l : List NearRow). outcome.Near l (num (decimal walk))) (near_rows_read rows fits.0) ∙ ap (λ (w : ℕ). outcome.Near rows w) (num-decimal walk fits.2)
 outcome_read outcome.Memory fits = refl
 
 -- ---- a record from its line
@@ -227,6 +244,9 @@ outcome_no_lf (outcome.Stat s) fits =
   where
     one : (front word : List ℕ) (n : ℕ) → HasNo 10 front → HasNo 10 word → n < 2 ^ 64 → HasNo 10 (front ++ word ++ decimal n)
     one front word n before apart small = HasNo-append 10 (front ++ word) (decimal n) (HasNo-append 10 front word before apart) (digits_no_lf n small)
+outcome_no_lf (outcome.Near rows walk) fits =
+    HasNo-append 10 (codes "near " ++ decimal (length rows) ++ codes " walk " ++ decimal walk) (near_rows_text rows)
+    (HasNo-append 10 (codes "near " ++ decimal (length rows) ++ codes " walk ") (decimal walk) (lf_behind (codes "near ") (length rows) (codes " walk ") refl fits.1 refl) (digits_no_lf walk fits.2)) (near_rows_no_lf rows fits.0)
 outcome_no_lf outcome.Memory fits = refl
 
 pub spaced_no_lf : (n : ℕ) (more : List ℕ) → n < 2 ^ 64 → HasNo 10 more → HasNo 10 (decimal n ++ 32 ∷ more)

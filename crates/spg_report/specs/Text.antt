@@ -8,6 +8,7 @@ use Rattle.spg_base.specs.declared.recorded.Stat.{Stat}
 use Rattle.spg_rows.specs.declared.event.Event.{Event}
 use Rattle.spg_rows.specs.declared.event.Event.TheVariants.{OpenInsert, Put, Drop, Kill, OpenScan, CloseScan, OpenVacuum, Sweep, CloseVacuum, Leave}
 use Rattle.spg_rows.specs.History.{seat_of}
+use Rattle.spg_near.specs.declared.near_row.NearRow.{NearRow}
 use Rattle.spg_report.specs.declared.outcome.Outcome.{Outcome}
 use Rattle.spg_report.specs.declared.outcome.Outcome.TheVariants as outcome
 use Rattle.spg_report.specs.declared.record.Record.{Record}
@@ -27,6 +28,18 @@ abbrev pub found_text : List RowAt → Option ℕ → List ℕ
 found_text rows None = codes "found " ++ decimal (length rows) ++ rows_text rows
 found_text rows (Some walk) = codes "found " ++ decimal (length rows) ++ codes " walk " ++ decimal walk ++ rows_text rows
 
+-- a row, a colon and its distance
+abbrev pub near_row_text : NearRow → List ℕ
+near_row_text h = row_text h.row ++ 58 ∷ decimal h.distance
+
+-- each with a space before it
+abbrev pub near_rows_text : List NearRow → List ℕ
+near_rows_text rows = flat_map (λ h. 32 ∷ near_row_text h) rows
+
+-- the number of the nearest rows, the number of tuples met, and the rows with their distances
+abbrev pub near_text : List NearRow → ℕ → List ℕ
+near_text rows walk = codes "near " ++ decimal (length rows) ++ codes " walk " ++ decimal walk ++ near_rows_text rows
+
 -- what became of a command
 abbrev pub outcome_text : Outcome → List ℕ
 outcome_text outcome.Added = codes "added"
@@ -42,6 +55,7 @@ outcome_text (outcome.OpenBy seat) = codes "open by " ++ decimal seat
 outcome_text (outcome.Saved pages) = codes "saved " ++ decimal pages
 outcome_text outcome.ImageFault = codes "image fault"
 outcome_text (outcome.Stat counts) = stat_text counts
+outcome_text (outcome.Near rows walk) = near_text rows walk
 outcome_text outcome.Memory = codes "memory"
 
 -- a line of a result, without its end: the number of the command, where it begins and ends in the journal, and what became of it

@@ -7,6 +7,7 @@ use Rattle.spg_rows.specs.declared.event.Event.{Event}
 use Rattle.spg_rows.specs.declared.event.Event.TheVariants.{OpenInsert, Put, Drop, Kill, OpenScan, CloseScan, OpenVacuum, Sweep, CloseVacuum, Leave}
 use Rattle.spg_rows.specs.declared.event.Why.TheVariants as cause
 use Rattle.spg_rows.specs.History.{seat_of}
+use Rattle.spg_near.specs.declared.near_row.NearRow.{NearRow}
 use Rattle.spg_report.specs.declared.outcome.Outcome.{Outcome}
 use Rattle.spg_report.specs.declared.outcome.Outcome.TheVariants as outcome
 use Rattle.spg_report.specs.declared.record.Record.{Record}
@@ -69,6 +70,12 @@ abbrev pub FitsFound : List RowAt → Option ℕ → Type 0
 FitsFound rows None = AllByRecursion IsRow rows × (length rows < 2 ^ 64)
 FitsFound rows (Some walk) = AllByRecursion IsRow rows × (length rows < 2 ^ 64) × (walk < 2 ^ 64)
 
+abbrev pub FitsNearRow : NearRow → Type 0
+FitsNearRow h = IsRow h.row × (h.distance < 2 ^ 128)
+
+abbrev pub FitsNear : List NearRow → ℕ → Type 0
+FitsNear rows walk = AllByRecursion FitsNearRow rows × (length rows < 2 ^ 64) × (walk < 2 ^ 64)
+
 abbrev pub FitsOutcome : Outcome → Type 0
 FitsOutcome outcome.Added = ⊤
 FitsOutcome outcome.RowUsed = ⊤
@@ -83,6 +90,7 @@ FitsOutcome (outcome.OpenBy seat) = seat < 2 ^ 64
 FitsOutcome (outcome.Saved pages) = pages < 2 ^ 64
 FitsOutcome outcome.ImageFault = ⊤
 FitsOutcome (outcome.Stat counts) = FitsStat counts
+FitsOutcome (outcome.Near rows walk) = FitsNear rows walk
 FitsOutcome outcome.Memory = ⊤
 
 pub record FitsRecord (r : Record) : Type 0 where

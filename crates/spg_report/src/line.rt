@@ -3,6 +3,7 @@ ghost use Rattle.std.specs.Fmt.{decimal};
 ghost use Rattle.spg_base.specs.Text.{row_text};
 ghost use Rattle.spg_script.specs.Spelling.{IsRow};
 
+use itoa::Buffer;
 use spg_base::{Memory, Row};
 use spg_script::Tail;
 use std::alloc::Global;
@@ -80,6 +81,15 @@ impl Line {
         let mut text = Tail::new();
         text.row(row);
         self.extend(text.as_slice())
+    }
+
+    /// Adds a distance at the end, in decimal digits.
+    pub fn distance(&mut self, n: u128) -> Result<(), Memory>
+        ensures fits { n < 2 ^ 128 }
+        ensures text { OnOk result (self.new ≡ self.old ++ decimal n) }
+    {
+        let mut text = Buffer::new();
+        self.extend(text.format(n).as_bytes())
     }
 
     /// Adds a word and a number.

@@ -1,4 +1,5 @@
-use spg_base::{Rows, SeatNo, Stat};
+use spg_base::{List, Rows, SeatNo, Stat};
+use spg_near::NearRow;
 
 /// What became of a command.
 #[derive(Debug, Drop)]
@@ -30,6 +31,9 @@ pub enum Outcome {
     ImageFault,
     /// The counts of the index.
     Stat(Stat),
+    /// The rows nearest to a point, each with its distance, in order; and how many inner, leaf and dead
+    /// tuples the search met.
+    Near { rows: List<NearRow>, walk: u64 },
     /// There was no memory.
     Memory,
 }

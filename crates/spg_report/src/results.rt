@@ -1,13 +1,14 @@
 ghost use Rattle.std.specs.Prelude.{◌≡◌, ◌++◌, ◌∷◌, OnOk, IfOk, codes};
 ghost use Rattle.std.specs.List.{AllByRecursion};
 ghost use Rattle.spg_script.specs.Spelling.{IsRow};
-ghost use Rattle.spg_report.specs.Text.{result_text, outcome_text, rows_text, found_text, stat_text, journal_text};
-ghost use Rattle.spg_report.specs.Told.{FitsStat, FitsFound, FitsOutcome, FitsRecord};
+ghost use Rattle.spg_report.specs.Text.{result_text, outcome_text, rows_text, found_text, stat_text, near_row_text, near_rows_text, near_text, journal_text};
+ghost use Rattle.spg_report.specs.Told.{FitsStat, FitsFound, FitsNearRow, FitsNear, FitsOutcome, FitsRecord};
 
 use crate::line::Line;
 use crate::outcome::Outcome;
 use crate::record::Record;
 use spg_base::{Bytes, Memory, Row, Span, Stat};
+use spg_near::NearRow;
 use spg_script::Tail;
 use std::alloc::Global;
 
@@ -50,6 +51,37 @@ fn push_found(line: &mut Line, rows: &[Row], walk: Option<u64>) -> Result<(), Me
     }
 }
 
+/// Adds a row, a colon and its distance.
+fn push_near_row(line: &mut Line, near: &NearRow) -> Result<(), Memory>
+    ensures text { OnOk result (line.new ≡ line.old ++ near_row_text near.now) }
+    ensures fits { OnOk result (FitsNearRow near.now) }
+{
+    line.row(near.row)?;
+    line.push(b':')?;
+    line.distance(near.distance)
+}
+
+fn push_near_rows(line: &mut Line, rows: &[NearRow]) -> Result<(), Memory>
+    ensures text { OnOk result (line.new ≡ line.old ++ near_rows_text rows.now) }
+    ensures fits { OnOk result (AllByRecursion FitsNearRow rows.now) }
+{
+    for near in rows {
+        line.push(b' ')?;
+        push_near_row(line, near)?;
+    }
+    Ok(())
+}
+
+/// Adds the number of the nearest rows, how many tuples were met, and the rows.
+fn push_near(line: &mut Line, rows: &[NearRow], met: u64) -> Result<(), Memory>
+    ensures text { OnOk result (line.new ≡ line.old ++ near_text rows.now met) }
+    ensures fits { OnOk result (FitsNear rows.now met) }
+{
+    line.named(b"near ", rows.len() as u64)?;
+    line.named(b" walk ", met)?;
+    push_near_rows(line, rows)
+}
+
 fn push_outcome(line: &mut Line, outcome: &Outcome) -> Result<(), Memory>
     ensures text { OnOk result (line.new ≡ line.old ++ outcome_text outcome.now) }
     ensures fits { OnOk result (FitsOutcome outcome.now) }
@@ -68,6 +100,7 @@ fn push_outcome(line: &mut Line, outcome: &Outcome) -> Result<(), Memory>
         Outcome::Saved(pages) => line.named(b"saved ", u64::from(*pages)),
         Outcome::ImageFault => line.extend(b"image fault"),
         Outcome::Stat(stat) => push_stat(line, stat),
+        Outcome::Near { rows, walk } => push_near(line, rows.as_slice(), *walk),
         Outcome::Memory => line.extend(b"memory"),
     }
 }

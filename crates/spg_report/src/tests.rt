@@ -1,5 +1,6 @@
 use crate::{Outcome, Record, event_line, result_line, stat_line};
 use spg_base::{Bytes, List, Memory, Point, PointCond, Row, SeatNo, Span, Stat};
+use spg_near::NearRow;
 use spg_opclass::Query;
 use spg_quad::Quad;
 use spg_rows::{Event, Why};
@@ -38,11 +39,24 @@ fn found(alloc: Global, walk: Option<u64>) -> Result<Outcome, Memory> {
     Ok(Outcome::Found { rows, walk })
 }
 
+fn near(alloc: Global) -> Result<Outcome, Memory> {
+    let mut rows = List::new(alloc);
+    rows.push(NearRow {
+        distance: 0,
+        row: Row::at(1, 1),
+    })?;
+    rows.push(NearRow {
+        distance: 36_893_488_130_239_234_050,
+        row: Row::at(4_294_967_295, 65_535),
+    })?;
+    Ok(Outcome::Near { rows, walk: 12 })
+}
+
 #[test]
 fn tells_what_became_of_a_command(rt: HostRuntime) -> Result<(), Fail> {
     let alloc = rt.alloc();
     let first = SeatNo::first();
-    let table: [(Outcome, &[u8]); 15] = [
+    let table: [(Outcome, &[u8]); 16] = [
         (Outcome::Added, b"10 18 20 added"),
         (Outcome::RowUsed, b"10 18 20 row used"),
         (Outcome::RowHeld { by: first }, b"10 18 20 row held by 0"),
@@ -65,6 +79,10 @@ fn tells_what_became_of_a_command(rt: HostRuntime) -> Result<(), Fail> {
         (
             Outcome::Stat(STAT),
             b"10 18 20 stat pages 5 inner 1 leaf 290 redirect 2 dead 3 placeholder 4 clock 7",
+        ),
+        (
+            near(alloc)?,
+            b"10 18 20 near 2 walk 12 1.1:0 4294967295.65535:36893488130239234050",
         ),
         (Outcome::Memory, b"10 18 20 memory"),
     ];

@@ -1,7 +1,8 @@
 -- Commands: what is spelled is read, and what is read is spelled.
-use Rattle.std.proofs.Common.{◌≡◌, inl, inr, ◌≤◌, ℕ, zero, suc, Bool, true, false, List, [], ◌∷◌, ◌++◌, length, drop, Option, Some, None, refl, sym, ap, ◌∙◌, subst, arith, cond, ◌==◌}
+use Rattle.std.proofs.Common.{◌≡◌, inl, inr, ◌<◌, ◌≤◌, ◌^◌, ℕ, zero, suc, Bool, true, false, List, [], ◌∷◌, ◌++◌, length, drop, Option, Some, None, refl, sym, ap, ◌∙◌, subst, arith, cond, ◌==◌}
 use Rattle.std.specs.Prelude.{codes, bytes_eq}
-use Rattle.std.specs.Fmt.{decimal}
+use Rattle.std.specs.Fmt.{decimal, signed_decimal}
+use Rattle.std.proofs.lemmas.Bool.{le-ltb, lt-ltb, cases_lt}
 use Rattle.std.proofs.lemmas.Bool.Decides.{eqb_tells}
 use Rattle.std.proofs.lemmas.Slice.Eq.{bytes_eq-Decides}
 use Rattle.std.proofs.lemmas.Option.{same_Some}
@@ -17,12 +18,12 @@ use Rattle.spg_script.specs.declared.any_cond.AnyCond.TheVariants as any_cond
 use Rattle.spg_script.specs.declared.any_query.AnyQuery.{AnyQuery}
 use Rattle.spg_script.specs.declared.any_query.AnyQuery.TheVariants.{All, Null, Where}
 use Rattle.spg_script.specs.declared.command.Command.{Command}
-use Rattle.spg_script.specs.declared.command.Command.TheVariants.{Insert, Delete, Find, Vacuum, Save, Stat}
+use Rattle.spg_script.specs.declared.command.Command.TheVariants.{Insert, Delete, Find, Vacuum, Save, Stat, Near}
 use Rattle.spg_script.specs.Spelling.{IsPoint, IsRow}
 use Rattle.spg_script.specs.Line.{is_name, SpellsKeyOrNull, SpellsCond, SpellsConds, SpellsQuery, SpellsCommand}
-use Rattle.spg_script.specs.Reading.{◌>>=◌, split_at, row_of, point_of, cond_then, point_cond_then, text_cond_then, after, cond_and, first_cond_of, more_conds, conds_of, whole_text_of, key_of, insert_of, find_of, delete_of, save_of, command_of}
+use Rattle.spg_script.specs.Reading.{◌>>=◌, split_at, row_of, point_of, number_of, cond_then, point_cond_then, text_cond_then, after, cond_and, first_cond_of, more_conds, conds_of, whole_text_of, key_of, insert_of, find_of, delete_of, save_of, near_at, near_of, command_of}
 use Rattle.spg_script.proofs.Options.{bind_some, pair_some, word_or, front_or}
-use Rattle.spg_script.proofs.Digits.{HasNo, HasNo-cons, HasNo-append, HasNo-decimal, byte_other, split_at-front, spelled-split_at, row_of-text, spelled-row_of, point_of-text, spelled-point_of}
+use Rattle.spg_script.proofs.Digits.{HasNo, HasNo-cons, HasNo-append, HasNo-decimal, HasNo-signed, byte_other, number_of-decimal, spelled-number_of, split_at-front, spelled-split_at, row_of-text, spelled-row_of, point_of-text, spelled-point_of}
 use Rattle.spg_script.proofs.TextLemmas.{whole_text_of-spelled, spelled-whole_text_of}
 use Rattle.spg_script.proofs.CondLines.{IsBlank, point_cond_then-spelled, spelled-point_cond_then, text_cond_then-spelled, spelled-text_cond_then}
 
@@ -204,6 +205,47 @@ spelled-find_of texts bytes c is = elim (word_or bytes (codes "all") _ _ c is) [
   ]
 ]
 
+-- a search for the nearest rows
+pub point_apart : (stop : ℕ) (point : Point) → stop < 44 → IsPoint point → HasNo stop (point_text point)
+point_apart stop point low is = HasNo-append stop (signed_decimal point.x) (44 ∷ signed_decimal point.y) (HasNo-signed stop point.x (omega arith) is.x)
+    (HasNo-cons stop 44 (signed_decimal point.y) (byte_other stop 44 low) (HasNo-signed stop point.y (omega arith) is.y))
+
+near_at-is : (target : Point) (limit : ℕ) → 0 < limit → limit < 2 ^ 16 → near_at target limit ≡ Some (Near target limit)
+near_at-is target limit some few = rw (byte_other 0 limit some, le-ltb 65535 limit (omega arith)) refl
+
+near_of-spelled : (target : Point) (limit : ℕ) → IsPoint target → 0 < limit → limit < 2 ^ 16 → near_of false (point_text target ++ 32 ∷ decimal limit) ≡ Some (Near target limit)
+unfolding near_of
+near_of-spelled target limit is some few =
+    let small : limit < 2 ^ 32 = omega arith in
+    rw (split_at-front 32 (point_text target) (decimal limit) (point_apart 32 target (omega arith) is)) (rw (point_of-text target is, number_of-decimal limit small) (near_at-is target limit some few))
+
+positive : (n : ℕ) → (n ≡ 0 → ⊥) → 0 < n
+positive zero other = absurd (other refl)
+positive (suc n) other = omega arith
+
+near_at-some : (target : Point) (limit : ℕ) (c : Command) → near_at target limit ≡ Some c → (0 < limit) × (limit < 2 ^ 16) × (Near target limit ≡ c)
+near_at-some target limit c is = elim (eqb_tells limit 0) [
+  | inl none ↦ let clash : None ≡ Some c = rw none.0 at is in (cc)
+  | inr some ↦ elim (cases_lt 65535 limit) [
+    | inl high ↦ let clash : None ≡ Some c = rw (some.0, lt-ltb 65535 limit high) at is in (cc)
+    | inr low ↦ let same : Some (Near target limit) ≡ Some c = rw (some.0, le-ltb 65535 limit (omega arith)) at is in (positive limit some.1, omega arith, same_Some _ _ same)
+  ]
+]
+
+spelled-near_of : (texts : Bool) (bytes : List ℕ) (c : Command) → near_of texts bytes ≡ Some c → SpellsCommand texts c (codes "near " ++ bytes)
+unfolding near_of
+spelled-near_of true bytes c is = (cc)
+spelled-near_of false bytes c is =
+    let a = bind_some (λ (parts : List ℕ × List ℕ). point_of parts.0 >>= λ target. (number_of parts.1 >>= λ limit. near_at target limit)) (split_at 32 bytes) c is in
+    let b = bind_some (λ (target : Point). number_of a.0.1 >>= λ limit. near_at target limit) (point_of a.0.0) c a.2 in
+    let d = bind_some (λ (limit : ℕ). near_at b.0 limit) (number_of a.0.1) c b.2 in
+    let point = spelled-point_of a.0.0 b.0 b.1 in
+    let number = spelled-number_of a.0.1 d.0 d.1 in
+    let range = near_at-some b.0 d.0 c d.2 in
+    let text : bytes ≡ point_text b.0 ++ 32 ∷ decimal d.0 = spelled-split_at 32 bytes a.0.0 a.0.1 a.1 ∙ ap (λ l. l ++ 32 ∷ a.0.1) point.0 ∙ ap (λ l. point_text b.0 ++ 32 ∷ l) number.0 in
+    let says : SpellsCommand false (Near b.0 d.0) (codes "near " ++ bytes) = (ap (λ l. codes "near " ++ l) text, point.1, range.0, range.1) in
+    subst (λ (k : Command). SpellsCommand false k (codes "near " ++ bytes)) range.2 says
+
 pub command_of-spelled : (texts : Bool) (c : Command) (line : List ℕ) → SpellsCommand texts c line → command_of texts line ≡ Some c
 unfolding command_of delete_of save_of
 command_of-spelled texts (Insert row key) line is = rw is.1 (insert_of-spelled texts row key is.0 is.2 is.3)
@@ -212,6 +254,8 @@ command_of-spelled texts (Delete row) line is = rw is.0 (rw (row_of-text row is.
 command_of-spelled texts Vacuum line is = rw is refl
 command_of-spelled texts (Save name) line is = rw is.0 (rw is.1 refl)
 command_of-spelled texts Stat line is = rw is refl
+command_of-spelled false (Near target limit) line is = rw is.0 (near_of-spelled target limit is.1 is.2 is.3)
+command_of-spelled true (Near target limit) line is = absurd is
 
 spelled-delete_of : (texts : Bool) (bytes : List ℕ) (c : Command) → delete_of bytes ≡ Some c → SpellsCommand texts c (codes "delete " ++ bytes)
 unfolding delete_of
@@ -237,13 +281,16 @@ spelled-command_of texts line c is = elim (front_or line (codes "insert ") _ _ c
     | inl a ↦ subst (λ (l : List ℕ). SpellsCommand texts c l) (sym a.0) (spelled-find_of texts (drop 5 line) c a.1)
     | inr is ↦ elim (front_or line (codes "delete ") _ _ c is) [
       | inl a ↦ subst (λ (l : List ℕ). SpellsCommand texts c l) (sym a.0) (spelled-delete_of texts (drop 7 line) c a.1)
-      | inr is ↦ elim (front_or line (codes "save ") _ _ c is) [
-        | inl a ↦ subst (λ (l : List ℕ). SpellsCommand texts c l) (sym a.0) (spelled-save_of texts (drop 5 line) c a.1)
-        | inr is ↦ elim (word_or line (codes "vacuum") _ _ c is) [
-          | inl a ↦ subst (λ (k : Command). SpellsCommand texts k line) (same_Some _ _ a.1) a.0
-          | inr is ↦ elim (word_or line (codes "stat") _ _ c is) [
+      | inr is ↦ elim (front_or line (codes "near ") _ _ c is) [
+        | inl a ↦ subst (λ (l : List ℕ). SpellsCommand texts c l) (sym a.0) (spelled-near_of texts (drop 5 line) c a.1)
+        | inr is ↦ elim (front_or line (codes "save ") _ _ c is) [
+          | inl a ↦ subst (λ (l : List ℕ). SpellsCommand texts c l) (sym a.0) (spelled-save_of texts (drop 5 line) c a.1)
+          | inr is ↦ elim (word_or line (codes "vacuum") _ _ c is) [
             | inl a ↦ subst (λ (k : Command). SpellsCommand texts k line) (same_Some _ _ a.1) a.0
-            | inr is ↦ (cc)
+            | inr is ↦ elim (word_or line (codes "stat") _ _ c is) [
+              | inl a ↦ subst (λ (k : Command). SpellsCommand texts k line) (same_Some _ _ a.1) a.0
+              | inr is ↦ (cc)
+            ]
           ]
         ]
       ]

@@ -7,12 +7,12 @@ use Rattle.std.proofs.lemmas.Bool.{cases_lt}
 use Rattle.std.proofs.lemmas.Bool.Decides.{eqb_tells}
 use Rattle.std.proofs.lemmas.List.{append_assoc}
 use Rattle.spg_base.specs.Row.{RowAt}
-use Rattle.spg_base.specs.Text.{row_text}
+use Rattle.spg_base.specs.Text.{row_text, point_text}
 use Rattle.std.specs.Fmt.{decimal}
 use Rattle.spg_script.specs.declared.class_name.ClassName.{ClassName}
 use Rattle.spg_script.specs.declared.class_name.ClassName.TheVariants.{Quad, Kd, Radix}
 use Rattle.spg_script.specs.declared.command.Command.{Command}
-use Rattle.spg_script.specs.declared.command.Command.TheVariants.{Insert, Delete, Find, Vacuum, Save, Stat}
+use Rattle.spg_script.specs.declared.command.Command.TheVariants.{Insert, Delete, Find, Vacuum, Save, Stat, Near}
 use Rattle.spg_script.specs.Blocks.{Part, Script}
 use Rattle.spg_script.specs.Spelling.{class_text, IsRow}
 use Rattle.spg_script.specs.Line.{has_texts, is_first_of_name, is_in_name, is_name, SpellsCommand}
@@ -21,7 +21,7 @@ use Rattle.spg_script.specs.Speech.{any_key_or_null_text, any_query_text}
 use Rattle.spg_script.specs.Laws.{IsCommand}
 use Rattle.spg_script.specs.Script.{onto_first, lines_of, says_something, Saying, block_opens, lane_opens, block_ends, says, lane_sayings, block_sayings, sayings, IsBlock, IsPart, Spells, AreSpoken, IsScript, IsFirstBad, command_text, saying_text, printed_lines, printed, AreCommands, IsTidy, ScriptsAreExact}
 use Rattle.spg_script.proofs.Digits.{HasNo, HasNo-cons, HasNo-append, HasNo-decimal}
-use Rattle.spg_script.proofs.CommandLines.{command_of-spelled}
+use Rattle.spg_script.proofs.CommandLines.{point_apart, command_of-spelled}
 use Rattle.spg_script.proofs.Tidy.{script_tidy}
 use Rattle.spg_script.proofs.Printed.{key_printed, query_printed, key_no_lf, query_no_lf}
 
@@ -34,6 +34,8 @@ command_printed texts (Find query) is = (any_query_text query, refl, query_print
 command_printed texts Vacuum is = refl
 command_printed texts (Save name) is = (refl, is)
 command_printed texts Stat is = refl
+command_printed false (Near target limit) is = (refl, is.0, is.1, is.2)
+command_printed true (Near target limit) is = absurd is
 
 row_no_lf : (row : RowAt) → IsRow row → HasNo 10 (row_text row)
 row_no_lf row is = HasNo-append 10 (decimal row.block) (46 ∷ decimal row.offset) (HasNo-decimal 10 row.block (omega arith) (omega (arith, is.block)))
@@ -74,6 +76,9 @@ command_no_lf texts (Find query) is = HasNo-append 10 (codes "find ") (any_query
 command_no_lf texts Vacuum is = refl
 command_no_lf texts (Save name) is = HasNo-append 10 (codes "save ") name refl (name_no_lf name is)
 command_no_lf texts Stat is = refl
+command_no_lf false (Near target limit) is = HasNo-append 10 (codes "near ") (point_text target ++ 32 ∷ decimal limit) refl
+    (HasNo-append 10 (point_text target) (32 ∷ decimal limit) (point_apart 10 target (omega arith) is.0) (HasNo-cons 10 32 (decimal limit) refl (HasNo-decimal 10 limit (omega arith) (omega (arith, is.2)))))
+command_no_lf true (Near target limit) is = absurd is
 
 -- a line says this as it is printed, does not end within, and says something
 record IsGood (texts : Bool) (s : Saying) : Type 0 where
@@ -91,6 +96,7 @@ good_command texts c is = record { spelled = command_printed texts c is; whole =
     some Vacuum = refl
     some (Save name) = refl
     some Stat = refl
+    some (Near target limit) = refl
 
 each_append : {A : Type 0} (P : A → Type 0) (xs ys : List A) → AllByRecursion P xs → AllByRecursion P ys → AllByRecursion P (xs ++ ys)
 each_append P [] ys each more = more

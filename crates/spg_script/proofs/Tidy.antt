@@ -13,7 +13,7 @@ use Rattle.spg_script.specs.declared.any_cond.AnyCond.TheVariants as any_cond
 use Rattle.spg_script.specs.declared.any_query.AnyQuery.{AnyQuery}
 use Rattle.spg_script.specs.declared.any_query.AnyQuery.TheVariants.{All, Null, Where}
 use Rattle.spg_script.specs.declared.command.Command.{Command}
-use Rattle.spg_script.specs.declared.command.Command.TheVariants.{Insert, Delete, Find, Vacuum, Save, Stat}
+use Rattle.spg_script.specs.declared.command.Command.TheVariants.{Insert, Delete, Find, Vacuum, Save, Stat, Near}
 use Rattle.spg_script.specs.Blocks.{Part, Script}
 use Rattle.spg_base.specs.Text.{row_text}
 use Rattle.spg_script.specs.Quoted.{hex_of, is_plain, escaped, first_byte, SpellsText, IsQuoted}
@@ -146,6 +146,8 @@ command_is texts (Find query) line are (bytes, all, spelled) = query_is texts qu
 command_is texts Vacuum line are is = tt
 command_is texts (Save name) line are is = is.1
 command_is texts Stat line are is = tt
+command_is false (Near target limit) line are is = (is.1, is.2, is.3)
+command_is true (Near target limit) line are is = absurd is
 
 -- ---- scripts
 

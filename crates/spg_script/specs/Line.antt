@@ -1,7 +1,8 @@
 -- How a line spells a command of a class.
-use Rattle.std.specs.Prelude.{◌≡◌, ◌≤◌, ℕ, Bool, true, false, List, [], ◌∷◌, ◌++◌, length, Option, Some, None, codes, nat_le, ◌==◌, ◌&&◌, ◌||◌}
+use Rattle.std.specs.Prelude.{◌≡◌, ◌<◌, ◌≤◌, ◌^◌, ℕ, Bool, true, false, List, [], ◌∷◌, ◌++◌, length, Option, Some, None, codes, nat_le, ◌==◌, ◌&&◌, ◌||◌}
 use Rattle.std.specs.List.{list_all}
 use Rattle.spg_base.specs.Text.{row_text, point_text}
+use Rattle.spg_base.specs.declared.point.Point.{Point}
 use Rattle.spg_radix.specs.declared.condition.TextCond.{TextCond}
 use Rattle.spg_radix.specs.declared.condition.TextCond.TheVariants.{Eq, Lt, Le, Gt, Ge, Starts}
 use Rattle.spg_radix.specs.Conditions.{named}
@@ -14,9 +15,9 @@ use Rattle.spg_script.specs.declared.any_cond.AnyCond.TheVariants as any_cond
 use Rattle.spg_script.specs.declared.any_query.AnyQuery.{AnyQuery}
 use Rattle.spg_script.specs.declared.any_query.AnyQuery.TheVariants.{All, Null, Where}
 use Rattle.spg_script.specs.declared.command.Command.{Command}
-use Rattle.spg_script.specs.declared.command.Command.TheVariants.{Insert, Delete, Find, Vacuum, Save, Stat}
+use Rattle.spg_script.specs.declared.command.Command.TheVariants.{Insert, Delete, Find, Vacuum, Save, Stat, Near}
 use Rattle.spg_script.specs.Quoted.{IsQuoted}
-use Rattle.spg_script.specs.Spelling.{cond_text, IsRow, IsPoint, IsCond}
+use Rattle.spg_script.specs.Spelling.{cond_text, IsRow, IsPoint, IsCond, near_text}
 
 -- whether the keys of a class are texts; else they are points
 abbrev pub has_texts : ClassName → Bool
@@ -75,6 +76,11 @@ abbrev pub is_name : List ℕ → Bool
 is_name [] = false
 is_name (b ∷ name) = is_first_of_name b && list_all is_in_name name && nat_le (length name) 63
 
+-- a search for the nearest rows, 1 to 65,535 of them; of points alone
+abbrev pub SpellsNear : Bool → Point → ℕ → List ℕ → Type 0
+SpellsNear false target limit line = (line ≡ near_text target limit) × IsPoint target × (0 < limit) × (limit < 2 ^ 16)
+SpellsNear true target limit line = ⊥
+
 -- a command
 abbrev pub SpellsCommand : Bool → Command → List ℕ → Type 0
 SpellsCommand texts (Insert row key) line = (bytes : List ℕ) × (line ≡ codes "insert " ++ row_text row ++ 32 ∷ bytes) × IsRow row × SpellsKeyOrNull texts key bytes
@@ -83,3 +89,4 @@ SpellsCommand texts (Delete row) line = (line ≡ codes "delete " ++ row_text ro
 SpellsCommand texts Vacuum line = line ≡ codes "vacuum"
 SpellsCommand texts (Save name) line = (line ≡ codes "save " ++ name) × (is_name name ≡ true)
 SpellsCommand texts Stat line = line ≡ codes "stat"
+SpellsCommand texts (Near target limit) line = SpellsNear texts target limit line

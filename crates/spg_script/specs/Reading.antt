@@ -15,7 +15,7 @@ use Rattle.spg_script.specs.declared.any_cond.AnyCond.{AnyCond}
 use Rattle.spg_script.specs.declared.any_cond.AnyCond.TheVariants as any_cond
 use Rattle.spg_script.specs.declared.any_query.AnyQuery.TheVariants.{All, Null, Where}
 use Rattle.spg_script.specs.declared.command.Command.{Command}
-use Rattle.spg_script.specs.declared.command.Command.TheVariants.{Insert, Delete, Find, Vacuum, Save, Stat}
+use Rattle.spg_script.specs.declared.command.Command.TheVariants.{Insert, Delete, Find, Vacuum, Save, Stat, Near}
 use Rattle.spg_script.specs.Quoted.{first_byte}
 use Rattle.spg_script.specs.Line.{is_name}
 
@@ -230,11 +230,19 @@ delete_of bytes = row_of bytes >>= λ row. Some (Delete row)
 unfoldable pub save_of : List ℕ → Option Command
 save_of bytes = if is_name bytes then Some (Save bytes) else None
 
+-- a search for so many rows, from 1 to 65,535
+abbrev pub near_at : Point → ℕ → Option Command
+near_at target limit = if limit == 0 || nat_lt 65535 limit then None else Some (Near target limit)
+
+unfoldable pub near_of : Bool → List ℕ → Option Command
+near_of texts bytes = if texts then None else (split_at 32 bytes >>= λ parts. point_of parts.0 >>= λ target. number_of parts.1 >>= λ limit. near_at target limit)
+
 unfoldable pub command_of : Bool → List ℕ → Option Command
 command_of texts bytes =
     if starts_with nat_eq bytes (codes "insert ") then insert_of texts (drop 7 bytes)
     else (if starts_with nat_eq bytes (codes "find ") then find_of texts (drop 5 bytes)
     else (if starts_with nat_eq bytes (codes "delete ") then delete_of (drop 7 bytes)
+    else (if starts_with nat_eq bytes (codes "near ") then near_of texts (drop 5 bytes)
     else (if starts_with nat_eq bytes (codes "save ") then save_of (drop 5 bytes)
     else (if bytes_eq bytes (codes "vacuum") then Some Vacuum
-    else (if bytes_eq bytes (codes "stat") then Some Stat else None)))))
+    else (if bytes_eq bytes (codes "stat") then Some Stat else None))))))

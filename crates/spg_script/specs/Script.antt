@@ -4,9 +4,9 @@ use Rattle.std.specs.List.{AllZip, AllByRecursion, flat_map}
 use Rattle.spg_base.specs.Text.{row_text}
 use Rattle.spg_radix.specs.Texts.{is_bytes}
 use Rattle.spg_script.specs.declared.command.Command.{Command}
-use Rattle.spg_script.specs.declared.command.Command.TheVariants.{Insert, Delete, Find, Vacuum, Save, Stat}
+use Rattle.spg_script.specs.declared.command.Command.TheVariants.{Insert, Delete, Find, Vacuum, Save, Stat, Near}
 use Rattle.spg_script.specs.Blocks.{Part, Script}
-use Rattle.spg_script.specs.Spelling.{class_text}
+use Rattle.spg_script.specs.Spelling.{class_text, near_text}
 use Rattle.spg_script.specs.Line.{has_texts, SpellsCommand}
 use Rattle.spg_script.specs.Speech.{any_key_or_null_text, any_query_text}
 use Rattle.spg_script.specs.Laws.{IsCommand}
@@ -54,6 +54,7 @@ IsLaneCommand (Find query) = ⊤
 IsLaneCommand Vacuum = ⊤
 IsLaneCommand (Save name) = ⊥
 IsLaneCommand Stat = ⊥
+IsLaneCommand (Near target limit) = ⊥
 
 -- 1 to 32 lanes of lane commands, or one command
 abbrev pub IsBlock : Bool → List (List Command) → Type 0
@@ -104,6 +105,7 @@ command_text (Find query) = codes "find " ++ any_query_text query
 command_text Vacuum = codes "vacuum"
 command_text (Save name) = codes "save " ++ name
 command_text Stat = codes "stat"
+command_text (Near target limit) = near_text target limit
 
 abbrev pub saying_text : Saying → List ℕ
 saying_text block_opens = codes "together"

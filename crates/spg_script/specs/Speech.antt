@@ -14,7 +14,7 @@ use Rattle.spg_script.specs.declared.any_cond.AnyCond.TheVariants as any_cond
 use Rattle.spg_script.specs.declared.any_query.AnyQuery.{AnyQuery}
 use Rattle.spg_script.specs.declared.any_query.AnyQuery.TheVariants.{All, Null, Where}
 use Rattle.spg_script.specs.declared.command.Command.{Command}
-use Rattle.spg_script.specs.declared.command.Command.TheVariants.{Insert, Delete, Find, Vacuum, Save, Stat}
+use Rattle.spg_script.specs.declared.command.Command.TheVariants.{Insert, Delete, Find, Vacuum, Save, Stat, Near}
 use Rattle.spg_script.specs.Quoted.{quoted}
 use Rattle.spg_script.specs.Spelling.{cond_text, conds_text}
 use Rattle.spg_script.specs.Line.{word_of}
@@ -54,6 +54,7 @@ IsKnown speech (Delete row) = ⊤
 IsKnown speech Vacuum = ⊤
 IsKnown speech (Save name) = ⊤
 IsKnown speech Stat = ⊤
+IsKnown {Key} speech (Near target limit) = (k : Key) × (speech.key_in (any_key.Point target) ≡ Some k)
 
 -- a key, or a null
 abbrev pub key_or_null_text : {Key Cond : Type 0} → Speech Key Cond → Option Key → List ℕ

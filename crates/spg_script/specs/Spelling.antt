@@ -1,7 +1,7 @@
 -- How classes, points and conditions on them are spelled in a script.
 use Rattle.std.specs.Prelude.{ℕ, ◌<◌, ◌^◌, ◌≤ℤ◌, ℤ, List, [], ◌∷◌, ◌++◌, codes, FitsSigned}
 use Rattle.std.specs.Int.{w32}
-use Rattle.std.specs.Fmt.{signed_decimal}
+use Rattle.std.specs.Fmt.{decimal, signed_decimal}
 use Rattle.spg_base.specs.Row.{RowAt}
 use Rattle.spg_base.specs.Text.{point_text}
 use Rattle.spg_base.specs.declared.point.Point.{Point}
@@ -28,6 +28,10 @@ cond_text (Right x) = codes "right " ++ signed_decimal x
 cond_text (Below y) = codes "below " ++ signed_decimal y
 cond_text (Above y) = codes "above " ++ signed_decimal y
 cond_text (Inside x1 y1 x2 y2) = codes "in " ++ corners_text x1 y1 x2 y2
+
+-- a search for so many of the rows nearest to a point
+abbrev pub near_text : Point → ℕ → List ℕ
+near_text target limit = codes "near " ++ (point_text target ++ 32 ∷ decimal limit)
 
 -- conditions in order: the first behind this word, each further one behind `and`
 abbrev pub conds_text : {Cond : Type 0} → (Cond → List ℕ) → List ℕ → List Cond → List ℕ

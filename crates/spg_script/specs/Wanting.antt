@@ -76,7 +76,8 @@ command_wants texts other line =
     if starts_with nat_eq line (codes "insert ") then insert_wants texts (drop 7 line)
     else (if starts_with nat_eq line (codes "find ") then find_wants texts (drop 5 line)
     else (if starts_with nat_eq line (codes "delete ") then wanted.DeleteRow
-    else (if starts_with nat_eq line (codes "save ") then wanted.Name else other)))
+    else (if starts_with nat_eq line (codes "near ") then wanted.Near
+    else (if starts_with nat_eq line (codes "save ") then wanted.Name else other))))
 
 -- in place of a line outside blocks
 unfoldable pub between_wants : Bool → List ℕ → Wanted
@@ -86,7 +87,7 @@ between_wants texts line = if bytes_eq line (codes "lane") || bytes_eq line (cod
 unfoldable pub lane_wants : Bool → List ℕ → Wanted
 lane_wants texts line =
     if bytes_eq line (codes "lane") then wanted.FewerLanes
-    else (if bytes_eq line (codes "stat") || starts_with nat_eq line (codes "save ") then wanted.NoLane else command_wants texts wanted.LaneCommand line)
+    else (if bytes_eq line (codes "stat") || starts_with nat_eq line (codes "save ") || starts_with nat_eq line (codes "near ") then wanted.NoLane else command_wants texts wanted.LaneCommand line)
 
 -- in place of a line that is bad behind what has come
 abbrev pub line_wants : Spot → List ℕ → Wanted

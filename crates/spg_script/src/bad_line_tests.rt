@@ -3,7 +3,7 @@ use std::alloc::Global;
 use std::test::Fail;
 
 /// Bytes that are no script, the number of the first bad line, how it is shown, and the words.
-const TOLD: [(&[u8], u32, &str, Wanted); 30] = [
+const TOLD: [(&[u8], u32, &str, Wanted); 34] = [
     (b"", 1, "''", Wanted::ClassLine),
     (b"# a town\n\n", 3, "''", Wanted::ClassLine),
     (b"#\nclass range\n", 2, "'class range'", Wanted::ClassLine),
@@ -111,6 +111,20 @@ const TOLD: [(&[u8], u32, &str, Wanted); 30] = [
         2,
         "'find where left 1 and left 2 and left 3 and left 4 and left '..",
         Wanted::FewerConditions,
+    ),
+    (b"class kd\nnear 1,1\n", 2, "'near 1,1'", Wanted::Near),
+    (b"class kd\nnear 1,1 0\n", 2, "'near 1,1 0'", Wanted::Near),
+    (
+        b"class radix\nnear 1,1 5\n",
+        2,
+        "'near 1,1 5'",
+        Wanted::Near,
+    ),
+    (
+        b"class kd\ntogether\nlane\nnear 1,1 5\nend\n",
+        4,
+        "'near 1,1 5'",
+        Wanted::NoLane,
     ),
     (b"class quad\nsave A\n", 2, "'save A'", Wanted::Name),
     (

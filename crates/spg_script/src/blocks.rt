@@ -33,7 +33,7 @@ fn is_for_lanes(command: &Command) -> bool
     match command {
         Command::Insert { .. } | Command::Delete { .. } | Command::Find { .. } | Command::Vacuum =>
             { true }
-        Command::Save { .. } | Command::Stat => false,
+        Command::Save { .. } | Command::Stat | Command::Near { .. } => false,
     }
 }
 

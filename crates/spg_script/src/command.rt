@@ -1,6 +1,6 @@
 use crate::any_key::AnyKey;
 use crate::any_query::AnyQuery;
-use spg_base::{Bytes, Row};
+use spg_base::{Bytes, Point, Row};
 
 /// One command of a script.
 #[derive(Debug, Drop)]
@@ -17,4 +17,6 @@ pub enum Command {
     Save { name: Bytes },
     /// Counts the tuples.
     Stat,
+    /// Finds the rows nearest to a point, `limit` at most, from 1 on.
+    Near { target: Point, limit: u16 },
 }

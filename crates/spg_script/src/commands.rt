@@ -1,6 +1,6 @@
 ghost use Rattle.std.specs.Prelude.{◌≡◌, IfOk, IfSome, IfNone};
 ghost use Rattle.spg_script.specs.Line.{SpellsCommand, has_texts};
-ghost use Rattle.spg_script.specs.Reading.{key_of, insert_of, delete_of, find_of, save_of, command_of};
+ghost use Rattle.spg_script.specs.Reading.{key_of, insert_of, delete_of, find_of, save_of, near_at, near_of, command_of};
 ghost use Rattle.spg_script.specs.declared.command.Command.{Command};
 
 use crate::any_key::AnyKey;
@@ -10,10 +10,13 @@ use crate::class_name::ClassName;
 use crate::command::Command;
 use crate::conditions::conds;
 use crate::names::is_name;
-use crate::numbers::{point, row};
+use crate::numbers::{number, point, row};
 use crate::texts::whole_text;
-use spg_base::{Bytes, Memory};
+use spg_base::{Bytes, Memory, Point};
 use std::alloc::Global;
+
+/// The greatest number of rows that a search for the nearest is asked for.
+const MOST_NEAR: u32 = 65_535;
 
 /// The key that the bytes spell: a text, or else a point, or a null.
 #[tactic(auto, unfolding(crate::specs::Reading::key_of))]
@@ -96,6 +99,34 @@ fn save(alloc: Global, bytes: &[u8]) -> Result<Option<Command>, Memory>
     }
 }
 
+/// The search for so many rows, from 1 to 65,535.
+fn near_at(target: Point, limit: u32) -> Option<Command>
+    ensures { result ≡ near_at target limit }
+{
+    if limit == 0 || limit > MOST_NEAR {
+        None
+    } else {
+        Some(Command::Near {
+            target,
+            limit: limit as u16,
+        })
+    }
+}
+
+/// The search for the nearest rows. There is none of texts.
+#[tactic(auto, unfolding(crate::specs::Reading::near_of))]
+fn near(texts: bool, bytes: &[u8]) -> Option<Command>
+    ensures { result ≡ near_of texts bytes.now }
+{
+    if texts {
+        return None;
+    }
+    let (target, limit) = split(bytes, b' ')?;
+    let target = point(target)?;
+    let limit = number(limit)?;
+    near_at(target, limit)
+}
+
 #[tactic(auto, unfolding(crate::specs::Reading::command_of))]
 fn command(alloc: Global, texts: bool, line: &[u8]) -> Result<Option<Command>, Memory>
     ensures { IfOk result (λ found. found ≡ command_of texts line.now) }
@@ -106,6 +137,8 @@ fn command(alloc: Global, texts: bool, line: &[u8]) -> Result<Option<Command>, M
         find(alloc, texts, &line[5..])
     } else if line.starts_with(b"delete ") {
         Ok(delete(&line[7..]))
+    } else if line.starts_with(b"near ") {
+        Ok(near(texts, &line[5..]))
     } else if line.starts_with(b"save ") {
         save(alloc, &line[5..])
     } else if line == b"vacuum".as_slice() {

@@ -1,15 +1,17 @@
 ghost use Rattle.std.specs.Prelude.{◌≡◌, ◌++◌, ◌∷◌, [], IfOk, OnOk};
 ghost use Rattle.std.specs.List.{flat_map};
+ghost use Rattle.spg_script.specs.declared.command.Command.TheVariants as asked;
 ghost use Rattle.spg_script.specs.Blocks.{Script as Blocks};
 ghost use Rattle.spg_script.specs.Script.{command_text, printed, IsScript};
 ghost use Rattle.spg_script.specs.Printing.{commands_text, lanes_text, part_text};
 
 use crate::command::Command;
-use crate::numerals::push_row;
+use crate::numerals::{push_point, push_row};
 use crate::part::{Part, PartRef};
 use crate::script::Script;
 use crate::spelling::{push_key, push_query};
-use spg_base::{Bytes, List, Memory};
+use crate::tail::Tail;
+use spg_base::{Bytes, List, Memory, Point};
 use std::alloc::Global;
 
 /// Adds a line.
@@ -18,6 +20,18 @@ fn push_line(text: &mut Bytes, line: &[u8]) -> Result<(), Memory>
 {
     text.extend(line)?;
     text.push(b'\n')
+}
+
+/// Adds a search for the nearest rows.
+fn push_near(text: &mut Bytes, target: Point, limit: u16) -> Result<(), Memory>
+    ensures { OnOk result (text.new ≡ text.old ++ command_text (asked.Near target limit)) }
+{
+    text.extend(b"near ")?;
+    push_point(text, target)?;
+    let mut tail = Tail::new();
+    tail.number(u64::from(limit));
+    tail.byte(b' ');
+    text.extend(tail.as_slice())
 }
 
 /// Adds a command.
@@ -45,6 +59,7 @@ fn push_command(text: &mut Bytes, command: &Command) -> Result<(), Memory>
             text.extend(name.as_slice())
         }
         Command::Stat => text.extend(b"stat"),
+        Command::Near { target, limit } => push_near(text, *target, *limit),
     }
 }
 

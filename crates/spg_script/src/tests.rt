@@ -9,7 +9,7 @@ use std::alloc::Global;
 use std::test::Fail;
 
 /// Scripts, and how they are printed; None where they are printed as they stand.
-const SCRIPTS: [(&[u8], Option<&[u8]>); 11] = [
+const SCRIPTS: [(&[u8], Option<&[u8]>); 12] = [
     (b"class quad\ninsert 1.1 3,4\nfind all\n", None),
     (b"class kd", Some(b"class kd\n")),
     (b"class radix\n", None),
@@ -49,10 +49,14 @@ const SCRIPTS: [(&[u8], Option<&[u8]>); 11] = [
         b"class quad\nsave aaaaaaaaaaaaaaaaaaaaaaaaaaaaaaaaaaaaaaaaaaaaaaaaaaaaaaaaaaaaaaaa\n",
         None,
     ),
+    (
+        b"class kd\nnear -2147483648,2147483647 1\nnear 0,-1 65535\n",
+        None,
+    ),
 ];
 
 /// Bytes that are no script, and the first bad line.
-const BAD: [(&[u8], u32); 92] = [
+const BAD: [(&[u8], u32); 101] = [
     (b"", 1),
     (b"\n", 2),
     (b"# nothing\n\n", 3),
@@ -135,6 +139,15 @@ const BAD: [(&[u8], u32); 92] = [
     ),
     (b"class quad\nstat\n\nclass quad", 4),
     (b"class quad\nend", 2),
+    (b"class quad\nnear 1,1", 2),
+    (b"class quad\nnear 1,1 ", 2),
+    (b"class quad\nnear 1,1 0", 2),
+    (b"class quad\nnear 1,1 65536", 2),
+    (b"class quad\nnear 1,1 01", 2),
+    (b"class quad\nnear 1 1", 2),
+    (b"class quad\nnear null 1", 2),
+    (b"class radix\nnear \"a\" 1", 2),
+    (b"class kd\ntogether\nlane\nnear 1,1 1\nend", 4),
     (b"class quad\nlane", 2),
     (b"class quad\ntogether", 3),
     (b"class quad\ntogether\n", 3),

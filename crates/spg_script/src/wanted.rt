@@ -11,7 +11,7 @@ pub enum Wanted {
     FirstLane,
     /// A command of a lane, `lane` or `end`.
     LaneCommand,
-    /// `save` and `stat` stand in no lane.
+    /// `save`, `stat` and `near` stand in no lane.
     NoLane,
     /// A block has 32 lanes already.
     FewerLanes,
@@ -39,6 +39,8 @@ pub enum Wanted {
     TextConditions,
     /// A name to save under.
     Name,
+    /// A point and a number of rows, in a class of points.
+    Near,
 }
 
 impl Wanted {
@@ -46,11 +48,13 @@ impl Wanted {
     pub fn words(self) -> &'static str {
         match self {
             Wanted::ClassLine => "class quad, class kd or class radix is wanted",
-            Wanted::Command => { "insert, find, delete, vacuum, save, stat or together is wanted" }
+            Wanted::Command => {
+                "insert, find, near, delete, vacuum, save, stat or together is wanted"
+            }
             Wanted::Together => "lane and end stand behind together alone",
             Wanted::FirstLane => "together: lane is wanted",
             Wanted::LaneCommand => "insert, find, delete, vacuum, lane or end is wanted",
-            Wanted::NoLane => "save and stat stand in no lane",
+            Wanted::NoLane => "save, stat and near stand in no lane",
             Wanted::FewerLanes => "lane: a block has at most 32 lanes",
             Wanted::EndOfBlock => "the script ends inside a block: its line end is missing",
             Wanted::InsertRow => "insert B.O KEY: a row B.O is wanted, O from 1 to 65535",
@@ -73,6 +77,9 @@ impl Wanted {
             }
             Wanted::Name => {
                 "save NAME: 1 to 64 of a to z, 0 to 9, _, - and . are wanted, the first no - or ."
+            }
+            Wanted::Near => {
+                "near X,Y N: a point X,Y and N from 1 to 65535 are wanted, in a class of points"
             }
         }
     }

@@ -112,6 +112,8 @@ fn command_wants(texts: bool, other: Wanted, line: &[u8]) -> Wanted
         find_wants(texts, &line[5..])
     } else if line.starts_with(b"delete ") {
         Wanted::DeleteRow
+    } else if line.starts_with(b"near ") {
+        Wanted::Near
     } else if line.starts_with(b"save ") {
         Wanted::Name
     } else {
@@ -138,7 +140,10 @@ fn lane_wants(texts: bool, line: &[u8]) -> Wanted
 {
     if line == b"lane".as_slice() {
         Wanted::FewerLanes
-    } else if line == b"stat".as_slice() || line.starts_with(b"save ") {
+    } else if line == b"stat".as_slice()
+        || line.starts_with(b"save ")
+        || line.starts_with(b"near ")
+    {
         Wanted::NoLane
     } else {
         command_wants(texts, Wanted::LaneCommand, line)

@@ -14,7 +14,7 @@ use Rattle.spg_core.specs.Seen.{Seen, stage_at, past_of}
 use Rattle.spg_near.specs.Nearing.{Nearing}
 use Rattle.spg_among.specs.declared.seek.Stop.{Stop}
 use Rattle.spg_among.specs.Among.{IsSoughtTo}
-use Rattle.spg_among.proofs.Amongs.{from_open, ended, right, alone}
+use Rattle.spg_among.proofs.Amongs.{from_open, ended, right, alone, alone_or}
 use Rattle.spg_among.proofs.among.near_among.Goals as goal
 
 fits_as : (n k : ℕ) → k ≡ n → k < 2 ^ 64 → counted n ≡ n
@@ -118,6 +118,12 @@ returns-clause-alone g c = λ none.
     (λ same. alone m c.args.seat c.args.state.now c.open_scan.new.self c.abandon.new.self c.in_ok-open_scan.ensures.ok (subst (λ (s : Seen _ Point _ _). GivesUp s c.abandon.new.self c.args.seat Given) same c.abandon.ensures.up))
     (λ l. absurd (omega arith))
     c.seek-sought.ensures.alone
+
+pub returns-in_err-block-clause-refused_alone : goal.returns-in_err-block-clause-refused_alone
+returns-in_err-block-clause-refused_alone g c = on_err _ _ (alone_or g.O.OpClass.meaning c.args.seat c.args.state.now c.open_scan.new.self c.seek-sought.new.state c.abandon.new.self _ _ c.in_ok-open_scan.ensures.ok c.seek-sought.ensures.alone c.abandon.ensures.up)
+
+pub returns-in_err-rows-in-Done-clause-refused_alone : goal.returns-in_err-rows-in-Done-clause-refused_alone
+returns-in_err-rows-in-Done-clause-refused_alone g c = on_err _ _ (alone_or g.O.OpClass.meaning c.args.seat c.args.state.now c.open_scan.new.self c.seek-sought.new.state c.abandon.new.self _ _ c.in_ok-open_scan.ensures.ok c.seek-sought.ensures.alone c.abandon.ensures.up)
 
 pub returns-clause-walk : goal.returns-clause-walk
 returns-clause-walk g c = λ none last r.

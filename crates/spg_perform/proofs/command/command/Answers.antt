@@ -6,7 +6,7 @@ use Rattle.spg_script.specs.declared.command.Command.TheVariants.{Save}
 use Rattle.spg_script.specs.Script.{IsLaneCommand}
 use Rattle.spg_perform.proofs.LeadingCommand.{Goes, goes_inward, goes_saved, goes_closed, goes_on}
 use Rattle.spg_perform.proofs.command.command.Given.{Over}
-use Rattle.spg_perform.proofs.command.command.Goals.{in-Insert, in-Delete, in-Find, in-Save, in-Stat, in-Vacuum}
+use Rattle.spg_perform.proofs.command.command.Goals.{in-Insert, in-Delete, in-Find, in-Save, in-Stat, in-Near, in-Vacuum}
 use Rattle.spg_perform.proofs.command.command.Goals as goal
 
 -- each command was done, and this it did to the images
@@ -23,6 +23,7 @@ goes g c = elim c.match-command.branch [
       (goes_saved g.O.OpClass.meaning g.O.Spoken.speech g.O.OpClass.code_number c.args.seat c.args.state.now (g.M.Images.held c.args.images.now) (g.M.Images.held w.saved-done.new.images) (g.M.Images.faults c.args.images.now) (g.M.Images.faults w.saved-done.new.images) true _
       w.saved-done.result lane w.saved-done.ensures.acts w.saved-done.ensures.saved w.saved-done.ensures.faults holds)
   | in-Stat w ↦ rw (w.state-is, w.images-is, w.done-is, w.in-Stat.is) (goes_inward g.O.OpClass.meaning g.O.Spoken.speech g.O.OpClass.code_number c.args.seat c.args.state.now c.args.state.now (g.M.Images.held c.args.images.now) (g.M.Images.faults c.args.images.now) true _ w.stat-done.result tt (w.stat-done.ensures true))
+  | in-Near w ↦ rw (w.state-is, w.images-is, w.done-is, w.in-Near.is) (goes_inward g.O.OpClass.meaning g.O.Spoken.speech g.O.OpClass.code_number c.args.seat c.args.state.now w.near-done.new.state (g.M.Images.held c.args.images.now) (g.M.Images.faults c.args.images.now) true _ w.near-done.result tt w.near-done.ensures)
   | in-Vacuum w ↦ rw (w.state-is, w.images-is, w.done-is, w.in-Vacuum.is) (goes_inward g.O.OpClass.meaning g.O.Spoken.speech g.O.OpClass.code_number c.args.seat c.args.state.now w.vacuum-done.new.state (g.M.Images.held c.args.images.now) (g.M.Images.faults c.args.images.now) true _ w.vacuum-done.result tt (w.vacuum-done.ensures true))
 ]
 

@@ -1,0 +1,10 @@
+//! What the classes of scripts serve beside their index: the rows nearest to a point, where keys are
+//! points.
+#![tactic(auto)]
+
+mod points;
+mod served;
+mod texts;
+
+pub use served::Served;
+pub use spg_nearest::Nearest;
