@@ -217,6 +217,16 @@ def test_save_where_the_user_stands(copy):
     expect("where it is not", os.path.exists(f"{copy.top}/pages"), False)
 
 
+def test_pictures(copy):
+    """Those of the documents are what draw.py draws of the examples."""
+    for name in ("town", "streets"):
+        copy.run("run", script=EXAMPLES.joinpath(f"{name}.spg").read_bytes() + f"\nsave {name}\n".encode())
+        words = [sys.executable, f"{copy.top}/tools/draw.py", f"{copy.here}/{name}"]
+        drawn = subprocess.run(words, capture_output=True, text=True, check=False)
+        expect("what was said", (drawn.stderr, drawn.returncode), ("", 0))
+        expect(f"the picture {name}", drawn.stdout == text_of(f"{copy.top}/docs/pictures/{name}.svg"), True)
+
+
 def test_statuses(copy):
     expect("of a bad script", copy.run("run", script=b"class quad\ninsert\n").returncode, 3)
     with open(copy.bin + "/../into", "wb") as closed:
