@@ -7,4 +7,5 @@ pub mod Complete
 pub mod Refused
 pub mod Lines
 pub mod RunEnds
+pub mod LoadRows
 pub mod LoadEnds

@@ -1,9 +1,10 @@
 -- What each answer of the program says of what was read, done and written.
-use Rattle.std.specs.Prelude.{◌≡◌, ◌⊎◌, ◌<◌, ◌≤◌, List, ℕ, length, Option, Some, None, IsSomeAnd, ⊤}
+use Rattle.std.specs.Prelude.{◌≡◌, ◌⊎◌, ◌<◌, ◌≤◌, List, ℕ, length, true, Option, Some, None, IsSomeAnd, ⊤}
 use Rattle.spg_opclass.specs.Meaning.{Meaning}
 use Rattle.spg_quad.specs.Quad.{quad_meaning}
 use Rattle.spg_kd.specs.Kd.{kd_meaning}
 use Rattle.spg_radix.specs.Radix.{radix_meaning}
+use Rattle.spg_radix.specs.Texts.{is_bytes}
 use Rattle.spg_core.specs.Seen.{Seen}
 use Rattle.spg_io.specs.Causes.{Rose}
 use Rattle.spg_io.specs.Held.{Holding}
@@ -39,12 +40,13 @@ pub record Streams : Type 0 where
 abbrev pub streams : Option (List ℕ) → Option (List ℕ) → ℕ → ℕ → Streams
 streams left left_after f f_after = record { left = left; left_after = left_after; read_faults = f; read_faults_after = f_after }
 
--- a source gave a script of at most 67,108,864 bytes and nothing more
+-- a source gave a script of at most 67,108,864 bytes, each below 256, and nothing more
 pub record GaveScript (left left_after : Option (List ℕ)) (script : Script) : Type 0 where
   pub bytes : List ℕ
   pub read : ReadWhole left left_after bytes
   pub short : length bytes ≤ longest_script
   pub is_script : IsScript bytes script
+  pub are_bytes : is_bytes bytes ≡ true
 
 -- the source gave a script of this class, and its commands were done
 pub record Ran {O Key Recon Cond : Type 0} (m : Meaning Key Recon Cond) (speech : Speech Key Cond) (code limit : ℕ) (from : Option (List ℕ)) (class : ClassName) (io : Streams) (out : Outlets) (status : Status) (seen : Seen O Key Recon Cond) : Type 0 where

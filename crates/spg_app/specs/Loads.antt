@@ -1,21 +1,31 @@
 -- What is said of `gen`: which script was made and run, and what was written of it.
-use Rattle.std.specs.Prelude.{◌≡◌, ℕ, [], List, Option, Some, None}
+use Rattle.std.specs.Prelude.{◌≡◌, ◌<◌, ◌≤◌, ◌+◌, ◌++◌, ℕ, List, [], ◌∷◌, Option, Some, None, count_by, codes}
+use Rattle.std.specs.Fmt.{decimal}
+use Rattle.std.specs.List.{AllZip, range_with_len}
 use Rattle.spg_io.specs.Causes.{Rose}
 use Rattle.spg_opclass.specs.Meaning.{Meaning}
+use Rattle.spg_opclass.specs.declared.query.Query.{Query}
 use Rattle.spg_quad.specs.Quad.{quad_meaning}
 use Rattle.spg_kd.specs.Kd.{kd_meaning}
 use Rattle.spg_radix.specs.Radix.{radix_meaning}
-use Rattle.spg_core.specs.Seen.{Seen}
+use Rattle.spg_rows.specs.declared.event.Event.{Event}
+use Rattle.spg_bounds.specs.Bounds.{DropsAreLate}
+use Rattle.spg_core.specs.Seen.{Seen, past_of}
 use Rattle.spg_script.specs.declared.class_name.ClassName.TheVariants as class
 use Rattle.spg_script.specs.Blocks.{Script}
-use Rattle.spg_script.specs.Speech.{Speech, point_speech, text_speech}
-use Rattle.spg_script.specs.Generated.{generated}
+use Rattle.spg_script.specs.declared.any_query.AnyQuery.{AnyQuery}
+use Rattle.spg_script.specs.declared.any_query.AnyQuery.TheVariants.{All}
+use Rattle.spg_script.specs.Speech.{Speech, query_in, point_speech, text_speech}
+use Rattle.spg_script.specs.Generated.{first_query, second_query, generated}
 use Rattle.spg_report.specs.declared.record.Record.{Record}
+use Rattle.spg_report.specs.Text.{ended}
 use Rattle.spg_histories.specs.Tasks.{tasks_of}
 use Rattle.spg_histories.specs.Ending.{Writing, write_failed, status_after}
 use Rattle.spg_histories.specs.Answer.{Wrote}
 use Rattle.spg_histories.specs.declared.status.Status.{Status}
 use Rattle.spg_histories.specs.declared.status.Status.TheVariants as answer
+use Rattle.spg_loads.specs.Loads.{added_count, IsAddedOrFull}
+use Rattle.spg_loads.specs.Finds.{is_third, is_kept}
 use Rattle.spg_perform.specs.Session.{Session}
 use Rattle.spg_app.specs.declared.end_state.EndState.{EndState}
 use Rattle.spg_app.specs.declared.end_state.EndState.TheVariants.{Quad, Kd, Radix}
@@ -33,6 +43,8 @@ pub record RanLoad {O Key Recon Cond : Type 0} (m : Meaning Key Recon Cond) (spe
   pub wrote : Wrote writing out.taken out.taken_after (summary seen.journal records)
   pub cause : writing ≡ write_failed → Rose out.write_faults out.write_faults_after
   pub status_is : status ≡ status_after writing records
+  -- an insert was given up as the index was full only where so many were opened that it could be
+  pub late : DropsAreLate seen.origin (past_of seen)
 
 -- no state is handed back where memory was wanting before the first command
 abbrev pub EndsLoad : {O Key Recon Cond : Type 0} → Meaning Key Recon Cond → Speech Key Cond → ℕ → Script → Outlets → Status → Option (Seen O Key Recon Cond) → Type 0
@@ -43,11 +55,47 @@ EndsLoad m speech code script out status None = (status ≡ answer.Memory) × Le
 abbrev pub script_of : Load → Script
 script_of load = generated load.count load.seed load.lanes load.class
 
+-- ---- what came of the rows
+
+-- how many rows of a load are not deleted and match this query, where the class has it
+abbrev pub kept_by : {O Key Recon Cond : Type 0} → Meaning Key Recon Cond → Speech Key Cond → Load → Option (Query O Key Recon Cond) → ℕ
+kept_by m speech load None = 0
+kept_by m speech load (Some query) = count_by (is_kept m speech load.class load.seed query) (range_with_len 0 load.count)
+
+-- how many a find should give
+abbrev pub kept_count : (O : Type 0) → {Key Recon Cond : Type 0} → Meaning Key Recon Cond → Speech Key Cond → Load → AnyQuery → ℕ
+kept_count O m speech load asked = kept_by {O = O} m speech load (query_in speech asked)
+
+-- the summary of a load of which each row was added: the numbers are counted from its keys alone
+abbrev pub load_lines : (O : Type 0) → {Key Recon Cond : Type 0} → Meaning Key Recon Cond → Speech Key Cond → Load → List (List ℕ)
+load_lines O m speech load =
+    (codes "added " ++ decimal load.count)
+    ∷ (codes "live " ++ decimal (kept_count O m speech load All))
+    ∷ (codes "first " ++ decimal (kept_count O m speech load (first_query load.class)))
+    ∷ (codes "second " ++ decimal (kept_count O m speech load (second_query load.class)))
+    ∷ (codes "swept " ++ decimal (count_by is_third (range_with_len 0 load.count)))
+    ∷ []
+
+abbrev pub load_summary : (O : Type 0) → {Key Recon Cond : Type 0} → Meaning Key Recon Cond → Speech Key Cond → Load → List ℕ
+load_summary O m speech load = ended (load_lines O m speech load)
+
+-- Up to 8,191 rows are all added. Of more than that at least 8,192 are, but for one that each lane may have under way; the others found the index full. Where all were added, the summary is that of the load
+pub record RowsAre {O Key Recon Cond : Type 0} (m : Meaning Key Recon Cond) (speech : Speech Key Cond) (load : Load) (journal : List (Event O Key Recon Cond)) (records : List Record) : Type 0 where
+  pub few : load.count ≤ 8191 → added_count records ≡ load.count
+  pub many : 8191 < load.count → 8192 ≤ added_count records + load.lanes
+  pub others : AllZip IsAddedOrFull (tasks_of (script_of load)) records
+  pub all : added_count records ≡ load.count → summary journal records ≡ load_summary O m speech load
+
+-- the generated script of a load was run; with `Done` its rows are so
+pub record GenRan {O Key Recon Cond : Type 0} (m : Meaning Key Recon Cond) (speech : Speech Key Cond) (code : ℕ) (load : Load) (out : Outlets) (status : Status) (seen : Seen O Key Recon Cond) : Type 0 where
+  pub ran : RanLoad m speech code (script_of load) out status seen
+  pub rows : status ≡ answer.Done → RowsAre m speech load seen.journal ran.records
+
 -- the generated script was run, on a state of its class
 abbrev pub EndsGen : Load → Outlets → Status → EndState → Type 0
-EndsGen load out status (Quad seen) = (load.class ≡ class.Quad) × RanLoad quad_meaning point_speech 1 (script_of load) out status seen
-EndsGen load out status (Kd seen) = (load.class ≡ class.Kd) × RanLoad kd_meaning point_speech 2 (script_of load) out status seen
-EndsGen load out status (Radix seen) = (load.class ≡ class.Radix) × RanLoad radix_meaning text_speech 3 (script_of load) out status seen
+EndsGen load out status (Quad seen) = (load.class ≡ class.Quad) × GenRan quad_meaning point_speech 1 load out status seen
+EndsGen load out status (Kd seen) = (load.class ≡ class.Kd) × GenRan kd_meaning point_speech 2 load out status seen
+EndsGen load out status (Radix seen) = (load.class ≡ class.Radix) × GenRan radix_meaning text_speech 3 load out status seen
 
 -- what is said of a load
 abbrev pub IsGen : Load → Outlets → Status → Option EndState → Type 0

@@ -1,20 +1,13 @@
 -- The summary of the run of a generated script.
-use Rattle.std.specs.Prelude.{ℕ, ◌-◌, ◌++◌, Bool, true, false, List, [], ◌∷◌, length, drop, count_by, codes}
+use Rattle.std.specs.Prelude.{ℕ, ◌-◌, ◌++◌, List, [], ◌∷◌, length, drop, count_by, codes}
 use Rattle.std.specs.Fmt.{decimal}
 use Rattle.spg_rows.specs.declared.event.Event.{Event}
-use Rattle.spg_rows.specs.declared.event.Event.TheVariants.{Sweep}
 use Rattle.spg_report.specs.declared.outcome.Outcome.{Outcome}
 use Rattle.spg_report.specs.declared.outcome.Outcome.TheVariants as outcome
 use Rattle.spg_report.specs.declared.record.Record.{Record}
 use Rattle.spg_report.specs.Text.{ended}
-
-abbrev pub is_added : Outcome → Bool
-is_added outcome.Added = true
-is_added o = false
-
-abbrev pub is_sweep : {O Key Recon Cond : Type 0} → Event O Key Recon Cond → Bool
-is_sweep (Sweep seat row) = true
-is_sweep e = false
+pub use Rattle.spg_loads.specs.Loads.{is_added, added_count}
+pub use Rattle.spg_loads.specs.Finds.{is_sweep}
 
 -- the number of rows that a find gave, behind its word; or that memory was wanting, which is the one other outcome of a find
 abbrev pub find_line : List ℕ → Outcome → List ℕ
@@ -29,7 +22,7 @@ find_lines records = []
 -- how many rows were added, what the last three finds gave, and how many rows were swept
 abbrev pub summary_lines : {O Key Recon Cond : Type 0} → List (Event O Key Recon Cond) → List Record → List (List ℕ)
 summary_lines journal records =
-    (codes "added " ++ decimal (count_by (λ (r : Record). is_added r.outcome) records)) ∷ (find_lines (drop (length records - 3) records) ++ (codes "swept " ++ decimal (count_by is_sweep journal)) ∷ [])
+    (codes "added " ++ decimal (added_count records)) ∷ (find_lines (drop (length records - 3) records) ++ (codes "swept " ++ decimal (count_by is_sweep journal)) ∷ [])
 
 abbrev pub summary : {O Key Recon Cond : Type 0} → List (Event O Key Recon Cond) → List Record → List ℕ
 summary journal records = ended (summary_lines journal records)

@@ -1,6 +1,9 @@
-ghost use Rattle.std.specs.Prelude.{◌≡◌, ◌≤◌, ◌⊎◌, ℕ, List, Option, Some, None, IfOk, IfErr, map, string_bytes};
+ghost use Rattle.std.specs.Prelude.{◌≡◌, ◌≤◌, ◌<◌, ◌-◌, ◌^◌, ◌⊎◌, ℕ, true, List, Option, Some, None, IfOk, IfErr, length, map, string_bytes};
 ghost use Rattle.spg_io.specs.Causes.{Rose};
 ghost use Rattle.spg_clauses.specs.declared.reason.Fault.{Fault};
+ghost use Rattle.spg_radix.specs.Texts.{is_bytes};
+ghost use Rattle.spg_script.specs.Script.{IsScript};
+ghost use Rattle.spg_script.specs.Refusal.{IsCause};
 ghost use Rattle.spg_words.specs.Lines.{IsRunLine, IsCheckLine, IsLoadLine};
 ghost use Rattle.spg_words.specs.Reading.{word_in};
 ghost use Rattle.spg_words.specs.declared.load.Load.{Load};
@@ -24,6 +27,16 @@ use std::alloc::Global;
 use std::sync::Wait;
 use std::thread::Threads;
 
+/// The script of bytes that were read. Each of them is below 256.
+fn script_of(alloc: Global, bytes: &[u8]) -> Result<Script, ScriptRefused>
+    requires { length bytes.now < 2 ^ 32 - 1 }
+    ensures bytes { is_bytes bytes.now ≡ true }
+    ensures found { IfOk result (λ script. IsScript bytes.now script) }
+    ensures bad { IfErr result (λ why. IsCause bytes.now why) }
+{
+    parse(alloc, bytes)
+}
+
 /// The script of a source, or the answer where there is none. The gate is told of a bad line.
 fn read_script<S: Source, G: Gate>(
     alloc: Global,
@@ -39,7 +52,7 @@ fn read_script<S: Source, G: Gate>(
         Err(ReadRefused::TooLong) => return Err(Status::BadScript(0)),
         Err(ReadRefused::Memory) => return Err(Status::Memory),
     };
-    match parse(alloc, &bytes) {
+    match script_of(alloc, &bytes) {
         Ok(script) => Ok(script),
         Err(ScriptRefused::BadLine(line)) => {
             gate.bad_line(&BadLine::of(&bytes, line));

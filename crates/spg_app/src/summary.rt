@@ -5,7 +5,7 @@ ghost use Rattle.spg_io.specs.Causes.{HasCauseIfFailed};
 ghost use Rattle.spg_report.specs.declared.record.Record.{Record};
 ghost use Rattle.spg_report.specs.Text.{ended};
 ghost use Rattle.spg_app.specs.Io.{WroteSome};
-ghost use Rattle.spg_app.specs.Summary.{is_added, is_sweep, find_line, find_lines, summary_lines, summary};
+ghost use Rattle.spg_app.specs.Summary.{is_added, added_count, is_sweep, find_line, find_lines, summary_lines, summary};
 
 use crate::writing::write_line;
 use spg_base::{List, Memory};
@@ -34,7 +34,7 @@ fn is_sweep<O: OpClass>(event: &Event<O>) -> bool
 
 /// How many records say `added`.
 fn added(records: &[Record]) -> usize
-    ensures { result ≡ count_by (λ (r : Record). is_added r.outcome) records.now }
+    ensures { result ≡ added_count records.now }
 {
     records.iter().filter(|one| is_added(&one.outcome)).count()
 }

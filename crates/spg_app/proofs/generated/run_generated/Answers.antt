@@ -21,10 +21,10 @@ pub run_load-requires-in-Radix-clause-of_class : goal.run_load-requires-in-Radix
 run_load-requires-in-Radix-clause-of_class g c κs within = subst (IsOfClass text_speech) (sym (ap (λ (s : Script). s.class) c.in-Ok.ensures ∙ class_of c.args.load ∙ c.in-Radix.is)) radix_is_of_class
 
 pub returns-in-Quad : goal.returns-in-Quad
-returns-in-Quad g c = gen_ended quad_meaning point_speech 1 c.args.load _ _ (λ seen. state.Quad seen) (λ status seen ran. (c.in-Quad.is, ran)) c.run_load.result c.quad_ended.result c.in-Ok.ensures c.quad_ended.ensures c.run_load.ensures
+returns-in-Quad g c = gen_ended quad_meaning point_speech 1 c.args.load _ _ (λ seen. state.Quad seen) (λ status seen ran. (c.in-Quad.is, ran)) c.requires c.run_load.result c.quad_ended.result c.in-Ok.ensures c.quad_ended.ensures c.run_load.ensures
 
 pub returns-in-Kd : goal.returns-in-Kd
-returns-in-Kd g c = gen_ended kd_meaning point_speech 2 c.args.load _ _ (λ seen. state.Kd seen) (λ status seen ran. (c.in-Kd.is, ran)) c.run_load-in-Kd.result c.kd_ended.result c.in-Ok.ensures c.kd_ended.ensures c.run_load-in-Kd.ensures
+returns-in-Kd g c = gen_ended kd_meaning point_speech 2 c.args.load _ _ (λ seen. state.Kd seen) (λ status seen ran. (c.in-Kd.is, ran)) c.requires c.run_load-in-Kd.result c.kd_ended.result c.in-Ok.ensures c.kd_ended.ensures c.run_load-in-Kd.ensures
 
 pub returns : goal.returns
-returns g c = gen_ended radix_meaning text_speech 3 c.args.load _ _ (λ seen. state.Radix seen) (λ status seen ran. (c.in-Radix.is, ran)) c.run_load-in-Radix.result c.radix_ended.result c.in-Ok.ensures c.radix_ended.ensures c.run_load-in-Radix.ensures
+returns g c = gen_ended radix_meaning text_speech 3 c.args.load _ _ (λ seen. state.Radix seen) (λ status seen ran. (c.in-Radix.is, ran)) c.requires c.run_load-in-Radix.result c.radix_ended.result c.in-Ok.ensures c.radix_ended.ensures c.run_load-in-Radix.ensures

@@ -3,6 +3,7 @@ use Rattle.spg_histories.specs.Ending.{status_after}
 use Rattle.spg_app.specs.Ending.{writing_of}
 use Rattle.spg_app.proofs.Outcomes.{wrote_as, cause_of, of_origin}
 use Rattle.spg_app.proofs.LoadEnds.{summary_same}
+use Rattle.spg_app.proofs.LoadRows.{late_of}
 use Rattle.spg_app.proofs.generated.run_load.Goals as goal
 
 pub returns-in-Ok-perform : goal.returns-in-Ok-perform
@@ -15,4 +16,5 @@ returns-in-Ok-perform g c =
       wrote = wrote_as c.write_summary-written.result _ _ _ _ (summary_same _ _ _ _ (c.as_slice-events.ensures ∙ c.journal.ensures.events) c.as_slice.ensures) c.write_summary-written.ensures.ok c.write_summary-written.ensures.err;
       cause = cause_of c.write_summary-written.result _ _ c.write_summary-written.ensures.cause;
       status_is = c.status_after.ensures ∙ ap (λ rs. status_after (writing_of c.write_summary-written.result) rs) c.as_slice-in-Ok-perform.ensures;
+      late = late_of g.O.OpClass.meaning _ c.journal.ensures.whole;
     }
