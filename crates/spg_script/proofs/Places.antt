@@ -25,7 +25,7 @@ spoken_append (x ∷ xs) ys = go (says_something x) (spoken_append xs ys)
     go false rest = rest
 
 -- the lines so far, this one, and what follows
-spoken_with : (lines : List (List ℕ)) (line : List ℕ) (more : List (List ℕ)) → says_something line ≡ true → filter says_something ((lines ++ line ∷ []) ++ more) ≡ filter says_something lines ++ line ∷ filter says_something more
+pub spoken_with : (lines : List (List ℕ)) (line : List ℕ) (more : List (List ℕ)) → says_something line ≡ true → filter says_something ((lines ++ line ∷ []) ++ more) ≡ filter says_something lines ++ line ∷ filter says_something more
 spoken_with lines line more some =
     ap (filter says_something) (append_assoc lines (line ∷ []) more) ∙ spoken_append lines (line ∷ more) ∙ ap (λ (t : Bool). filter says_something lines ++ cond t (line ∷ filter says_something more) (filter says_something more)) some
 

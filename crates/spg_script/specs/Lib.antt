@@ -12,5 +12,6 @@ pub mod Printing
 pub mod Reader
 pub mod Speaking
 pub mod Steps
+pub mod Inserts
 pub mod Refusal
 pub mod Generated

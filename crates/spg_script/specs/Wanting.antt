@@ -115,3 +115,8 @@ wanted_in spot (line ∷ lines) = line_wants spot line
 -- in place of the line of a number, which is the first bad one
 abbrev pub wanted_at : List (List ℕ) → ℕ → Wanted
 wanted_at lines n = wanted_in (spot_after Start (take (n - 1) lines)) (drop (n - 1) lines)
+
+-- in a script of inserts, where this is wanted in one of all commands
+abbrev pub insert_wanted : Wanted → List ℕ → Wanted
+insert_wanted wanted.ClassLine line = wanted.ClassLine
+insert_wanted other line = if starts_with nat_eq line (codes "insert ") then other else wanted.Insert

@@ -1,11 +1,11 @@
 ghost use Rattle.std.specs.Prelude.{◌≡◌, ◌-◌, [], slice_index_or, take, length};
 ghost use Rattle.spg_script.specs.Script.{lines_of};
-ghost use Rattle.spg_script.specs.Wanting.{line_at, wanted_at};
+ghost use Rattle.spg_script.specs.Wanting.{line_at, wanted_at, insert_wanted};
 
 use crate::lines::first_line;
 use crate::spot::Spot;
 use crate::wanted::Wanted;
-use crate::wanting::{end_wants, line_wants};
+use crate::wanting::{end_wants, insert_wanted, line_wants};
 use std::fmt;
 
 /// The most bytes of a line that are shown.
@@ -50,6 +50,20 @@ impl<'a> BadLine<'a> {
             number,
             text,
             wanted: line_wants(spot, text),
+        }
+    }
+
+    /// The same of bytes that are no script of inserts, where the line of this number is the first bad one.
+    pub fn of_inserts(bytes: &'a [u8], number: u32) -> BadLine<'a>
+        ensures number { result.number ≡ number }
+        ensures text { result.text.now ≡ line_at (lines_of bytes.now) number }
+        ensures wanted { result.wanted ≡ insert_wanted (wanted_at (lines_of bytes.now) number) (line_at (lines_of bytes.now) number) }
+    {
+        let bad = BadLine::of(bytes, number);
+        BadLine {
+            number: bad.number,
+            text: bad.text,
+            wanted: insert_wanted(bad.wanted, bad.text),
         }
     }
 

@@ -5,6 +5,8 @@ pub enum Wanted {
     ClassLine,
     /// A command, or `together`.
     Command,
+    /// An insert: a script of inserts has no other command.
+    Insert,
     /// `lane` and `end` stand in a block alone.
     Together,
     /// A block begins with `lane`.
@@ -51,6 +53,7 @@ impl Wanted {
             Wanted::Command => {
                 "insert, find, near, delete, vacuum, save, stat or together is wanted"
             }
+            Wanted::Insert => "build: insert B.O KEY is wanted",
             Wanted::Together => "lane and end stand behind together alone",
             Wanted::FirstLane => "together: lane is wanted",
             Wanted::LaneCommand => "insert, find, delete, vacuum, lane or end is wanted",

@@ -1,6 +1,6 @@
 ghost use Rattle.std.specs.Prelude.{◌≡◌, take};
 ghost use Rattle.spg_script.specs.Reading.{len_before};
-ghost use Rattle.spg_script.specs.Wanting.{first_word, last_corner, are_corners, insert_wants, cond_wants, conds_want, find_wants, command_wants, between_wants, lane_wants, line_wants, end_wants};
+ghost use Rattle.spg_script.specs.Wanting.{first_word, last_corner, are_corners, insert_wants, cond_wants, conds_want, find_wants, command_wants, between_wants, lane_wants, line_wants, end_wants, insert_wanted};
 
 use crate::bytes::{len_before, split};
 use crate::conditions::point_cond_then;
@@ -171,5 +171,16 @@ pub fn end_wants(spot: Spot) -> Wanted
         Spot::Start => Wanted::ClassLine,
         Spot::Between { texts: _ } => Wanted::Command,
         Spot::Block { texts: _ } | Spot::Lane { texts: _ } => Wanted::EndOfBlock,
+    }
+}
+
+/// What is wanted in a script of inserts, where this is wanted in one of all commands.
+pub fn insert_wanted(wanted: Wanted, line: &[u8]) -> Wanted
+    ensures { result ≡ insert_wanted wanted line.now }
+{
+    match wanted {
+        Wanted::ClassLine => Wanted::ClassLine,
+        _ if line.starts_with(b"insert ") => wanted,
+        _ => Wanted::Insert,
     }
 }
