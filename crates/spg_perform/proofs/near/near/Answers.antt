@@ -1,13 +1,8 @@
 use Rattle.std.proofs.Common.{length, sym, ◌∙◌}
 use Rattle.spg_perform.specs.Outcomes.{near_outcome}
 use Rattle.spg_perform.proofs.Acting.{Spans}
-use Rattle.spg_perform.proofs.Commands.{answered, closed_then, nearest}
+use Rattle.spg_perform.proofs.Commands.{answered, nearest}
 use Rattle.spg_perform.proofs.near.near.Goals as goal
-
-pub none_open-2-requires : goal.none_open-2-requires
-none_open-2-requires g c = record {
-  closed = closed_then g.O.OpClass.meaning g.O.Spoken.speech c.args.state.now c.near-found.new.state c.args.seat c.args.target c.args.limit c.requires.closed c.near-found.result c.near-found.ensures.ok c.near-found.ensures.err;
-}
 
 pub near_outcome-requires : goal.near_outcome-requires
 near_outcome-requires g c = answered g.O.OpClass.meaning g.O.Spoken.speech c.args.state.now c.near-found.new.state c.args.seat c.args.target c.args.limit c.requires.known c.near-found.result c.near-found.ensures.ok
