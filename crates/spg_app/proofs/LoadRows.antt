@@ -65,24 +65,25 @@ module _ {O Key Recon Cond : Type 0} (m : Meaning Key Recon Cond) (speech : Spee
   line_is load asked r word (query, known, (rows, walk, is, long)) =
       ap (λ (o : Outcome). find_line word o) is ∙ ap (λ (n : ℕ). word ++ decimal n) (long ∙ sym (ap (λ (q : Option (Query O Key Recon Cond)). kept_by m speech load q) known))
 
-  lines_are : (load : Load) (records : List Record) → FindsGive O m speech load.class load.seed load.count records →
-      find_lines records
-      ≡ (codes "live " ++ decimal (kept_count O m speech load All))
-      ∷ (codes "first " ++ decimal (kept_count O m speech load (first_query load.class)))
-      ∷ (codes "second " ++ decimal (kept_count O m speech load (second_query load.class)))
-      ∷ []
-  lines_are load (all ∷ first ∷ second ∷ []) gives =
-      three _ _ _ _ _ _ (line_is load All all (codes "live ") gives.0) (line_is load (first_query load.class) first (codes "first ") gives.1) (line_is load (second_query load.class) second (codes "second ") gives.2)
-  lines_are load [] gives = absurd gives
-  lines_are load (a ∷ []) gives = absurd gives
-  lines_are load (a ∷ b ∷ []) gives = absurd gives
-  lines_are load (a ∷ b ∷ c ∷ d ∷ records) gives = absurd gives
+lines_are : (O : Type 0) {Key Recon Cond : Type 0} (m : Meaning Key Recon Cond) (speech : Speech Key Cond) (load : Load) (records : List Record) → FindsGive O m speech load.class load.seed load.count records →
+    find_lines records
+    ≡ (codes "live " ++ decimal (kept_count O m speech load All))
+    ∷ (codes "first " ++ decimal (kept_count O m speech load (first_query load.class)))
+    ∷ (codes "second " ++ decimal (kept_count O m speech load (second_query load.class)))
+    ∷ []
+lines_are O m speech load (all ∷ first ∷ second ∷ []) gives =
+    three _ _ _ _ _ _ (line_is {O = O} m speech load All all (codes "live ") gives.0) (line_is {O = O} m speech load (first_query load.class) first (codes "first ") gives.1) (line_is {O = O} m speech load (second_query load.class) second (codes "second ") gives.2)
+lines_are O m speech load [] gives = absurd gives
+lines_are O m speech load (a ∷ []) gives = absurd gives
+lines_are O m speech load (a ∷ b ∷ []) gives = absurd gives
+lines_are O m speech load (a ∷ b ∷ c ∷ d ∷ records) gives = absurd gives
 
+module _ {O Key Recon Cond : Type 0} (m : Meaning Key Recon Cond) (speech : Speech Key Cond) where
   summary_is : (load : Load) (journal : List (Event O Key Recon Cond)) (records : List Record) → LoadRan speech load.count load.seed load.lanes load.class journal records → Right m journal → added_count records ≡ load.count →
       summary journal records ≡ load_summary O m speech load
   summary_is load journal records run right added =
       let swept = (load_finds O Key Recon Cond).swept m speech load.count load.seed load.lanes load.class journal records run right added in
-      let lines = lines_are load (drop (length records - 3) records) ((load_finds O Key Recon Cond).finds m speech load.count load.seed load.lanes load.class journal records run right added) in
+      let lines = lines_are O m speech load (drop (length records - 3) records) ((load_finds O Key Recon Cond).finds m speech load.count load.seed load.lanes load.class journal records run right added) in
       ap ended (
       ap (λ (n : ℕ). (codes "added " ++ decimal n) ∷ (find_lines (drop (length records - 3) records) ++ (codes "swept " ++ decimal (count_by is_sweep journal)) ∷ [])) added
       ∙ ap (λ (ls : List (List ℕ)). (codes "added " ++ decimal load.count) ∷ (ls ++ (codes "swept " ++ decimal (count_by is_sweep journal)) ∷ [])) lines
@@ -92,7 +93,7 @@ module _ {O Key Recon Cond : Type 0} (m : Meaning Key Recon Cond) (speech : Spee
   gen_ran code load out status seen in_range ran = record {
     ran = ran;
     rows = λ done.
-        let run = load_ran code load out status seen in_range ran done in
+        let run = load_ran m speech code load out status seen in_range ran done in
         record {
           few = (load_adds O Key Recon Cond).all speech load.count load.seed load.lanes load.class seen.journal ran.records run;
           many = (load_adds O Key Recon Cond).many speech load.count load.seed load.lanes load.class seen.journal ran.records run;
