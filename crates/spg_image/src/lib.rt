@@ -9,5 +9,5 @@ mod saving;
 
 pub use loading::{load, verify};
 pub use refused::SaveRefused;
-pub use saving::save;
+pub use saving::{save, save_table};
 pub use spg_verify::{ImageRefused, Verified};

@@ -28,8 +28,8 @@ pub fn save<O: OpClass, M: Images>(
     save_table(state.class().code(), state.pages(), images, name)
 }
 
-/// Saves the pages of a table, with the code of their class.
-fn save_table<M: Images>(
+/// Saves the pages of a table, with the code of their class, as `save` saves those of a state.
+pub fn save_table<M: Images>(
     class: u8,
     table: &PageTable,
     images: &mut M,
