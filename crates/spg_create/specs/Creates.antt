@@ -14,7 +14,7 @@ use Rattle.spg_script.specs.Speech.{Speech}
 use Rattle.spg_build.specs.declared.entry.Entry.{Entry}
 use Rattle.spg_build.specs.Built.{HasIn, AreRowsOnce, IsAtRest}
 use Rattle.spg_create.specs.Keeps.{Keeps}
-use Rattle.spg_create.specs.declared.create.Created.{Created}
+use Rattle.spg_create.specs.declared.whole.Created.{Created}
 use Rattle.spg_create.specs.declared.refused.CreateRefused.{CreateRefused}
 use Rattle.spg_create.specs.declared.refused.CreateRefused.TheVariants.{IndexFull, ImageFault, Memory}
 

@@ -1,9 +1,9 @@
 //! An index created at once from the inserts of a script, and saved.
 #![tactic(auto)]
 
-mod create;
 mod keeping;
 mod refused;
+mod whole;
 
-pub use create::{Created, create};
 pub use refused::CreateRefused;
+pub use whole::{Created, create};

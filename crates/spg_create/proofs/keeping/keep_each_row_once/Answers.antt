@@ -1,5 +1,5 @@
 use Rattle.std.proofs.Common.{arith, sym}
-use Rattle.spg_create.proofs.Keeping.{kept_none, kept_more, kept_all, known_at}
+use Rattle.spg_create.proofs.Kept.{kept_none, kept_more, kept_all, known_at}
 use Rattle.spg_create.proofs.keeping.keep_each_row_once.Goals as goal
 
 pub keep_one-requires-clause-known : goal.keep_one-requires-clause-known

@@ -1,5 +1,5 @@
 use Rattle.std.proofs.Common.{◌≤◌, drop}
-use Rattle.spg_create.proofs.Keeping.{KeptSoFar}
+use Rattle.spg_create.proofs.Kept.{KeptSoFar}
 use Rattle.spg_create.proofs.keeping.keep_each_row_once.Given as goal
 
 abbrev pub invariant-loop-index : goal.invariant-loop-index

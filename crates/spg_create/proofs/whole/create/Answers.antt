@@ -1,3 +1,3 @@
 use Rattle.std.proofs.Common.{inl, inr, refl, sym, ap, ◌∙◌}
 use Rattle.spg_create.proofs.Making.{table_of}
-use Rattle.spg_create.proofs.create.create.Goals as goal
+use Rattle.spg_create.proofs.whole.create.Goals as goal
