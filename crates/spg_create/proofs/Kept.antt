@@ -1,12 +1,10 @@
 -- Inserts are kept one after another.
-use Rattle.std.proofs.Common.{◌≡◌, ◌⊎◌, inl, inr, ◌<◌, ◌+◌, ℕ, zero, suc, Bool, true, false, List, [], ◌∷◌, ◌++◌, length, drop, get_or, Option, Some, refl, sym, ap, ◌∙◌, subst, arith}
+use Rattle.std.proofs.Common.{◌≡◌, inl, inr, ◌<◌, ◌+◌, ℕ, zero, suc, List, [], ◌∷◌, length, drop, get_or, refl, sym, ap, ◌∙◌, subst, arith}
 use Rattle.std.specs.List.{AllByRecursion}
 use Rattle.std.proofs.lemmas.List.{at_drop_more, drop_all}
 use Rattle.spg_script.specs.declared.inserts.Insert.{Insert}
-use Rattle.spg_script.specs.Speech.{Speech, key_or_null_in}
+use Rattle.spg_script.specs.Speech.{Speech}
 use Rattle.spg_build.specs.declared.entry.Entry.{Entry}
-use Rattle.spg_build.specs.Built.{HasRowIn}
-use Rattle.spg_build.specs.Gathered.{Adds}
 use Rattle.spg_create.specs.Keeps.{IsKnownInsert, KeepsOne, Keeps}
 
 module _ {Key Cond : Type 0} (speech : Speech Key Cond) where
@@ -15,14 +13,16 @@ module _ {Key Cond : Type 0} (speech : Speech Key Cond) where
   KeptSoFar all left kept skipped = (entries : List (Entry Key)) (more : ℕ) → Keeps speech kept left entries more → Keeps speech [] all entries (skipped + more)
 
   pub kept_none : (all : List Insert) → KeptSoFar all all [] 0
-  kept_none all = λ entries more keeps. keeps
+  kept_none all = λ entries more keeps.
+      let n : more ≡ 0 + more = omega arith in
+      subst (λ (k : ℕ). Keeps speech [] all entries k) n keeps
 
   one_more : (all left : List Insert) (i : Insert) (kept now : List (Entry Key)) (skipped more : ℕ) → KeptSoFar all (i ∷ left) kept skipped → KeepsOne speech kept i now skipped more → KeptSoFar all left now more
-  one_more all left i kept now skipped more so_far (inl (there, (same, count))) = λ entries later keeps.
+  one_more all left i kept now skipped more so_far (inl (there, same, count)) = λ entries later keeps.
       let n : skipped + suc later ≡ more + later = omega (arith, count) in
       subst (λ (k : ℕ). Keeps speech [] all entries k) n
       (so_far entries (suc later) (inl (there, (later, refl, subst (λ (es : List (Entry Key)). Keeps speech es left entries later) same keeps))))
-  one_more all left i kept now skipped more so_far (inr (new, ((key, named, added), count))) = λ entries later keeps.
+  one_more all left i kept now skipped more so_far (inr (new, (key, named, added), count)) = λ entries later keeps.
       subst (λ (n : ℕ). Keeps speech [] all entries (n + later)) (sym count)
       (so_far entries later (inr (new, (key, named, subst (λ (es : List (Entry Key)). Keeps speech es left entries later) added keeps))))
 
@@ -32,18 +32,11 @@ module _ {Key Cond : Type 0} (speech : Speech Key Cond) where
       let split : drop i all ≡ one ∷ drop (i + 1) all = at_drop_more (λ (l : List Insert). l) all i one within ∙ ap (λ (x : Insert). x ∷ drop (i + 1) all) (sym is) in
       one_more all (drop (i + 1) all) one kept now skipped more (subst (λ (l : List Insert). KeptSoFar all l kept skipped) split so_far) keeps
 
-  -- an insert that was added, or not
-  pub added_one : (kept now : List (Entry Key)) (i : Insert) (key : Option Key) (skipped : ℕ) → key_or_null_in speech i.key ≡ Some key → Adds kept now i.row key true → KeepsOne speech kept i now skipped skipped
-  added_one kept now i key skipped named (new, is) = inr (new, ((key, named, is), refl))
-
-  pub skipped_one : (kept now : List (Entry Key)) (i : Insert) (key : Option Key) (skipped more : ℕ) → more ≡ skipped + 1 → Adds kept now i.row key false → KeepsOne speech kept i now skipped more
-  skipped_one kept now i key skipped more count (there, is) = inl (there, (is, omega (arith, count)))
-
-  pub kept_all : (all : List Insert) (i : ℕ) (kept : List (Entry Key)) (skipped : ℕ) → length all ≡ i → KeptSoFar all (drop i all) kept skipped → Keeps speech [] all kept skipped
-  kept_all all i kept skipped at_end so_far =
+  pub kept_all : (all : List Insert) (i : ℕ) (kept entries : List (Entry Key)) (skipped : ℕ) → length all ≡ i → entries ≡ kept → KeptSoFar all (drop i all) kept skipped → Keeps speech [] all entries skipped
+  kept_all all i kept entries skipped at_end is so_far =
       let none : drop i all ≡ [] = drop_all i all (omega (arith, at_end)) in
       let n : skipped + 0 ≡ skipped = omega arith in
-      subst (λ (k : ℕ). Keeps speech [] all kept k) n (so_far kept 0 (subst (λ (l : List Insert). Keeps speech kept l kept 0) (sym none) (refl, refl)))
+      subst (λ (k : ℕ). Keeps speech [] all entries k) n (so_far entries 0 (subst (λ (l : List Insert). Keeps speech kept l entries 0) (sym none) (is, refl)))
 
   pub known_at : (all : List Insert) (i : ℕ) (one : Insert) → i < length all → one ≡ get_or all i one → AllByRecursion (IsKnownInsert speech) all → IsKnownInsert speech one
   known_at [] i one within is known = absurd (omega (arith, within))
