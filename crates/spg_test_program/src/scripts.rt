@@ -3,7 +3,7 @@ use spg_app::Status;
 use std::test::Fail;
 
 /// Scripts, and the texts of their runs.
-const RUNS: [(&[u8], &[u8]); 16] = [
+const RUNS: [(&[u8], &[u8]); 19] = [
     (b"class quad", b"journal 0\n"),
     (b"class kd\n", b"journal 0\n"),
     (
@@ -62,6 +62,18 @@ const RUNS: [(&[u8], &[u8]); 16] = [
         b"class quad\ninsert 1.1 1,1\ntogether\nlane\ninsert 1.2 2,2\nfind all\ninsert 1.2 0,0\nend\ntogether\nlane\nlane\ndelete 1.1\nfind null\nlane\nend\nfind all\n",
         b"1 0 2 added\n2 2 4 added\n3 4 6 found 2 1.1 1.2\n4 6 6 row used\n5 6 7 killed\n6 7 9 found 0\n7 9 11 found 1 walk 2 1.2\njournal 11\n0 0 open insert 1.1 1,1\n1 0 put 1.1\n2 0 open insert 1.2 2,2\n3 0 put 1.2\n4 0 open scan all\n5 0 close scan 2\n6 1 kill 1.1\n7 1 open scan null\n8 1 close scan 0\n9 0 open scan all\n10 0 close scan 1\n",
     ),
+    (
+        b"class quad\ninsert 1.1 0,0\ninsert 1.2 3,4\ninsert 1.3 -3,-4\ninsert 1.4 10,0\ninsert 1.5 null\nnear 0,0 3\nnear 0,0 9\n",
+        b"1 0 2 added\n2 2 4 added\n3 4 6 added\n4 6 8 added\n5 8 10 added\n6 10 12 near 3 walk 4 1.1:0 1.2:25 1.3:25\n7 12 14 near 4 walk 4 1.1:0 1.2:25 1.3:25 1.4:100\njournal 14\n0 0 open insert 1.1 0,0\n1 0 put 1.1\n2 0 open insert 1.2 3,4\n3 0 put 1.2\n4 0 open insert 1.3 -3,-4\n5 0 put 1.3\n6 0 open insert 1.4 10,0\n7 0 put 1.4\n8 0 open insert 1.5 null\n9 0 put 1.5\n10 0 open scan all\n11 0 leave\n12 0 open scan all\n13 0 leave\n",
+    ),
+    (
+        b"class kd\nnear 5,5 65535\ninsert 1.1 -2147483648,-2147483648\nnear 2147483647,2147483647 1\n",
+        b"1 0 2 near 0 walk 0\n2 2 4 added\n3 4 6 near 1 walk 1 1.1:36893488130239234050\njournal 6\n0 0 open scan all\n1 0 leave\n2 0 open insert 1.1 -2147483648,-2147483648\n3 0 put 1.1\n4 0 open scan all\n5 0 leave\n",
+    ),
+    (
+        b"class kd\ninsert 2.2 1,1\ninsert 2.1 1,1\ninsert 1.9 1,1\ndelete 1.9\nnear 1,1 1\nstat\n",
+        b"1 0 2 added\n2 2 4 added\n3 4 6 added\n4 6 7 killed\n5 7 9 near 1 walk 3 2.1:0\n6 9 9 stat pages 3 inner 0 leaf 3 redirect 0 dead 0 placeholder 0 clock 0\njournal 9\n0 0 open insert 2.2 1,1\n1 0 put 2.2\n2 0 open insert 2.1 1,1\n3 0 put 2.1\n4 0 open insert 1.9 1,1\n5 0 put 1.9\n6 0 kill 1.9\n7 0 open scan all\n8 0 leave\n",
+    ),
 ];
 
 #[test]
@@ -73,7 +85,7 @@ fn prints_the_run(rt: HostRuntime) -> Result<(), Fail> {
 }
 
 /// Bytes that break one rule of the grammar each, and their first bad line.
-const BAD: [(&[u8], u32); 82] = [
+const BAD: [(&[u8], u32); 86] = [
     (b"", 1),
     (b"class", 1),
     (b"class quad ", 1),
@@ -159,6 +171,10 @@ const BAD: [(&[u8], u32); 82] = [
     (b"class kd\nsave Town\n", 2),
     (b"class kd\n #\n", 2),
     (b"\n#\n", 3),
+    (b"class radix\nnear 1,1 1\n", 2),
+    (b"class quad\nnear 1,1 0\n", 2),
+    (b"class quad\nnear 1,1 65536\n", 2),
+    (b"class kd\ntogether\nlane\nnear 1,1 1\nend\n", 4),
 ];
 
 #[test]
