@@ -25,9 +25,9 @@ def crates_and_below():
     below = {}
     with open(f"{TOP}/crates.txt", encoding="utf-8") as lines:
         for line in lines:
-            found = re.match(r"(spg_\w+)[^:]*:(.*)", line)
+            found = re.match(r"(spg\w+)[^:]*:(.*)", line)
             if found:
-                named = re.findall(r"spg_\w+", found[2])
+                named = re.findall(r"spg\w+", found[2])
                 below[found[1]] = set(named).union(*(below[it] for it in named))
     return below
 

@@ -5,9 +5,11 @@ once, unproved, in a copy of this repository; where it must be built anew, a fal
 usage: test_front.py"""
 
 import contextlib
+import glob
 import os
 import pathlib
 import pty
+import re
 import shutil
 import subprocess
 import sys
@@ -225,6 +227,18 @@ def test_pictures(copy):
         drawn = subprocess.run(words, capture_output=True, text=True, check=False)
         expect("what was said", (drawn.stderr, drawn.returncode), ("", 0))
         expect(f"the picture {name}", drawn.stdout == text_of(f"{copy.top}/docs/pictures/{name}.svg"), True)
+
+
+def lines_of(text):
+    return [line.strip() for line in text.splitlines() if line.strip()]
+
+
+def test_documents(copy):
+    """Each Rust block of docs/EMBEDDING.md stands in a program that embeds an index."""
+    programs = "".join(text_of(it) for it in glob.glob(f"{copy.top}/crates/spg_example_*/src/*.rt"))
+    whole = "\n".join(lines_of(programs))
+    for block in re.findall(r"^```rust\n(.*?)^```$", text_of(f"{copy.top}/docs/EMBEDDING.md"), re.M | re.S):
+        expect(f"that a program has {block}", "\n".join(lines_of(block)) in whole, True)
 
 
 def test_statuses(copy):
