@@ -66,7 +66,7 @@ module _ {O Recon Cond : Type 0} (m : Meaning Point Recon Cond) where
       subst (IsSearch seen) (sym R.after)
       (near_reads m boxing (sheets_of seen.table) (past_of seen) (guarded (past_of seen)) n All 0 table i R.item R.items R.found _ kept codes cuts points (still_legal seen legal closed) (itself_opens (OpenScan 0 All) (past_of seen)) holds states R.at R.reads A)
 
-module _ {O Recon Cond : Type 0} (past : History O Point Recon Cond) (legal : IsLegal past) where
+module _ {O Recon Cond : Type 0} (past : History O Point Recon Cond) where
   rises_none : IsStrictlySortedBy near_cmp []
   unfolding IsStrictlySortedBy
   rises_none = tt
@@ -80,6 +80,7 @@ module _ {O Recon Cond : Type 0} (past : History O Point Recon Cond) (legal : Is
     complete = λ row key at reach. absurd (⊎_elim (λ (l : 0 < 0). omega (arith, l)) (λ x. let (last, c, before) = x in contains_none last c) reach);
   }
 
+module _ {O Recon Cond : Type 0} (past : History O Point Recon Cond) (legal : IsLegal past) where
   -- what is right of the time between is exact where nothing happened in it
   exact : (p : Point) (limit : ℕ) (found : List NearRow) → NearRight past (OpenScan 0 All ∷ past) p limit found → AreNearest past p limit found
   exact p limit found R = record {

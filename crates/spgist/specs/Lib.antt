@@ -20,4 +20,3 @@ pub use Rattle.spg_build.specs.Journal
 pub use Rattle.spg_image.specs.Image
 pub use Rattle.spg_image.specs.Saving
 pub use Rattle.spg_image.specs.Verifying
-pub use Rattle.spg_share.specs.Seats

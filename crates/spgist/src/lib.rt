@@ -2,8 +2,7 @@
 //! are. All that an embedder needs is here under one name; docs/EMBEDDING.md shows each call.
 //!
 //! An `Index` belongs to one owner, and its calls are whole: `insert`, `delete`, `find`, `vacuum`. `near` gives the rows
-//! nearest to a point, `save` and `load_index` write and read images, `share` lets threads work on it, each with a
-//! `Seat`. A class is `Quad` or `Kd` for points, `Radix` for texts, `Ranges` for ranges of whole numbers, or `With` one
+//! nearest to a point, `save` and `load_index` write and read images. Threads share it by the crate `spg_share`. A class is `Quad` or `Kd` for points, `Radix` for texts, `Ranges` for ranges of whole numbers, or `With` one
 //! of these and a number beside each key; docs/CLASSES.md tells how another one is made.
 #![tactic(auto)]
 
@@ -22,7 +21,6 @@ pub use spg_base::{
 pub use spg_build::{BuildRefused, Entry, Gathered, build};
 pub use spg_clauses::{Fault, Reason};
 pub use spg_core::State;
-pub use spg_desk::{FindAnswer, InsertAnswer, KillAnswer, VacuumAnswer};
 pub use spg_image::{ImageRefused, SaveRefused, Verified, load, save, verify};
 pub use spg_io::{FolderImages, Images, IoRefused};
 pub use spg_kd::Kd;
@@ -34,7 +32,6 @@ pub use spg_quad::Quad;
 pub use spg_radix::{ByteText, Radix, TextCond};
 pub use spg_range::{Range32, RangeCond, Ranges};
 pub use spg_rows::{Event, Journal, Why};
-pub use spg_share::{Lane, Seat, Task, share};
 pub use spg_tree::PageTable;
 pub use spg_whole::{Closed, Index, InsertRefused, delete, find, insert, vacuum};
 pub use texts::{TextRefused, text};

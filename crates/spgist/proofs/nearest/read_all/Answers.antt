@@ -1,4 +1,4 @@
-use Rattle.std.proofs.Common.{◌≡◌, ℕ, sym, ap, ◌∙◌, subst}
+use Rattle.std.proofs.Common.{◌≡◌, ℕ, Some, sym, ap, ◌∙◌, subst, refl}
 use Rattle.std.proofs.lemmas.Option.{slice_get_within}
 use Rattle.spg_tree.specs.Table.{Table, sheets_of, latch_at}
 use Rattle.spg_scan.specs.declared.walk.ReadOut.{ReadOut}
@@ -24,17 +24,30 @@ returns-in_err-read_item-in-Some-clause-near g c = subst (IsSearch g.O.OpClass.m
 pub no_latch-requires-clause-latched : goal.no_latch-requires-clause-latched
 no_latch-requires-clause-latched g c =
     let m = g.O.OpClass.meaning in
-    let out = subst (λ (o : ReadOut). IsNearOut m g.O.NearClass.box_below c.pages.result.now c.rows.result.now c.loop.near c.read_item.new.self c.in-Some.item 0 o) c.in-Latched.is c.in_ok-read_item-in-Some.ensures.ok in
+    let out = subst (λ (o : ReadOut). IsNearOut m g.O.NearClass.box_below c.pages.result.now c.rows.result.now c.loop.near c.read_item.new.self c.in-Some.item c.first.result o) c.in-Latched.is c.in_ok-read_item-in-Some.ensures.ok in
     let (here, held, other, same) = out in
-    subst (λ (t : Table). latch_at t c.in-Latched.block ≡ _) c.pages.ensures.value held
+    subst (λ (t : Table). latch_at t c.in-Latched.block ≡ Some c.in-Latched.by) c.pages.ensures.value held
 
 pub loop-preserved : goal.loop-preserved
 loop-preserved g c =
     let m = g.O.OpClass.meaning in
-    let out = subst (λ (o : ReadOut). IsNearOut m g.O.NearClass.box_below c.pages.result.now c.rows.result.now c.loop.near c.read_item.new.self c.in-Some.item 0 o) c.in-Read.is c.in_ok-read_item-in-Some.ensures.ok in
+    let out = subst (λ (o : ReadOut). IsNearOut m g.O.NearClass.box_below c.pages.result.now c.rows.result.now c.loop.near c.read_item.new.self c.in-Some.item c.first.result o) c.in-Read.is c.in_ok-read_item-in-Some.ensures.ok in
     let R = subst (λ (t : Table). ReadsNear m g.O.NearClass.box_below (sheets_of t) c.rows.result.now c.loop.near c.read_item.new.self c.in-Some.item) c.pages.ensures.value out.1 in
     let (A, target, limit) = c.loop.invariant in
     (reads m g.O.NearClass.box_below g.O.OpClass.keeps g.O.OpClass.codes g.met.O.NearClass.cuts g.met.O.NearClass.points c.args.state.now c.rows.result.now c.loop.near c.read_item.new.self c.in-Some.item
         c.journal.ensures.right.legal c.requires.closed c.pages.ensures.represents c.rows.ensures.states R A,
      ap (λ (n : Nearing _). n.target) R.after ∙ target,
      ap (λ (n : Nearing _). n.limit) R.after ∙ limit)
+
+pub loop-init : goal.loop-init
+loop-init g c = (c.requires.near, refl, refl)
+
+pub returns-in_err-read_item-in-Some-clause-target : goal.returns-in_err-read_item-in-Some-clause-target
+returns-in_err-read_item-in-Some-clause-target g c =
+    let (A, target, limit) = c.loop.invariant in
+    ap (λ (n : Nearing _). n.target) c.in_err-read_item-in-Some.ensures.err ∙ target
+
+pub returns-in_err-read_item-in-Some-clause-limit : goal.returns-in_err-read_item-in-Some-clause-limit
+returns-in_err-read_item-in-Some-clause-limit g c =
+    let (A, target, limit) = c.loop.invariant in
+    ap (λ (n : Nearing _). n.limit) c.in_err-read_item-in-Some.ensures.err ∙ limit
