@@ -14,7 +14,7 @@ pub use Rattle.spg_core.specs.Sections
 pub use Rattle.spg_core.specs.Counts
 pub use Rattle.spg_whole.specs.Answers
 pub use Rattle.spg_whole.specs.Calls
-pub use Rattle.spg_near.specs.Laws
+pub use Rattle.spg_near.specs.Laws as NearLaws
 pub use Rattle.spg_build.specs.Built
 pub use Rattle.spg_build.specs.Journal
 pub use Rattle.spg_image.specs.Image
