@@ -5,7 +5,7 @@ use spg_image::SaveRefused;
 /// Why no index is created.
 #[derive(Clone, Copy, Debug, PartialEq, Eq, thiserror::Error)]
 pub enum CreateRefused {
-    /// The rows need more pages than an index has.
+    /// The rows may need more pages than an index has.
     #[error("the index is full")]
     IndexFull,
     /// A call on the images failed.
