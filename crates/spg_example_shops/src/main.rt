@@ -1,15 +1,14 @@
 //! Shops by the place where they stand: a function of the program's own promises what the index promises.
 #![tactic(auto)]
 
-ghost use Rattle.std.specs.Prelude.{IfErr, OnOk};
-ghost use Rattle.spgist.specs.Calls.{Inserts, KeepsOut};
+ghost use Rattle.std.specs.Prelude.{OnOk};
+ghost use Rattle.spgist.specs.Calls.{Inserts};
 
 use spgist::{DEFAULT_LIMIT, Index, InsertRefused, Point, Quad, Row, within};
 
 /// Opens a shop at a place.
 fn open_shop(index: &mut Index<Quad>, shop: Row, at: Point) -> Result<(), InsertRefused>
     ensures ok { OnOk result (Inserts index.old index.new 0 shop (Some at)) }
-    ensures err { IfErr result (λ e. KeepsOut Quad.meaning index.old index.new 0 shop (Some at) e) }
 {
     index.insert(shop, Some(at))
 }
