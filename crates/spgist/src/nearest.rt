@@ -27,11 +27,7 @@ fn no_latch<O: NearClass>(state: &State<O>, block: Block, by: SeatNo)
 }
 
 /// Reads the nearest item, again and again, until none has to be read.
-fn read_all<O: NearClass>(
-    alloc: Global,
-    state: &State<O>,
-    near: &mut Near<O>,
-) -> Result<(), Memory>
+fn read_all<O: NearClass>(alloc: Global, state: &State<O>, near: &mut Near<O>) -> Result<(), Memory>
     requires closed { AllClosed (past_of state.now) }
     requires near { IsNearOf O.meaning (sheets_of state.now.table) (past_of state.now) (OpenScan 0 All ∷ past_of state.now) near.old }
     ensures near { IsNearOf O.meaning (sheets_of state.now.table) (past_of state.now) (OpenScan 0 All ∷ past_of state.now) near.new }

@@ -28,7 +28,7 @@ returns g c =
     let all = c.in_ok-read_all.ensures in
     if_ok _ _
     (λ rows hits.
-        subst (λ (s : Seen _ _ _ _). AreNearest (past_of s) c.args.target c.args.limit rows) c.state-state.ensures.value
-        (nearest m seen c.args.target c.args.limit c.read_all.new.near rows c.journal.ensures.right.legal c.state-state.ensures.closed all.near
-            (all.target ∙ ap (λ n. n.target) begun) (all.limit ∙ ap (λ n. n.limit) begun) hits all.done))
+    subst (λ (s : Seen _ _ _ _). AreNearest (past_of s) c.args.target c.args.limit rows) c.state-state.ensures.value
+    (nearest m seen c.args.target c.args.limit c.read_all.new.near rows c.journal.ensures.right.legal c.state-state.ensures.closed all.near
+    (all.target ∙ ap (λ n. n.target) begun) (all.limit ∙ ap (λ n. n.limit) begun) hits all.done))
     c.hits.result c.hits.ensures

@@ -33,11 +33,12 @@ loop-preserved g c =
     let m = g.O.OpClass.meaning in
     let out = subst (λ (o : ReadOut). IsNearOut m g.O.NearClass.box_below c.pages.result.now c.rows.result.now c.loop.near c.read_item.new.self c.in-Some.item c.first.result o) c.in-Read.is c.in_ok-read_item-in-Some.ensures.ok in
     let R = subst (λ (t : Table). ReadsNear m g.O.NearClass.box_below (sheets_of t) c.rows.result.now c.loop.near c.read_item.new.self c.in-Some.item) c.pages.ensures.value out.1 in
-    let (A, target, limit) = c.loop.invariant in
-    (reads m g.O.NearClass.box_below g.O.OpClass.keeps g.O.OpClass.codes g.met.O.NearClass.cuts g.met.O.NearClass.points c.args.state.now c.rows.result.now c.loop.near c.read_item.new.self c.in-Some.item
-        c.journal.ensures.right.legal c.requires.closed c.pages.ensures.represents c.rows.ensures.states R A,
-     ap (λ (n : Nearing _). n.target) R.after ∙ target,
-     ap (λ (n : Nearing _). n.limit) R.after ∙ limit)
+    let (A, target, limit) = c.loop.invariant in (
+      reads m g.O.NearClass.box_below g.O.OpClass.keeps g.O.OpClass.codes g.met.O.NearClass.cuts g.met.O.NearClass.points c.args.state.now c.rows.result.now c.loop.near c.read_item.new.self c.in-Some.item
+          c.journal.ensures.right.legal c.requires.closed c.pages.ensures.represents c.rows.ensures.states R A,
+      ap (λ (n : Nearing _). n.target) R.after ∙ target,
+      ap (λ (n : Nearing _). n.limit) R.after ∙ limit,
+    )
 
 pub loop-init : goal.loop-init
 loop-init g c = (c.requires.near, refl, refl)
