@@ -17,9 +17,7 @@ use std::alloc::Global;
 
 /// Where nothing is open, no block is latched. Nothing is done here.
 fn no_latch<O: NearClass>(state: &State<O>, block: Block, by: SeatNo)
-    requires closed { AllClosed (past_of state.now) }
-    requires latched { latch_at state.now.table block ≡ Just by }
-    ensures { ⊥ }
+    ensures { AllClosed (past_of state.now) → latch_at state.now.table block ≡ Just by → ⊥ }
 {
     // Each latch is that of an insert that its seat has open.
     let _ = state.pages();

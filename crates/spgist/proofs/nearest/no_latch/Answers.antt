@@ -4,7 +4,7 @@ use Rattle.spgist.proofs.nearest.no_latch.Goals as goal
 
 -- it would be that of two seats
 pub returns : goal.returns
-returns g c =
-    let one : c.args.by ≡ 0 = own_latches c.args.state.now 0 c.args.block c.args.by (λ other apart. c.requires.closed other) c.pages.ensures.latches c.open_of.ensures.journal c.requires.latched in
-    let two : c.args.by ≡ 1 = own_latches c.args.state.now 1 c.args.block c.args.by (λ other apart. c.requires.closed other) c.pages.ensures.latches c.open_of.ensures.journal c.requires.latched in
+returns g c = λ closed latched.
+    let one : c.args.by ≡ 0 = own_latches c.args.state.now 0 c.args.block c.args.by (λ other apart. closed other) c.pages.ensures.latches c.open_of.ensures.journal latched in
+    let two : c.args.by ≡ 1 = own_latches c.args.state.now 1 c.args.block c.args.by (λ other apart. closed other) c.pages.ensures.latches c.open_of.ensures.journal latched in
     absurd (omega (arith, one, two))

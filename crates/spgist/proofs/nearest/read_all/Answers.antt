@@ -21,12 +21,12 @@ read_item-requires-clause-held g c = λ it at.
 pub returns-in_err-read_item-in-Some-clause-near : goal.returns-in_err-read_item-in-Some-clause-near
 returns-in_err-read_item-in-Some-clause-near g c = subst (IsSearch g.O.OpClass.meaning c.args.state.now) (sym c.in_err-read_item-in-Some.ensures.err) c.loop.invariant.0
 
-pub no_latch-requires-clause-latched : goal.no_latch-requires-clause-latched
-no_latch-requires-clause-latched g c =
+pub unreachable-requires : goal.unreachable-requires
+unreachable-requires g c =
     let m = g.O.OpClass.meaning in
     let out = subst (λ (o : ReadOut). IsNearOut m g.O.NearClass.box_below c.pages.result.now c.rows.result.now c.loop.near c.read_item.new.self c.in-Some.item c.first.result o) c.in-Latched.is c.in_ok-read_item-in-Some.ensures.ok in
     let (here, held, other, same) = out in
-    subst (λ (t : Table). latch_at t c.in-Latched.block ≡ Some c.in-Latched.by) c.pages.ensures.value held
+    c.no_latch.ensures c.requires.closed (subst (λ (t : Table). latch_at t c.in-Latched.block ≡ Some c.in-Latched.by) c.pages.ensures.value held)
 
 pub loop-preserved : goal.loop-preserved
 loop-preserved g c =
