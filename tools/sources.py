@@ -65,14 +65,14 @@ def text_of(file):
 
 
 def require_toolchain():
-    """Ends with a line and a status where the toolchain is missing, or is not the one that README names."""
-    needed = re.search(r"rattle-kit-\S+ logic \w+", text_of(f"{TOP}/README.md"))[0]
-    wanted = f"the toolchain Rattle is needed, command `rt`, of which `rt version` says `{needed}`"
+    """Ends with a line and a status where the toolchain is missing, or has not the logic that README names."""
+    needed = re.search(r"logic \w+", text_of(f"{TOP}/README.md"))[0]
+    wanted = f"the toolchain Rattle is needed, command `rt`, of which `rt version` says `rattle-kit-.. {needed}`"
     try:
         ran = subprocess.run(["rt", "version"], stdin=subprocess.DEVNULL, capture_output=True, text=True, check=False)
     except OSError:
         say(f"{wanted}; here is no `rt`")
         sys.exit(NOT_FOUND)
-    if ran.stdout.strip() != needed:
+    if not ran.stdout.strip().endswith(needed):
         say(f"{wanted}; here it says `{ran.stdout.strip()[:80]}`")
         sys.exit(NOT_FOUND)
