@@ -55,7 +55,7 @@ pub(crate) fn page_bytes(page: &Page, block: u32) -> [u8; 8192]
     ensures is { IsPageAt block result }
     ensures shows { sheet_in result ≡ page.now }
 {
-    let mut bytes = *page.bytes();
+    let mut bytes = page.bytes();
     put_four(&mut bytes, BLOCK_AT, block);
     bytes
 }

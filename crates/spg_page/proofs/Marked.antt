@@ -1,16 +1,7 @@
 -- Tuples with placeholders at the marked offsets.
-use Rattle.std.proofs.Common.{◌≡◌, ℕ, zero, suc, ◌+◌, ◌<◌, ◌≤◌, Bool, true, false, cond, List, [], ◌∷◌, ◌++◌, length, get_or, take, map, set, replicate, refl, sym, ap, ◌∙◌, arith}
-use Rattle.std.proofs.lemmas.List.{take_more, length-take-le, get_or-take}
-use Rattle.std.proofs.lemmas.List.Sums.{sum_by-cons, sum_by_push, sum_by-take-le}
-use Rattle.spg_page.specs.declared.tuple.Tuple.{Tuple}
-use Rattle.spg_page.specs.declared.tuple.Tuple.TheVariants.{Placeholder}
-use Rattle.spg_page.specs.declared.tuple.PageKind.{PageKind}
-use Rattle.spg_page.specs.Spelling.{size_of, tuple_of}
-use Rattle.spg_page.specs.Layout.{piece_at}
-use Rattle.spg_page.specs.Stored.{Stored, used, free_of, IsKept}
+use Rattle.std.proofs.Common.{◌≡◌, ℕ, zero, suc, ◌+◌, ◌-◌, ◌<◌, ◌≤◌, Bool, true, false, cond, List, [], ◌∷◌, ◌++◌, length, length-append, get_or, take, drop, map, set, replicate, refl, sym, ap, ◌∙◌, arith}
+use Rattle.std.proofs.lemmas.List.{take_more, take_all, drop_more, drop_all, length-take-le, length-drop, append-nil, set-append_right}
 use Rattle.spg_page.specs.Marks.{marked_as, blanked}
-use Rattle.spg_page.proofs.Codec.{size_from, spelled_as}
-use Rattle.spg_page.proofs.StoredLaws.{sheet_of, kept_piece}
 
 marked_none : {T : Type 0} → (x : T) (ms : List Bool) → marked_as x ms [] ≡ []
 marked_none x [] = refl
@@ -37,36 +28,6 @@ blanked_step x ms ts i d l =
     let n : suc (length (take i ts)) ≡ i + 1 = omega (arith, length-take-le i ts (omega arith)) in
     ap (blanked x ms) (take_more ts i d l) ∙ blanked_more x ms (take i ts) (get_or ts i d) ∙ ap (λ k. blanked x ms (take i ts) ++ cond (get_or ms k false) x (get_or ts i d) ∷ []) n
 
--- no tuple is shorter than a placeholder
-abbrev pub AreLong : List Tuple → Type 0
-AreLong ts = (i : ℕ) → i < length ts → 16 ≤ size_of (get_or ts i Placeholder)
-
-marked_used : (ms : List Bool) (ts : List Tuple) → AreLong ts → used (marked_as Placeholder ms ts) ≤ used ts
-marked_used [] ts h = omega arith
-marked_used (m ∷ ms) [] h = omega arith
-marked_used (m ∷ ms) (t ∷ ts) h =
-    let rest : used (marked_as Placeholder ms ts) ≤ used ts = marked_used ms ts (λ i l. h (suc i) (omega arith)) in
-    let long : 16 ≤ size_of t = h zero (omega arith) in
-    let first : size_of (cond m Placeholder t) ≤ size_of t = by m long in
-    omega (arith, rest, first, sum_by-cons (λ u. size_of u + 4) t ts, sum_by-cons (λ u. size_of u + 4) (cond m Placeholder t) (marked_as Placeholder ms ts))
-  where
-    by : (m : Bool) → 16 ≤ size_of t → size_of (cond m Placeholder t) ≤ size_of t
-    by true long = long
-    by false long = omega arith
-
-blanked_used : (ms : List Bool) (ts : List Tuple) → AreLong ts → used (blanked Placeholder ms ts) ≤ used ts
-blanked_used [] ts h = omega arith
-blanked_used (m ∷ ms) ts h = marked_used ms ts h
-
--- the next tuple has room
-pub room_left : (ms : List Bool) (ts : List Tuple) (i size : ℕ) → i < length ts → AreLong ts → used ts ≤ 8160 → size ≤ size_of (get_or ts i Placeholder) → size + 4 ≤ free_of (blanked Placeholder ms (take i ts))
-room_left ms ts i size l h fits s =
-    let front : used (blanked Placeholder ms (take i ts)) ≤ used (take i ts) = blanked_used ms (take i ts) (λ k lk.
-    let lk2 : k < i = omega (arith, length-take-le i ts (omega arith)) in
-    rw (get_or-take i ts k Placeholder lk2) (h k (omega arith))) in
-    let more : used (take (i + 1) ts) ≡ used (take i ts) + (size_of (get_or ts i Placeholder) + 4) = ap used (take_more ts i Placeholder l) ∙ sum_by_push (λ u. size_of u + 4) (take i ts) (get_or ts i Placeholder) in
-    omega (arith, front, more, fits, s, sum_by-take-le (λ u. size_of u + 4) ts (i + 1))
-
 -- what callers see
 map_marked : {T U : Type 0} → (f : T → U) (x : T) (ms : List Bool) (ts : List T) → map f (marked_as x ms ts) ≡ marked_as (f x) ms (map f ts)
 map_marked f x [] ts = refl
@@ -77,24 +38,6 @@ map_marked f x (false ∷ ms) (t ∷ ts) = ap (λ us. f t ∷ us) (map_marked f 
 pub map_blanked : {T U : Type 0} → (f : T → U) (x : T) (ms : List Bool) (ts : List T) → map f (blanked x ms ts) ≡ blanked (f x) ms (map f ts)
 map_blanked f x [] ts = refl
 map_blanked f x (m ∷ ms) ts = map_marked f x ms ts
-
--- ---- a page that is written anew
-
-pub kept_long : (b : List ℕ) (kind : PageKind) (nulls : Bool) (n upper p : ℕ) (s : Stored) → IsKept b kind nulls n upper p → sheet_of b kind nulls n ≡ s → AreLong s.tuples
-kept_long b kind nulls n upper p s kept e i l =
-    let k = kept_piece b kind nulls n upper p i s kept e l in
-    rw (← k.1) (size_from (tuple_of (piece_at b i)) k.0.tuple)
-
-pub kept_length : (b : List ℕ) (kind : PageKind) (nulls : Bool) (n upper p i : ℕ) (s : Stored) → IsKept b kind nulls n upper p → sheet_of b kind nulls n ≡ s → i < length s.tuples → length (piece_at b i) ≡ size_of (get_or s.tuples i Placeholder)
-kept_length b kind nulls n upper p i s kept e l =
-    let k = kept_piece b kind nulls n upper p i s kept e l in
-    (spelled_as (piece_at b i) (get_or s.tuples i Placeholder) k.0 k.1).size
-
--- the next tuple, or a placeholder where it is marked, is put behind the others
-pub blanked_pushed : (s now then : Stored) (ms : List Bool) (i : ℕ) (t : Tuple) → i < length s.tuples → now ≡ record s { tuples = blanked Placeholder ms (take i s.tuples) } → then ≡ record now { tuples = now.tuples ++ t ∷ [] } → t ≡ cond (get_or ms (i + 1) false) Placeholder (get_or s.tuples i Placeholder) → then ≡ record s { tuples = blanked Placeholder ms (take (i + 1) s.tuples) }
-blanked_pushed s now then ms i t l is pushed here =
-    pushed ∙ ap (λ (v : Stored). record v { tuples = v.tuples ++ t ∷ [] }) is
-    ∙ ap (λ us. record s { tuples = us }) (ap (λ u. blanked Placeholder ms (take i s.tuples) ++ u ∷ []) here ∙ sym (blanked_step Placeholder ms s.tuples i Placeholder l))
 
 -- ---- one mark more
 
@@ -127,3 +70,43 @@ marked_set x (m ∷ ms) (t ∷ ts) (suc i) a b = ap (λ us. cond m x t ∷ us) (
 pub blanked_set : {T : Type 0} → (x : T) (ms : List Bool) (ts : List T) (i : ℕ) → suc i < length ms → i < length ts → blanked x (set ms (suc i) true) ts ≡ set (blanked x ms ts) i x
 blanked_set x [] ts i a b = absurd (omega arith)
 blanked_set x (m ∷ ms) ts i a b = marked_set x ms ts i (omega arith) b
+
+-- ---- the tuples before an index are blanked
+
+abbrev pub blanked_upto : {T : Type 0} → T → List Bool → List T → ℕ → List T
+blanked_upto x ms ts i = blanked x ms (take i ts) ++ drop i ts
+
+upto_split : {T : Type 0} → (x : T) (ms : List Bool) (ts : List T) (i : ℕ) (d : T) → i < length ts → blanked_upto x ms ts i ≡ blanked x ms (take i ts) ++ get_or ts i d ∷ drop (i + 1) ts
+upto_split x ms ts i d l = ap (λ us. blanked x ms (take i ts) ++ us) (drop_more ts i d l)
+
+upto_more : {T : Type 0} → (x : T) (ms : List Bool) (ts : List T) (i : ℕ) (d : T) → i < length ts → blanked_upto x ms ts (i + 1) ≡ blanked x ms (take i ts) ++ cond (get_or ms (i + 1) false) x (get_or ts i d) ∷ drop (i + 1) ts
+upto_more x ms ts i d l =
+    ap (λ us. us ++ drop (i + 1) ts) (blanked_step x ms ts i d l) ∙ append_one (blanked x ms (take i ts)) (cond (get_or ms (i + 1) false) x (get_or ts i d)) (drop (i + 1) ts)
+  where
+    append_one : {T : Type 0} → (xs : List T) (y : T) (zs : List T) → (xs ++ y ∷ []) ++ zs ≡ xs ++ y ∷ zs
+    append_one [] y zs = refl
+    append_one (x ∷ xs) y zs = ap (λ us. x ∷ us) (append_one xs y zs)
+
+-- the next one is marked, or is not
+pub upto_marked : {T : Type 0} → (x : T) (ms : List Bool) (ts : List T) (i : ℕ) (d : T) → i < length ts → get_or ms (i + 1) false ≡ true → set (blanked_upto x ms ts i) i x ≡ blanked_upto x ms ts (i + 1)
+upto_marked x ms ts i d l e =
+    let len : length (blanked x ms (take i ts)) ≡ i = length-blanked x ms (take i ts) ∙ length-take-le i ts (omega arith) in
+    let at : i - i ≡ 0 = omega arith in
+    ap (λ us. set us i x) (upto_split x ms ts i d l) ∙ set-append_right (blanked x ms (take i ts)) (get_or ts i d ∷ drop (i + 1) ts) i i x len (omega arith)
+    ∙ ap (λ k. blanked x ms (take i ts) ++ set (get_or ts i d ∷ drop (i + 1) ts) k x) at
+    ∙ sym (upto_more x ms ts i d l ∙ ap (λ m. blanked x ms (take i ts) ++ cond m x (get_or ts i d) ∷ drop (i + 1) ts) e)
+
+pub upto_kept : {T : Type 0} → (x : T) (ms : List Bool) (ts : List T) (i : ℕ) (d : T) → i < length ts → get_or ms (i + 1) false ≡ false → blanked_upto x ms ts i ≡ blanked_upto x ms ts (i + 1)
+upto_kept x ms ts i d l e = upto_split x ms ts i d l ∙ sym (upto_more x ms ts i d l ∙ ap (λ m. blanked x ms (take i ts) ++ cond m x (get_or ts i d) ∷ drop (i + 1) ts) e)
+
+pub upto_none : {T : Type 0} → (x : T) (ms : List Bool) (ts : List T) → blanked_upto x ms ts 0 ≡ ts
+upto_none x ms ts = ap (λ us. us ++ ts) (blanked_none x ms)
+
+pub upto_all : {T : Type 0} → (x : T) (ms : List Bool) (ts : List T) (i : ℕ) → length ts ≤ i → blanked_upto x ms ts i ≡ blanked x ms ts
+upto_all x ms ts i h = ap (λ us. blanked x ms us ++ drop i ts) (take_all i ts h) ∙ ap (λ us. blanked x ms ts ++ us) (drop_all i ts h) ∙ append-nil (blanked x ms ts)
+
+pub length-upto : {T : Type 0} → (x : T) (ms : List Bool) (ts : List T) (i : ℕ) → i ≤ length ts → length (blanked_upto x ms ts i) ≡ length ts
+length-upto x ms ts i h =
+    let a : length (blanked x ms (take i ts)) ≡ i = length-blanked x ms (take i ts) ∙ length-take-le i ts h in
+    let b : length (drop i ts) ≡ length ts - i = length-drop i ts in
+    length-append (blanked x ms (take i ts)) (drop i ts) ∙ (let e : length (blanked x ms (take i ts)) + length (drop i ts) ≡ length ts = omega arith in e)

@@ -36,4 +36,3 @@ pub mod RootExact
 pub mod ChainExact
 pub mod ChainNamed
 pub mod Cases
-pub mod Anew

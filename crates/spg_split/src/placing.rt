@@ -1,11 +1,10 @@
 ghost use Rattle.std.specs.Prelude.{◌≡◌, ◌<◌, ◌≤◌, ◌+◌, ◌-◌, ◌∷◌, ◌++◌, [], ℕ, suc, length, take, drop, None as Nil, Some as Just, IfSome};
-ghost use Rattle.spg_forest.specs.Pages.{all_live, tuple_on};
+ghost use Rattle.spg_forest.specs.Pages.{all_live};
 ghost use Rattle.spg_forest.specs.Tuples.{Live};
-ghost use Rattle.spg_forest.specs.Sheets.{free_place, gaps, size_of, weight, with_tuples};
+ghost use Rattle.spg_forest.specs.Sheets.{free_place, size_of, with_tuples};
 ghost use Rattle.spg_forest.specs.Edits.{added};
 ghost use Rattle.spg_page.specs.Told.{number_of};
 ghost use Rattle.spg_page.specs.Changes.{room_of};
-ghost use Rattle.spg_page.specs.Kinds.{IsLive};
 ghost use Rattle.spg_page.specs.Reads.{leaf_in};
 ghost use Rattle.spg_chain.specs.Added.{IsLeafIn};
 ghost use Rattle.spg_split.specs.Placing.{taken_by, head_of, placed, downlinks, downlink, HaveRooms};
@@ -13,7 +12,8 @@ ghost use Rattle.spg_chain.specs.Listed.{chained, leaves_in, HaveRoom};
 ghost use Rattle.spg_split.specs.Ends.{last_of, head_or};
 
 use spg_base::{Block, List, Offset, Place};
-use spg_page::{Page, TupleBytes, Unwritten};
+use spg_chain::add_to_chain;
+use spg_page::{Page, TupleBytes};
 
 /// The first and the last offset of a chain.
 #[derive(Clone, Copy, Debug)]
@@ -22,78 +22,39 @@ struct Ends {
     last: Offset,
 }
 
-/// Adds a leaf tuple behind the last one of a chain.
-fn add_behind(page: &mut Page, unwritten: &mut Unwritten, last: Offset, leaf: &TupleBytes) -> Offset
-    requires last { IsLive (tuple_on page.old.tuples last) }
-    requires leaf { leaf.now ≡ Live (leaf_in leaf.now) 0 }
-    requires fits { weight (page.old.tuples ++ unwritten.old) ≤ 8160 }
-    requires room { size_of leaf.now + 4 ≤ room_of (page.old.tuples ++ unwritten.old) 1 }
-    requires full { gaps page.old.tuples ≡ 0 }
-    ensures at { result ≡ suc (free_place (page.old.tuples ++ unwritten.old)) }
-    ensures page { page.new ≡ with_tuples page.old page.new.tuples }
-    ensures tuples { page.new.tuples ++ unwritten.new ≡ added (page.old.tuples ++ unwritten.old) last result (leaf_in leaf.now) }
-    ensures live { IsLive (tuple_on page.new.tuples result) }
-    ensures full { gaps page.new.tuples ≡ 0 }
-{
-    let next = page.next_at(last);
-    let at = page.add_anew(unwritten, leaf);
-    page.set_next(at, next);
-    page.set_next(last, Some(at));
-    at
-}
-
 /// Adds a leaf tuple at the end of a chain, or as one of its own where there is none.
-fn add_at_end(
-    page: &mut Page,
-    unwritten: &mut Unwritten,
-    ends: Option<Ends>,
-    leaf: &TupleBytes,
-) -> Ends
+fn add_at_end(page: &mut Page, ends: Option<Ends>, leaf: &TupleBytes) -> Ends
     requires last { IsLeafIn page.old.tuples (last_of ends) }
     requires leaf { leaf.now ≡ Live (leaf_in leaf.now) 0 }
-    requires fits { weight (page.old.tuples ++ unwritten.old) ≤ 8160 }
-    requires room { size_of leaf.now + 4 ≤ room_of (page.old.tuples ++ unwritten.old) 1 }
-    requires full { gaps page.old.tuples ≡ 0 }
-    ensures last { result.last ≡ suc (free_place (page.old.tuples ++ unwritten.old)) }
-    ensures head { Just result.head ≡ head_or ends (Just (suc (free_place (page.old.tuples ++ unwritten.old)))) }
-    ensures page { page.new ≡ with_tuples page.old page.new.tuples }
-    ensures tuples { page.new.tuples ++ unwritten.new ≡ added (page.old.tuples ++ unwritten.old) (number_of (last_of ends)) (suc (free_place (page.old.tuples ++ unwritten.old))) (leaf_in leaf.now) }
-    ensures live { IsLive (tuple_on page.new.tuples result.last) }
-    ensures full { gaps page.new.tuples ≡ 0 }
+    requires room { size_of leaf.now + 4 ≤ room_of page.old.tuples 1 }
+    ensures last { result.last ≡ suc (free_place page.old.tuples) }
+    ensures head { Just result.head ≡ head_or ends (Just (suc (free_place page.old.tuples))) }
+    ensures tuples { page.new ≡ with_tuples page.old (added page.old.tuples (number_of (last_of ends)) (suc (free_place page.old.tuples)) (leaf_in leaf.now)) }
 {
     match ends {
         None => {
-            let at = page.add_anew(unwritten, leaf);
+            let at = add_to_chain(page, None, leaf);
             Ends { head: at, last: at }
         }
         Some(Ends { head, last }) => {
-            let at = add_behind(page, unwritten, last, leaf);
+            let at = add_to_chain(page, Some(last), leaf);
             Ends { head, last: at }
         }
     }
 }
 
 /// Adds those leaf tuples that go to a node, as a chain in their order, and gives its head.
-fn put_list(
-    page: &mut Page,
-    unwritten: &mut Unwritten,
-    leaves: &[TupleBytes],
-    node_of: &[u16],
-    node: u16,
-) -> Option<Offset>
+fn put_list(page: &mut Page, leaves: &[TupleBytes], node_of: &[u16], node: u16) -> Option<Offset>
     requires each { length leaves.now ≤ length node_of.now }
     requires leaves { leaves.now ≡ all_live (leaves_in leaves.now) }
-    requires room { HaveRoom (page.old.tuples ++ unwritten.old) (taken_by node leaves.now node_of.now) }
-    requires full { gaps page.old.tuples ≡ 0 }
-    ensures head { result ≡ head_of (page.old.tuples ++ unwritten.old) (taken_by node leaves.now node_of.now) }
-    ensures page { page.new ≡ with_tuples page.old page.new.tuples }
-    ensures tuples { page.new.tuples ++ unwritten.new ≡ chained (page.old.tuples ++ unwritten.old) 0 (taken_by node leaves.now node_of.now) }
-    ensures full { gaps page.new.tuples ≡ 0 }
+    requires room { HaveRoom page.old.tuples (taken_by node leaves.now node_of.now) }
+    ensures head { result ≡ head_of page.old.tuples (taken_by node leaves.now node_of.now) }
+    ensures tuples { page.new ≡ with_tuples page.old (chained page.old.tuples 0 (taken_by node leaves.now node_of.now)) }
 {
     let mut ends = None;
     for index in 0..leaves.len() {
         if node_of[index] == node {
-            ends = Some(add_at_end(page, unwritten, ends, &leaves[index]));
+            ends = Some(add_at_end(page, ends, &leaves[index]));
         }
     }
     head_in(ends)
@@ -127,12 +88,10 @@ pub(crate) fn put_range(
     ensures tuples { page.new ≡ with_tuples page.old (placed page.old.tuples (λ j. taken_by j leaves.now node_of.now) from (to - from)) }
     ensures links { links.new ≡ take from links.old ++ downlinks block page.old.tuples (λ j. taken_by j leaves.now node_of.now) from (to - from) ++ drop to links.old }
 {
-    let mut unwritten = page.unwrite();
     for node in from..to {
-        let head = put_list(page, &mut unwritten, leaves, node_of, node as u16);
+        let head = put_list(page, leaves, node_of, node as u16);
         links.set(node, link_to(block, head));
     }
-    page.write_rest(unwritten);
 }
 
 /// Adds the leaf tuples of each node to a page, as a chain of its own, and sets the downlinks to

@@ -237,18 +237,18 @@ module _ {S E : Type 0} (entries : S → List E) (seat_of : E → ℕ) (origin_o
         refl,
       )
 
-  -- a bell may be rung by any seat
-  pub rings : (slots id word : ℕ) (m : Me (Option S) V) → 3 ≤ word → Allows Rule slots id m word (λ n. (n + 1) % 18446744073709551616) (rang (step slots word 1 0 none) m)
-  rings slots id word m past s r _ at _ =
-      let rest = set_past (r.facts.next % cycle) (r.facts.now % cycle) (length r.facts.list) r.bells word ((get_or s.words word 0 + 1) % cycle) past in (
+  -- a bell, and the count of those who sleep, may be changed by any seat
+  pub rings : (slots id word : ℕ) (m : Me (Option S) V) (f : ℕ → ℕ) → 3 ≤ word → Allows Rule slots id m word f (rang (step slots word 1 0 none) m)
+  rings slots id word m f past s r _ at _ =
+      let rest = set_past (r.facts.next % cycle) (r.facts.now % cycle) (length r.facts.list) r.bells word (f (get_or s.words word 0)) past in (
         m.0,
         keeps,
         tt,
-        subst (λ (vs : List V). Rule record { words = set s.words word ((get_or s.words word 0 + 1) % cycle); homes = s.homes; views = vs }) (sym (set_again s.views id m.0 at))
+        subst (λ (vs : List V). Rule record { words = set s.words word (f (get_or s.words word 0)); homes = s.homes; views = vs }) (sym (set_again s.views id m.0 at))
             record {
               facts = r.facts;
               bells = rest.0;
-              words_are = ap (λ ws. set ws word ((get_or s.words word 0 + 1) % cycle)) r.words_are ∙ rest.1;
+              words_are = ap (λ ws. set ws word (f (get_or s.words word 0))) r.words_are ∙ rest.1;
               homes_are = r.homes_are;
               many_is = r.many_is;
               few = r.few;

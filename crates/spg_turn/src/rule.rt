@@ -1,7 +1,8 @@
 //! What a seat at the table knows, the rule of the table, and what each step tells.
 //!
-//! Word 0 is the next ticket, word 1 the ticket that is served, word 2 the length of the journal, and
-//! the 64 words after them are bells. The one slot has the state, unless a seat has it out.
+//! Word 0 is the next ticket, word 1 the ticket that is served, word 2 the length of the journal. The
+//! 64 words after them are bells, and the last counts the seats that sleep or are about to. The one slot
+//! has the state, unless a seat has it out.
 use atomic_table::{Join, Play, Split, TableRule};
 use spg_base::{Origin, Recorded};
 use std::collections::LinkedList;
@@ -87,7 +88,7 @@ impl<S: Recorded> Play<Option<S>, View<S::Entry>> for Serve {
     ghost then = { served };
 }
 
-/// Changes a bell, so that who is about to sleep on it does not.
+/// Changes a bell, so that who is about to sleep on it does not, or the count of those who sleep.
 pub struct Ring;
 
 impl<S: Recorded> Play<Option<S>, View<S::Entry>> for Ring {

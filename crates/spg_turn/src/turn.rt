@@ -5,11 +5,13 @@ use crate::rule::{Compare, Deal, Draw, Extend, Law, Look, Ring, Serve, View};
 use atomic_table::{Refused, Seat, Table};
 use spg_base::{Memory, Recorded, SeatNo};
 use std::alloc::Global;
+use std::hint::spin_loop;
 use std::snapshot::Snapshot;
 use std::sync::Wait;
 use std::thread::yield_now;
 
-// The words of the table: the next ticket, the ticket served, the length of the journal, 64 bells.
+// The words of the table: the next ticket, the ticket served, the length of the journal, 64 bells, and
+// how many seats sleep or are about to.
 const NEXT: usize = 0;
 
 const NOW: usize = 1;
@@ -18,17 +20,22 @@ const LENGTH: usize = 2;
 
 const FIRST_BELL: usize = 3;
 
-const WORDS: usize = 67;
+const SLEEPERS: usize = 67;
+
+const WORDS: usize = 68;
 
 // How often who waits looks before it sleeps. To wake who sleeps takes longer than tens of sections.
 const LOOKS: u8 = 250;
+
+// How often it looks before it lets other threads run in between.
+const SPINS: u8 = 40;
 
 /// A lock round a state, whose holders take turns. Contracts read it by `turn_id`, which lock it is,
 /// and `turn_seats`, how many passes it may give.
 pub struct Turn<S: Recorded> {
     table: Table<Option<S>, View<S::Entry>, Snapshot<S>, Law, Global>,
     seats: u8,
-    pub ghost sized: { (table.shared.table_id.words ≡ 67) × (table.shared.table_id.slots ≡ 1) × (1 ≤ seats) × (seats ≤ 64) },
+    pub ghost sized: { (table.shared.table_id.words ≡ 68) × (table.shared.table_id.slots ≡ 1) × (1 ≤ seats) × (seats ≤ 64) },
 }
 
 impl<S: Recorded> Turn<S> {
@@ -122,8 +129,8 @@ impl<S: Recorded> Turn<S> {
         }
     }
 
-    // Waits until the ticket is served, and takes the slot. It reads the bell before it looks, so a
-    // ring after the look keeps it awake.
+    // Waits until the ticket is served, and takes the slot. Who is about to sleep tells it before the
+    // last look, and has read the bell before: so who serves the ticket after that look rings the bell.
     fn wait<R: Wait>(&self, rt: &R, seat: &mut Seat<Option<S>, View<S::Entry>>, ticket: u64)
         requires own { seat.old.table_id ≡ turn_id self.now }
         requires waiting { (t : ℕ) × (ticket ≡ t % cycle) × (seat.old.me.0.stage ≡ Waiting t) × (seat.old.me.0.spent ≡ false) × (seat.old.me.1 ≡ []) }
@@ -135,18 +142,45 @@ impl<S: Recorded> Turn<S> {
         let mut looks = 0;
         for _ in rt.forever() {
             let rung = shared.peek(bell);
+            let sleeps = looks >= LOOKS;
+            self.begin_sleep(seat, sleeps);
             let now = shared.load::<Look>(seat, NOW);
             if now == ticket {
+                self.end_sleep(seat, sleeps);
                 return;
             }
-            if looks < LOOKS {
+            if sleeps {
+                shared.park(rt, bell, (rung & 0xffff_ffff) as u32);
+            } else if looks < SPINS {
+                looks += 1;
+                spin_loop();
+            } else {
                 looks += 1;
                 yield_now();
-            } else {
-                shared.park(rt, bell, (rung & 0xffff_ffff) as u32);
             }
+            self.end_sleep(seat, sleeps);
         }
         unreachable!()
+    }
+
+    // Tells that the seat is about to sleep, if it is.
+    fn begin_sleep(&self, seat: &mut Seat<Option<S>, View<S::Entry>>, sleeps: bool)
+        requires own { seat.old.table_id ≡ turn_id self.now }
+        ensures same { (seat.new.table_id ≡ seat.old.table_id) × (seat.new.id ≡ seat.old.id) × (seat.new.me ≡ seat.old.me) }
+    {
+        if sleeps {
+            self.table.shared.fetch_add::<Ring>(seat, SLEEPERS, 1);
+        }
+    }
+
+    // Tells that the seat is awake, if it told that it was about to sleep.
+    fn end_sleep(&self, seat: &mut Seat<Option<S>, View<S::Entry>>, sleeps: bool)
+        requires own { seat.old.table_id ≡ turn_id self.now }
+        ensures same { (seat.new.table_id ≡ seat.old.table_id) × (seat.new.id ≡ seat.old.id) × (seat.new.me ≡ seat.old.me) }
+    {
+        if sleeps {
+            self.table.shared.fetch_sub::<Ring>(seat, SLEEPERS, 1);
+        }
     }
 
     /// Gives the state back. Its journal only grew, by entries of the holder's seat, and its origin
@@ -182,13 +216,13 @@ impl<S: Recorded> Turn<S> {
         }
     }
 
-    // Wakes who has the ticket, if it was drawn.
+    // Wakes who has the ticket, if it was drawn and somebody sleeps.
     fn ring(&self, seat: &mut Seat<Option<S>, View<S::Entry>>, ticket: u64)
         requires own { seat.old.table_id ≡ turn_id self.now }
         ensures same { (seat.new.table_id ≡ seat.old.table_id) × (seat.new.id ≡ seat.old.id) × (seat.new.me ≡ seat.old.me) }
     {
         let shared = &self.table.shared;
-        if shared.peek(NEXT) != ticket {
+        if shared.peek(NEXT) != ticket && shared.peek(SLEEPERS) != 0 {
             let bell = bell_of(ticket);
             shared.fetch_add::<Ring>(seat, bell, 1);
             shared.wake_one(bell);

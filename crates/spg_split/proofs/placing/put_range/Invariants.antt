@@ -1,11 +1,6 @@
-use Rattle.std.proofs.Common.{◌≡◌, ◌≤◌, ◌++◌}
-use Rattle.spg_forest.specs.Sheets.{with_tuples, gaps, weight}
 use Rattle.spg_split.specs.Placing.{taken_by}
 use Rattle.spg_split.proofs.Lists.{IsPlacing}
-use Rattle.spg_split.proofs.Anew.{joined}
 use Rattle.spg_split.proofs.placing.put_range.Given as goal
 
 abbrev pub invariant-loop-node : goal.invariant-loop-node
-invariant-loop-node l =
-    IsPlacing l.fn.page (λ j. taken_by j l.fn.leaves l.fn.node_of) l.fn.from l.fn.to l.fn.block l.fn.links (joined l.page l.unwritten) l.links l.node
-    × (l.page ≡ with_tuples l.fn.page l.page.tuples) × (gaps l.page.tuples ≡ 0) × (weight (l.page.tuples ++ l.unwritten) ≤ 8160)
+invariant-loop-node l = IsPlacing l.fn.page (λ j. taken_by j l.fn.leaves l.fn.node_of) l.fn.from l.fn.to l.fn.block l.fn.links l.page l.links l.node

@@ -1,4 +1,4 @@
-use Rattle.std.proofs.Common.{arith}
+use Rattle.std.proofs.Common.{arith, ◌+◌, ◌%◌}
 use Rattle.spg_turn.proofs.Turns.{rings}
 use Rattle.spg_turn.proofs.turn.Turn.ring.Goals as goal
 
@@ -8,5 +8,5 @@ fetch_add-requires g c =
     let bell = c.bell_of-bell.ensures in (
       c.requires.own,
       omega arith,
-      rings g.S.Recorded.entries g.S.Recorded.seat_of g.S.Recorded.origin_of _ _ _ _ bell.0,
+      rings g.S.Recorded.entries g.S.Recorded.seat_of g.S.Recorded.origin_of _ _ _ _ (λ n. (n + 1) % 18446744073709551616) bell.0,
     )
