@@ -26,6 +26,10 @@ from concurrent.futures import ThreadPoolExecutor
 
 PAGE = 8192
 TRIP = "trip"
+
+# The status of a run that was ended, and after how many seconds it was.
+HANGS, LONGEST = "no end", 600
+
 EDGES = [-2147483648, -2147483647, -1, 0, 1, 2147483646, 2147483647]
 PLAIN = set(range(32, 127)) - {34, 92} | set(range(128, 256))
 
@@ -211,11 +215,14 @@ def large(rng, classes, kinds):
 
 
 def ran(words, text, images):
-    """What a program answers and writes, and what it leaves in its folder, where these images stood before."""
+    """What a program answers and writes, and what it leaves in its folder, where these images stood before; or that it does not end."""
     with tempfile.TemporaryDirectory() as folder:
         for name, image in images.items():
             pathlib.Path(folder, name).write_bytes(image)
-        done = subprocess.run(words, input=text, capture_output=True, check=False, cwd=folder, timeout=600)
+        try:
+            done = subprocess.run(words, input=text, capture_output=True, check=False, cwd=folder, timeout=LONGEST)
+        except subprocess.TimeoutExpired:
+            return HANGS, b"", [], {}
         images = {path.name: path.read_bytes() for path in pathlib.Path(folder).iterdir()}
     return done.returncode, done.stdout, done.stderr.splitlines()[:1], images
 
@@ -246,8 +253,8 @@ def all_settled(images):
 
 
 def is_same(ours, other):
-    """Whether two runs are the same, but for where the tuples stand on the pages of images."""
-    return ours[:3] == other[:3] and all_settled(ours[3]) == all_settled(other[3])
+    """Whether two runs end and are the same, but for where the tuples stand on the pages of images."""
+    return HANGS not in (ours[0], other[0]) and ours[:3] == other[:3] and all_settled(ours[3]) == all_settled(other[3])
 
 
 def apart_in_place(ours, other):

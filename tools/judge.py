@@ -32,7 +32,7 @@ def command(rng, keys, rows, weights):
         return compare.insert(rng, keys, rng.randrange(4000), row_of(rng, rows), 0.1)
     if kind == "delete":
         return b"delete " + row_of(rng, rows)
-    return compare.query(rng, keys) if kind == "find" else b"vacuum"
+    return compare.query(rng, keys, []) if kind == "find" else b"vacuum"
 
 
 def script_of(rng, classes):
