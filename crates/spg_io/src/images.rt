@@ -35,12 +35,13 @@ pub trait Images {
 
     ghost put_gives: { Self → Items ℕ → Items ℕ → Result Unit IoRefused → Self → Type 0 } = { λ _ _ _ _ _. ⊤ };
 
-    /// How many bytes stand under the name. None where there is no such name. `Failed` comes only where
-    /// the count of faults rises.
+    /// How many bytes stand under the name. None where there is no such name. The count of faults rises
+    /// where the answer is `Failed`, and else stays.
     fn len(&mut self, name: &str) -> Result<Option<u64>, Failed>
         ensures value { IfOk result (λ n. Holds (held self.old) name.now (λ bytes. n ≡ length_of bytes)) }
         ensures stays { Stays (held self.old) (held self.new) }
         ensures cause { HasCause (faults self.old) (faults self.new) result }
+        ensures answered { OnOk result (faults self.new ≡ faults self.old) }
         ensures gives { len_gives self.old name.now result self.new };
 
     /// Leaves the name with no bytes. `Failed` comes only where the count of faults rises, and leaves
@@ -52,12 +53,13 @@ pub trait Images {
         ensures gives { clear_gives self.old name.now result self.new };
 
     /// Reads a block, counted from 0, into the page. False exactly where the block does not lie wholly
-    /// inside the bytes under the name. `Failed` comes only where the count of faults rises. The page may
-    /// hold anything then, and where the answer is false.
+    /// inside the bytes under the name. The count of faults rises where the answer is `Failed`, and else
+    /// stays. The page may hold anything then, and where the answer is false.
     fn get(&mut self, name: &str, block: u32, page: &mut [u8; 8192]) -> Result<bool, Failed>
         ensures value { IfOk result (λ inside. Holds (held self.old) name.now (IsBlock block inside page.new)) }
         ensures stays { Stays (held self.old) (held self.new) }
         ensures cause { HasCause (faults self.old) (faults self.new) result }
+        ensures answered { OnOk result (faults self.new ≡ faults self.old) }
         ensures gives { get_gives self.old name.now result self.new };
 
     /// Adds the page after the last byte of the name, which is made where it is not there. `Failed` comes

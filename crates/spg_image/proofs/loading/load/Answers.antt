@@ -29,7 +29,7 @@ returns-in_ok-bare-in-Ok-2-clause-value g c =
     )) c.in-Ok.ensures.value
 
 pub returns-in_ok-bare-in-Ok-2-clause-cause : goal.returns-in_ok-bare-in-Ok-2-clause-cause
-returns-in_ok-bare-in-Ok-2-clause-cause g c = record { later = c.in-Ok.ensures.cause.later; fault = λ e. cc }
+returns-in_ok-bare-in-Ok-2-clause-cause g c = record { later = c.in-Ok.ensures.cause.later; fault = λ e. cc; answered = c.in-Ok.ensures.cause.answered; refused = tt }
 
 pub returns-in_ok-bare-in-Ok-2-clause-made : goal.returns-in_ok-bare-in-Ok-2-clause-made
 returns-in_ok-bare-in-Ok-2-clause-made g c =
