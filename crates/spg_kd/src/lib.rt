@@ -7,6 +7,3 @@ mod half;
 
 pub use class::{Kd, KdRecon};
 pub use half::nodes_at;
-
-#[cfg(test)]
-mod tests;

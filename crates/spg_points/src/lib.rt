@@ -13,6 +13,3 @@ pub use codec::{coordinate, decode, encode, encode_coordinate};
 pub use height::{lower, raise};
 pub use nodes::{NodeAreas, kept_nodes, labels_ok, zero_labels};
 pub use rests::{all_hold, copy_all};
-
-#[cfg(test)]
-mod tests;

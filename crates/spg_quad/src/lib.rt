@@ -8,6 +8,3 @@ mod quadrant;
 pub use class::{Quad, QuadRecon};
 pub use division::centroid;
 pub use quadrant::{node_of, nodes_at, region_of};
-
-#[cfg(test)]
-mod tests;

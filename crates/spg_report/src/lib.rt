@@ -12,6 +12,3 @@ pub use line::Line;
 pub use outcome::Outcome;
 pub use record::{Record, Records};
 pub use results::{push_journal, push_result, push_stat, result_line, stat_line};
-
-#[cfg(test)]
-mod tests;

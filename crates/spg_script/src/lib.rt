@@ -54,8 +54,3 @@ pub use script::Script;
 pub use spoken::Spoken;
 pub use tail::Tail;
 pub use wanted::Wanted;
-
-#[cfg(test)]
-mod bad_line_tests;
-#[cfg(test)]
-mod tests;

@@ -1,4 +1,4 @@
-use crate::{BadLine, ScriptRefused, Wanted, parse};
+use spg_script::{BadLine, ScriptRefused, Wanted, parse};
 use std::alloc::Global;
 use std::test::Fail;
 

@@ -1,7 +1,7 @@
-use crate::{Quad, QuadRecon};
 use spg_base::{Bytes, Memory, Point, PointCond};
 use spg_opclass::{Choice, InnerView, OpClass, Picked};
 use spg_points::{decode, encode, zero_labels};
+use spg_quad::{Quad, QuadRecon};
 use std::alloc::Global;
 use std::test::Fail;
 

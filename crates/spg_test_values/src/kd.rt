@@ -1,5 +1,5 @@
-use crate::{Kd, KdRecon};
 use spg_base::{Bytes, Memory, Point, PointCond};
+use spg_kd::{Kd, KdRecon};
 use spg_opclass::{Choice, InnerView, OpClass, Picked};
 use spg_points::{coordinate, encode, encode_coordinate, zero_labels};
 use std::alloc::Global;

@@ -1,8 +1,8 @@
-use crate::{Outcome, Record, event_line, result_line, stat_line};
 use spg_base::{Bytes, List, Memory, Point, PointCond, Row, SeatNo, Span, Stat};
 use spg_near::NearRow;
 use spg_opclass::Query;
 use spg_quad::Quad;
+use spg_report::{Outcome, Record, event_line, result_line, stat_line};
 use spg_rows::{Event, Why};
 use std::alloc::Global;
 use std::test::Fail;

@@ -1,10 +1,10 @@
-use crate::{
-    AnyQuery, ClassName, Command, PartRef, Script, ScriptRefused, Spoken, generate, parse, print,
-};
 use spg_base::{Bytes, List, Memory};
 use spg_kd::Kd;
 use spg_quad::Quad;
 use spg_radix::Radix;
+use spg_script::{
+    AnyQuery, ClassName, Command, PartRef, Script, ScriptRefused, Spoken, generate, parse, print,
+};
 use std::alloc::Global;
 use std::test::Fail;
 

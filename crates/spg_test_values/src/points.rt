@@ -1,5 +1,5 @@
-use crate::{Area, all_hold, decode, encode, lower, raise};
 use spg_base::{Memory, Point, PointCond};
+use spg_points::{Area, all_hold, decode, encode, lower, raise};
 use std::alloc::Global;
 use std::test::Fail;
 
