@@ -1,2 +1,4 @@
 pub mod Kept
+pub mod Lengths
 pub mod Making
+pub mod OfClass

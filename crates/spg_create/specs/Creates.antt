@@ -1,16 +1,23 @@
 -- What is created of inserts, and why it is not.
 use Rattle.std.specs.Prelude.{◌≡◌, ◌⊎◌, ◌<◌, ◌≤◌, ◌+◌, ◌*◌, ℕ, List, [], length, Option, Result, Ok, Err}
-use Rattle.spg_io.specs.Held.{Holding}
+use Rattle.spg_io.specs.Held.{Holding, Changes}
 use Rattle.spg_io.specs.Causes.{Rose}
 use Rattle.spg_opclass.specs.Meaning.{Meaning}
 use Rattle.spg_forest.specs.Shape.{Represents}
 use Rattle.spg_tree.specs.Table.{Table}
+use Rattle.spg_quad.specs.Quad.{quad_meaning}
+use Rattle.spg_kd.specs.Kd.{kd_meaning}
+use Rattle.spg_radix.specs.Radix.{radix_meaning}
+use Rattle.spg_verify.specs.declared.reading.Verified.{Verified}
+use Rattle.spg_verify.specs.Verdict.{IsVerified}
 use Rattle.spg_image.specs.Image.{image_of, sheets_in}
 use Rattle.spg_image.specs.Saving.{Saves}
 use Rattle.spg_image.specs.declared.refused.SaveRefused.{SaveRefused}
 use Rattle.spg_image.specs.declared.refused.SaveRefused.TheVariants as saves
 use Rattle.spg_script.specs.declared.inserts.Insert.{Insert}
-use Rattle.spg_script.specs.Speech.{Speech}
+use Rattle.spg_script.specs.declared.class_name.ClassName.{ClassName}
+use Rattle.spg_script.specs.declared.class_name.ClassName.TheVariants as class
+use Rattle.spg_script.specs.Speech.{Speech, point_speech, text_speech}
 use Rattle.spg_build.specs.declared.entry.Entry.{Entry}
 use Rattle.spg_build.specs.Built.{HasIn, AreRowsOnce, IsAtRest}
 use Rattle.spg_create.specs.Keeps.{Keeps}
@@ -32,7 +39,11 @@ pub record IsTableOf {Key Recon Cond : Type 0} (m : Meaning Key Recon Cond) (cod
   pub represents : Represents m (sheets_in (image_of code table)) (HasIn entries)
   pub at_rest : IsAtRest table most_pages
 
--- the image of such a table is under the name, and no other name changed; the numbers are those of its entries, of the inserts that were skipped, and of its pages
+-- the numbers of pages and entries of what was created, as `verify` tells them
+abbrev pub numbers_of : Created → Verified
+numbers_of c = record { pages = c.pages; entries = c.entries }
+
+-- The image of such a table is under the name, and no other name changed; the numbers are those of its entries, of the inserts that were skipped, and of its pages. The bytes under the name fail no clause of an image, and have these numbers
 pub record IsCreated {Key Recon Cond : Type 0} (m : Meaning Key Recon Cond) (speech : Speech Key Cond) (code : ℕ) (inserts : List Insert) (name : List ℕ) (old now : Option Holding) (f f_after : ℕ) (c : Created) : Type 0 where
   pub entries : List (Entry Key)
   pub kept : AreKept speech inserts entries c.skipped
@@ -40,6 +51,7 @@ pub record IsCreated {Key Recon Cond : Type 0} (m : Meaning Key Recon Cond) (spe
   pub table : Table
   pub table_of : IsTableOf m code entries table
   pub saved : Saves (image_of code table) old now name (Ok c.pages)
+  pub verified : Changes old now name (λ was held. IsVerified m (λ n. n ≡ code) held (numbers_of c))
   pub later : f ≤ f_after
 
 -- the entries are too many for the greatest number of pages; the images are as they were
@@ -66,3 +78,9 @@ Creates m speech code inserts name old now f f_after (Ok c) = IsCreated m speech
 Creates m speech code inserts name old now f f_after (Err IndexFull) = IsTooMuch speech inserts old now f f_after
 Creates m speech code inserts name old now f f_after (Err ImageFault) = IsUnsaved m speech code inserts name old now f f_after saves.ImageFault × Rose f f_after
 Creates m speech code inserts name old now f f_after (Err Memory) = ((now ≡ old) × (f_after ≡ f)) ⊎ IsUnsaved m speech code inserts name old now f f_after saves.Memory
+
+-- the same by the class of a script; the numbers are those of the classes in an image
+abbrev pub CreatesBy : ClassName → List Insert → List ℕ → (old now : Option Holding) → (f f_after : ℕ) → Result Created CreateRefused → Type 0
+CreatesBy class.Quad inserts name old now f f_after result = Creates quad_meaning point_speech 1 inserts name old now f f_after result
+CreatesBy class.Kd inserts name old now f f_after result = Creates kd_meaning point_speech 2 inserts name old now f f_after result
+CreatesBy class.Radix inserts name old now f f_after result = Creates radix_meaning text_speech 3 inserts name old now f f_after result
