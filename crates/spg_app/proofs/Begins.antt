@@ -22,7 +22,7 @@ use Rattle.spg_verify.specs.declared.reading.Verified.{Verified}
 use Rattle.spg_words.specs.Reading.{word_in}
 use Rattle.spg_image.specs.Verifying.{IsLoadOf, IsMade, IsBadImage}
 use Rattle.spg_histories.specs.declared.status.Status.{Status}
-use Rattle.spg_histories.specs.declared.status.Status.TheVariants.{Done, Usage, BadScript, ReadFault, WriteFault, ImageFault, BadImage, Memory}
+use Rattle.spg_histories.specs.declared.status.Status.TheVariants.{Done, Usage, BadScript, ReadFault, WriteFault, ImageFault, BadImage, Memory, Full}
 use Rattle.spg_perform.specs.Session.{Outside, AllClosed}
 use Rattle.spg_app.specs.Beginning.{outside, IsBegun, status_of, IsImageRefusal, FailsAs, IsUnbegun, OnlyRead, IsLeft, IsBeginning}
 
@@ -133,3 +133,4 @@ refusal_weaker P Q name old now Usage more r = r
 refusal_weaker P Q name old now (BadScript n) more r = r
 refusal_weaker P Q name old now ReadFault more r = r
 refusal_weaker P Q name old now WriteFault more r = r
+refusal_weaker P Q name old now Full more r = r

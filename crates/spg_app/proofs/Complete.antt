@@ -12,7 +12,7 @@ use Rattle.spg_report.specs.declared.outcome.Outcome.TheVariants as outcome
 use Rattle.spg_report.specs.declared.record.Record.{Record}
 use Rattle.spg_histories.specs.Ending.{Writing, all_taken, write_failed, memory_wanting, any_outcome, is_fault, is_memory, status_after}
 use Rattle.spg_histories.specs.declared.status.Status.{Status}
-use Rattle.spg_histories.specs.declared.status.Status.TheVariants.{Done, Usage, BadScript, ReadFault, WriteFault, ImageFault, BadImage, Memory}
+use Rattle.spg_histories.specs.declared.status.Status.TheVariants.{Done, Usage, BadScript, ReadFault, WriteFault, ImageFault, BadImage, Memory, Full}
 use Rattle.spg_perform.specs.Session.{is_image_fault, image_faults, RoseBy}
 use Rattle.spg_app.specs.declared.end_state.EndState.{EndState}
 use Rattle.spg_app.specs.declared.end_state.EndState.TheVariants as state
@@ -23,11 +23,11 @@ use Rattle.spg_script.proofs.Scripts.{exact}
 
 -- ---- what a source that tells its bytes gave
 
-whole : (all : List ℕ) (left : Option (List ℕ)) (bytes : List ℕ) → Consumes (Some all) left bytes → IsAtEnd left → all ≡ bytes
+pub whole : (all : List ℕ) (left : Option (List ℕ)) (bytes : List ℕ) → Consumes (Some all) left bytes → IsAtEnd left → all ≡ bytes
 whole all None bytes read at_end = absurd read
 whole all (Some rest) bytes read at_end = read ∙ ap (λ l. bytes ++ l) at_end ∙ append-nil bytes
 
-no_shorter : (all : List ℕ) (left : Option (List ℕ)) (bytes : List ℕ) → Consumes (Some all) left bytes → length bytes ≤ length all
+pub no_shorter : (all : List ℕ) (left : Option (List ℕ)) (bytes : List ℕ) → Consumes (Some all) left bytes → length bytes ≤ length all
 no_shorter all None bytes read = absurd read
 no_shorter all (Some rest) bytes read = omega (arith, ap length read, length-append bytes rest)
 
@@ -85,6 +85,7 @@ script_refused io ReadFault P r holds no_fault = absurd (no_fault r)
 script_refused io Done P r holds no_fault = absurd r
 script_refused io Usage P r holds no_fault = absurd r
 script_refused io WriteFault P r holds no_fault = absurd r
+script_refused io Full P r holds no_fault = absurd r
 script_refused io ImageFault P r holds no_fault = absurd r
 script_refused io (BadImage block reason) P r holds no_fault = absurd r
 
@@ -142,6 +143,7 @@ line_refused io Done n r holds no_fault = absurd r
 line_refused io Usage n r holds no_fault = absurd r
 line_refused io ReadFault n r holds no_fault = absurd (no_fault r)
 line_refused io WriteFault n r holds no_fault = absurd r
+line_refused io Full n r holds no_fault = absurd r
 line_refused io ImageFault n r holds no_fault = absurd r
 line_refused io (BadImage block reason) n r holds no_fault = absurd r
 

@@ -10,7 +10,7 @@ use Rattle.spg_verify.proofs.Apart.{one_fault, good_fails_none}
 use Rattle.spg_script.specs.declared.class_name.ClassName.{ClassName}
 use Rattle.spg_script.specs.declared.class_name.ClassName.TheVariants as class
 use Rattle.spg_histories.specs.declared.status.Status.{Status}
-use Rattle.spg_histories.specs.declared.status.Status.TheVariants.{Done, Usage, BadScript, ReadFault, WriteFault, ImageFault, BadImage, Memory}
+use Rattle.spg_histories.specs.declared.status.Status.TheVariants.{Done, Usage, BadScript, ReadFault, WriteFault, ImageFault, BadImage, Memory, Full}
 use Rattle.spg_perform.specs.Session.{Outside}
 use Rattle.spg_app.specs.Beginning.{IsImageRefusal}
 use Rattle.spg_app.specs.Headline.{FailsFor, IsGoodFor}
@@ -50,6 +50,7 @@ refusal_complete fails good not_both name old now Usage r is no_fault = absurd r
 refusal_complete fails good not_both name old now (BadScript n) r is no_fault = absurd r
 refusal_complete fails good not_both name old now ReadFault r is no_fault = absurd r
 refusal_complete fails good not_both name old now WriteFault r is no_fault = absurd r
+refusal_complete fails good not_both name old now Full r is no_fault = absurd r
 
 -- what fails is refused with the first clause that fails, where no call fails
 pub refusal_first : (fails : Option (List ℕ) → Fault → Type 0) → ((bytes : Option (List ℕ)) (f g : Fault) → fails bytes f → fails bytes g → f ≡ g) → (name : List ℕ) (old now : Outside) (status : Status) (fault : Fault)
@@ -65,3 +66,4 @@ refusal_first fails one name old now Usage fault r is no_fault = absurd r
 refusal_first fails one name old now (BadScript n) fault r is no_fault = absurd r
 refusal_first fails one name old now ReadFault fault r is no_fault = absurd r
 refusal_first fails one name old now WriteFault fault r is no_fault = absurd r
+refusal_first fails one name old now Full fault r is no_fault = absurd r

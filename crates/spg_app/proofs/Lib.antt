@@ -5,6 +5,7 @@ pub mod Earlier
 pub mod Images
 pub mod Complete
 pub mod Refused
+pub mod Builds
 pub mod Lines
 pub mod RunEnds
 pub mod LoadRows

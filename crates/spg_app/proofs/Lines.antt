@@ -3,15 +3,17 @@ use Rattle.std.proofs.Common.{◌≡◌, ℕ, List, Option, Some, None, refl, sy
 use Rattle.std.specs.Borrow.{Bor}
 use Rattle.spg_words.specs.declared.load.Load.{Load}
 use Rattle.spg_words.specs.declared.run_line.RunLine.{RunLine}
+use Rattle.spg_words.specs.declared.build_line.BuildLine.{BuildLine}
 use Rattle.spg_words.specs.Reading.{word_in}
-use Rattle.spg_words.specs.Asked.{run_told, run_of, name_told, check_of, load_of}
-use Rattle.spg_words.specs.Lines.{IsRunLine, IsCheckLine, IsLoadLine}
-use Rattle.spg_words.proofs.Lines.{exact}
+use Rattle.spg_words.specs.Asked.{run_told, run_of, name_told, check_of, load_of, build_told, build_of}
+use Rattle.spg_words.specs.Lines.{IsRunLine, IsCheckLine, IsLoadLine, IsBuildLine}
+use Rattle.spg_words.proofs.Exact.{exact}
 use Rattle.spg_histories.specs.declared.status.Status.{Status}
 use Rattle.spg_app.specs.declared.end_state.EndState.{EndState}
 use Rattle.spg_app.specs.Checks.{IsChecked}
 use Rattle.spg_app.specs.Ending.{Outlets}
 use Rattle.spg_app.specs.Loads.{IsGen}
+use Rattle.spg_app.specs.Builds.{IsBuildOf}
 use Rattle.spg_app.specs.Headline.{Streams, IsRun}
 
 -- what is no value is None
@@ -38,6 +40,12 @@ module _ (words : List (List ℕ)) where
   pub no_load_line : (o : Option Load) → o ≡ load_of words → o ≡ None → (load : Load) → IsLoadLine load words → ⊥
   no_load_line o value none load line = let some = (exact.load words load).1 line in absurd (cc (sym value ∙ none, some))
 
+  pub build_line : (o : Option BuildLine) (line : BuildLine) → build_told o ≡ build_of words → o ≡ Some line → IsBuildLine line.name.now line.workers words
+  build_line o line value is = (exact.build words line.name.now line.workers).0 (sym value ∙ ap build_told is)
+
+  pub no_build_line : (o : Option BuildLine) → build_told o ≡ build_of words → o ≡ None → (name : List ℕ) (workers : ℕ) → IsBuildLine name workers words → ⊥
+  no_build_line o value none name workers line = let some = (exact.build words name workers).1 line in absurd (cc (sym value ∙ ap build_told none, some))
+
   -- ---- one line asks for one thing
 
   pub run_asked : (m n : ℕ) (a b : Option (List ℕ)) (io : Streams) (out : Outlets) (status : Status) (end : Option EndState) → IsRunLine m a words → IsRunLine n b words → IsRun m a io out status end → IsRun n b io out status end
@@ -47,3 +55,6 @@ module _ (words : List (List ℕ)) where
 
   pub check_asked : (a b : List ℕ) (out : Outlets) (status : Status) → IsCheckLine a words → IsCheckLine b words → IsChecked a out status → IsChecked b out status
   check_asked a b out status line other checked = subst (λ (x : List ℕ). IsChecked x out status) (exact.one_check words a b line other) checked
+
+  pub build_asked : (a b : List ℕ) (m n : ℕ) (left left_after : Option (List ℕ)) (f g : ℕ) (out : Outlets) (status : Status) → IsBuildLine a m words → IsBuildLine b n words → IsBuildOf a left left_after f g out status → IsBuildOf b left left_after f g out status
+  build_asked a b m n left left_after f g out status line other run = subst (λ (x : List ℕ). IsBuildOf x left left_after f g out status) (exact.one_build words a b m n line other).0 run

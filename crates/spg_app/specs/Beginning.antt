@@ -17,7 +17,7 @@ use Rattle.spg_verify.specs.declared.refused.ImageRefused.TheVariants as refused
 use Rattle.spg_core.specs.Seen.{Seen, past_of}
 use Rattle.spg_core.specs.Loading.{origin_of}
 use Rattle.spg_histories.specs.declared.status.Status.{Status}
-use Rattle.spg_histories.specs.declared.status.Status.TheVariants.{Done, Usage, BadScript, ReadFault, WriteFault, ImageFault, BadImage, Memory}
+use Rattle.spg_histories.specs.declared.status.Status.TheVariants.{Done, Usage, BadScript, ReadFault, WriteFault, ImageFault, BadImage, Memory, Full}
 use Rattle.spg_perform.specs.Session.{Outside, AllClosed}
 
 abbrev pub outside : Option Holding → ℕ → Outside
@@ -66,6 +66,7 @@ IsImageRefusal fails name old now Usage = ⊥
 IsImageRefusal fails name old now (BadScript n) = ⊥
 IsImageRefusal fails name old now ReadFault = ⊥
 IsImageRefusal fails name old now WriteFault = ⊥
+IsImageRefusal fails name old now Full = ⊥
 
 -- this is the first clause that an image of the class fails
 abbrev pub FailsAs : {Key Recon Cond : Type 0} → Meaning Key Recon Cond → ℕ → ℕ → Option (List ℕ) → Fault → Type 0

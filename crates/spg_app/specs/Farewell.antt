@@ -2,7 +2,7 @@
 use Rattle.std.specs.Prelude.{ℕ, List, [], Option, Some, None, Result, Ok, Err, codes}
 use Rattle.spg_io.specs.declared.sink.IoRefused.{IoRefused}
 use Rattle.spg_histories.specs.declared.status.Status.{Status}
-use Rattle.spg_histories.specs.declared.status.Status.TheVariants.{Done, Usage, BadScript, ReadFault, WriteFault, ImageFault, BadImage, Memory}
+use Rattle.spg_histories.specs.declared.status.Status.TheVariants.{Done, Usage, BadScript, ReadFault, WriteFault, ImageFault, BadImage, Memory, Full}
 use Rattle.spg_app.specs.Reasons.{reason_name}
 
 -- the status of the process: a sink that did not finish is a write fault
@@ -20,6 +20,7 @@ words_of WriteFault = codes "write fault"
 words_of ImageFault = codes "image fault"
 words_of (BadImage block reason) = codes "bad image"
 words_of Memory = codes "memory"
+words_of Full = codes "full"
 
 -- the number behind them
 abbrev pub number_of : Status → Option ℕ
@@ -31,6 +32,7 @@ number_of WriteFault = None
 number_of ImageFault = None
 number_of (BadImage block reason) = Some block
 number_of Memory = None
+number_of Full = None
 
 -- the name of the clause behind the number
 abbrev pub reason_of : Status → List ℕ
@@ -42,3 +44,4 @@ reason_of WriteFault = []
 reason_of ImageFault = []
 reason_of (BadImage block reason) = reason_name reason
 reason_of Memory = []
+reason_of Full = []

@@ -19,9 +19,9 @@ use Rattle.spg_script.specs.Blocks.{Script}
 use Rattle.spg_script.specs.Speech.{Speech, point_speech, text_speech}
 use Rattle.spg_script.specs.Script.{IsScript, IsFirstBad}
 use Rattle.spg_words.specs.declared.load.Load.{Load}
-use Rattle.spg_words.specs.Lines.{IsRunLine, IsCheckLine, IsLoadLine}
+use Rattle.spg_words.specs.Lines.{IsRunLine, IsCheckLine, IsLoadLine, IsBuildLine}
 use Rattle.spg_histories.specs.declared.status.Status.{Status}
-use Rattle.spg_histories.specs.declared.status.Status.TheVariants.{Done, Usage, BadScript, ReadFault, WriteFault, ImageFault, BadImage, Memory}
+use Rattle.spg_histories.specs.declared.status.Status.TheVariants.{Done, Usage, BadScript, ReadFault, WriteFault, ImageFault, BadImage, Memory, Full}
 use Rattle.spg_app.specs.declared.end_state.EndState.{EndState}
 use Rattle.spg_app.specs.declared.end_state.EndState.TheVariants.{Quad, Kd, Radix}
 use Rattle.spg_app.specs.Beginning.{IsImageRefusal, FailsAs}
@@ -29,6 +29,7 @@ use Rattle.spg_app.specs.Checks.{IsChecked}
 use Rattle.spg_app.specs.Ending.{Outlets, LeftAlone, Unwritten, RanCommands}
 use Rattle.spg_app.specs.Io.{longest_script, ReadWhole, ReadMore}
 use Rattle.spg_app.specs.Loads.{IsGen}
+use Rattle.spg_app.specs.Builds.{IsBuildOf}
 
 -- what a source tells before and after
 pub record Streams : Type 0 where
@@ -82,6 +83,7 @@ IsRefusal left left_after f f_after Done = ⊥
 IsRefusal left left_after f f_after Usage = ⊥
 IsRefusal left left_after f f_after WriteFault = ⊥
 IsRefusal left left_after f f_after ImageFault = ⊥
+IsRefusal left left_after f f_after Full = ⊥
 IsRefusal left left_after f f_after (BadImage block reason) = ⊥
 
 -- this is the first clause that an image of the class fails
@@ -113,6 +115,7 @@ pub record IsUsage (words : List (List ℕ)) (io : Streams) (out : Outlets) (sta
   pub no_run : (limit : ℕ) (from : Option (List ℕ)) → IsRunLine limit from words → ⊥
   pub no_check : (name : List ℕ) → IsCheckLine name words → ⊥
   pub no_load : (load : Load) → IsLoadLine load words → ⊥
+  pub no_build : (name : List ℕ) (workers : ℕ) → IsBuildLine name workers words → ⊥
   pub unread : (io.left_after ≡ io.left) × (io.read_faults_after ≡ io.read_faults)
   pub left_alone : LeftAlone out
 
@@ -131,13 +134,21 @@ pub record IsCheck (words : List (List ℕ)) (io : Streams) (out : Outlets) (sta
   pub unread : (io.left_after ≡ io.left) × (io.read_faults_after ≡ io.read_faults)
   pub checked : IsChecked name out status
 
+-- the words ask to build an image of the inserts of the source
+pub record IsBuild (words : List (List ℕ)) (io : Streams) (out : Outlets) (status : Status) (end : Option EndState) : Type 0 where
+  pub name : List ℕ
+  pub workers : ℕ
+  pub asked : IsBuildLine name workers words
+  pub none : end ≡ None
+  pub run : IsBuildOf name io.left io.left_after io.read_faults io.read_faults_after out status
+
 -- the words ask to run the script of the source
 abbrev pub IsRunOf : List (List ℕ) → Streams → Outlets → Status → Option EndState → Type 0
 IsRunOf words io out status end = (limit : ℕ) × (from : Option (List ℕ)) × IsRunLine limit from words × IsRun limit from io out status end
 
 -- what each answer says
 abbrev pub IsAnswer : List (List ℕ) → Streams → Outlets → Status → Option EndState → Type 0
-IsAnswer words io out status end = (IsUsage words io out status end ⊎ IsRunOf words io out status end) ⊎ (IsLoaded words io out status end ⊎ IsCheck words io out status end)
+IsAnswer words io out status end = ((IsUsage words io out status end ⊎ IsRunOf words io out status end) ⊎ (IsLoaded words io out status end ⊎ IsCheck words io out status end)) ⊎ IsBuild words io out status end
 
 -- the answer of a run that ended so, by its class
 abbrev pub ended : {O Key Recon Cond : Type 0} → (Seen O Key Recon Cond → EndState) → Status × Option (Seen O Key Recon Cond) → Status × Option EndState

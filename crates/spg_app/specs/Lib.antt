@@ -5,6 +5,7 @@ pub mod Ending
 pub mod Checks
 pub mod Summary
 pub mod Loads
+pub mod Builds
 pub mod Headline
 pub mod Farewell
 pub mod Alike

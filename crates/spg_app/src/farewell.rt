@@ -32,6 +32,7 @@ fn words_of(status: Status) -> &'static str
         Status::ImageFault => "image fault",
         Status::BadImage { .. } => "bad image",
         Status::Memory => "memory",
+        Status::Full => "full",
     }
 }
 

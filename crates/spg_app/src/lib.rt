@@ -2,6 +2,7 @@
 #![tactic(auto)]
 
 mod beginning;
+mod build;
 mod check;
 mod end_state;
 mod farewell;

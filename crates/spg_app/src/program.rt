@@ -4,12 +4,14 @@ ghost use Rattle.spg_clauses.specs.declared.reason.Fault.{Fault};
 ghost use Rattle.spg_radix.specs.Texts.{is_bytes};
 ghost use Rattle.spg_script.specs.Script.{IsScript};
 ghost use Rattle.spg_script.specs.Refusal.{IsCause};
-ghost use Rattle.spg_words.specs.Lines.{IsRunLine, IsCheckLine, IsLoadLine};
+ghost use Rattle.spg_words.specs.Lines.{IsRunLine, IsCheckLine, IsLoadLine, IsBuildLine};
 ghost use Rattle.spg_words.specs.Reading.{word_in};
 ghost use Rattle.spg_words.specs.declared.load.Load.{Load};
 ghost use Rattle.spg_app.specs.Ending.{outlets};
+ghost use Rattle.spg_app.specs.Builds.{HoldsInserts, HoldsNoInserts};
 ghost use Rattle.spg_app.specs.Headline.{GaveScript, IsRefusal, IsRun, IsAnswer, HoldsScript, HoldsNoScript, HoldsImageFor, HoldsNoImageFor, HoldsImage, HoldsNoImage, NoFault, streams};
 
+use crate::build::build_image;
 use crate::check::check_image;
 use crate::end_state::{EndState, kd_ended, quad_ended, radix_ended};
 use crate::generated::run_generated;
@@ -22,7 +24,7 @@ use spg_perform::Gate;
 use spg_quad::Quad;
 use spg_radix::Radix;
 use spg_script::{BadLine, ClassName, Script, ScriptRefused, parse};
-use spg_words::{RunLine, check_of, load_of, run_of};
+use spg_words::{RunLine, build_of, check_of, load_of, run_of};
 use std::alloc::Global;
 use std::sync::Wait;
 use std::thread::Threads;
@@ -94,10 +96,13 @@ fn run_script<R: AllocGlobal + Threads + Wait + Sync, S: Source, K: Sink, M: Ima
 /// from the image of that name. Or they are `check NAME`: no script is read, and how many pages and
 /// entries the image has is written. Or they are `gen COUNT SEED` with the options `--lanes N` and
 /// `--class C`: the script is the generated one, nothing is read, and the summary of the run is written.
+/// Or they are `build NAME` with the option `--workers N`: the script inserts rows and does nothing else,
+/// an index is built of it at once and saved under the name, and how large it is is written.
 /// `Usage` comes exactly where they are none of these. Lanes run beside each other, and each asks the
 /// gate before each of its commands. `ReadFault` comes only where the source failed. `BadScript(n)` comes
 /// exactly where the bytes are no script, and line `n`, counted from 1, is the first at which none can
-/// go on; `BadScript(0)` exactly where there are more than 67,108,864 bytes. Behind a script
+/// go on; `BadScript(0)` exactly where there are more than 67,108,864 bytes. For `build` another line than
+/// an insert is bad, and `Full` comes only where `4 * E + 7` for `E` rows is above 131,072. Behind a script
 /// `BadImage` comes exactly where the image fails a clause, with the first that it fails, as far as the
 /// images tell; `ImageFault` only where they failed. Nothing is written then.
 /// Once the commands have begun the state after the last one is handed back, and the status is the
@@ -158,12 +163,27 @@ pub fn run<R: AllocGlobal + Threads + Wait + Sync, S: Source, K: Sink, M: Images
         (outlets (K.contents out.old) (K.contents out.new) (K.faults out.old) (K.faults out.new)
         (M.held images.old) (M.held images.new) (M.faults images.old) (M.faults images.new))
         → (result.0 ≡ Status.BadImage fault.block fault.reason) ⊎ (result.0 ≡ Status.Memory) }
+
+    // Inserts are built into an index, or are too many for one, where no call fails.
+    ensures complete_build { (name : List ℕ) → (workers : ℕ) → IsBuildLine name workers (map string_bytes words.now) → HoldsInserts (S.left script.old)
+        → NoFault (streams (S.left script.old) (S.left script.new) (S.faults script.old) (S.faults script.new))
+        (outlets (K.contents out.old) (K.contents out.new) (K.faults out.old) (K.faults out.new)
+        (M.held images.old) (M.held images.new) (M.faults images.old) (M.faults images.new))
+        → (result.0 ≡ Status.Done) ⊎ ((result.0 ≡ Status.Full) ⊎ (result.0 ≡ Status.Memory)) }
+
+    // What is no script of inserts is refused with its first bad line, where no read fails.
+    ensures no_inserts { (name : List ℕ) → (workers : ℕ) → IsBuildLine name workers (map string_bytes words.now) → (n : ℕ) → HoldsNoInserts (S.left script.old) n
+        → ¬ Rose (S.faults script.old) (S.faults script.new)
+        → (result.0 ≡ Status.BadScript n) ⊎ (result.0 ≡ Status.Memory) }
 {
     if let Some(line) = run_of(words) {
         return run_script(rt, line, script, out, images, gate);
     }
     if let Some(name) = check_of(words) {
         return (check_image(rt.alloc(), name, out, images), None);
+    }
+    if let Some(line) = build_of(words) {
+        return (build_image(rt, line, script, out, images, gate), None);
     }
     match load_of(words) {
         Some(load) => run_generated(rt, load, out, images, gate),

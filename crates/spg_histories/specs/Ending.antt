@@ -16,6 +16,7 @@ code_of status.WriteFault = 5
 code_of status.ImageFault = 6
 code_of (status.BadImage block reason) = 7
 code_of status.Memory = 8
+code_of status.Full = 9
 
 -- what writing the text met
 pub data Writing : Type 0 where

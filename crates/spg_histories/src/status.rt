@@ -23,6 +23,8 @@ pub enum Status {
     BadImage { block: u32, reason: Reason },
     /// There was no memory.
     Memory,
+    /// An index that was to be built has more entries than its pages may hold.
+    Full,
 }
 
 impl Status {
@@ -39,6 +41,7 @@ impl Status {
             Status::ImageFault => 6,
             Status::BadImage { .. } => 7,
             Status::Memory => 8,
+            Status::Full => 9,
         }
     }
 }

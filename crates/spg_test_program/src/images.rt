@@ -8,7 +8,7 @@ use std::thread::Threads;
 
 /// What is asked over the same images: the words, the lines of the script, the code of the status, and
 /// the lines of the text.
-type Asked = (
+pub(crate) type Asked = (
     &'static [&'static str],
     &'static [&'static str],
     u8,
@@ -93,7 +93,7 @@ const TOWN: [Asked; 7] = [
     ),
 ];
 
-fn asks<R: AllocGlobal + Threads + Wait + Sync + Abort>(
+pub(crate) fn asks<R: AllocGlobal + Threads + Wait + Sync + Abort>(
     rt: &R,
     images: &mut FaultyImages,
     asked: &Asked,

@@ -3,7 +3,7 @@ use spg_app::Status;
 use std::test::Fail;
 
 /// Words that are no line of the program.
-const REFUSED: [&[&str]; 51] = [
+const REFUSED: [&[&str]; 60] = [
     &[],
     &["run", "--limit", "3"],
     &["run", "--limit", "05"],
@@ -55,6 +55,15 @@ const REFUSED: [&[&str]; 51] = [
     &["run", "--from=a", "--from=b"],
     &["run", "--from", "town", "town"],
     &["gen", "3000", "7", "--from=town"],
+    &["build"],
+    &["build", "town", "town"],
+    &["build", ".town"],
+    &["build", "town", "--workers"],
+    &["build", "town", "--workers=0"],
+    &["build", "town", "--workers", "17"],
+    &["build", "town", "--workers=2", "--workers=2"],
+    &["build", "town", "--limit=5"],
+    &["run", "--workers=2"],
 ];
 
 /// Words that are.

@@ -1,12 +1,12 @@
 use clap::{Arg, ArgAction, Command};
-use spg_words::{check_of, load_of, run_of};
+use spg_words::{build_of, check_of, load_of, run_of};
 use std::alloc::{AllocError, Global};
 use std::process::Abort;
 use std::test::Fail;
 
 /// Lines, each behind the program's name, whose numbers and names are in their forms: which options and
 /// words stand where decides whether they are taken.
-const LINES: [&[&str]; 40] = [
+const LINES: [&[&str]; 47] = [
     &["spgist", "run"],
     &["spgist", "run", "--limit", "4"],
     &["spgist", "run", "--limit=4"],
@@ -55,6 +55,13 @@ const LINES: [&[&str]; 40] = [
     &["spgist", "help"],
     &["spgist", "--version"],
     &["spgist", "run", "--help"],
+    &["spgist", "build", "town"],
+    &["spgist", "build", "--workers", "2", "town"],
+    &["spgist", "build", "town", "--workers=2"],
+    &["spgist", "build"],
+    &["spgist", "build", "town", "town"],
+    &["spgist", "build", "town", "--lanes=2"],
+    &["spgist", "check", "town", "--workers=2"],
 ];
 
 /// An option with a value.
@@ -92,6 +99,12 @@ fn gen_command<'a>(alloc: Global) -> Result<Command<'a>, AllocError> {
         .arg(option(alloc, "class"))
 }
 
+fn build_command<'a>(alloc: Global) -> Result<Command<'a>, AllocError> {
+    bare(alloc, "build")
+        .arg(word(alloc, "NAME"))?
+        .arg(option(alloc, "workers"))
+}
+
 /// The program as `clap` sees it.
 fn program<'a>(alloc: Global) -> Result<Command<'a>, AllocError> {
     bare(alloc, "spgist")
@@ -99,7 +112,8 @@ fn program<'a>(alloc: Global) -> Result<Command<'a>, AllocError> {
         .subcommand_required(true)
         .subcommand(run_command(alloc)?)?
         .subcommand(check_command(alloc)?)?
-        .subcommand(gen_command(alloc)?)
+        .subcommand(gen_command(alloc)?)?
+        .subcommand(build_command(alloc)?)
 }
 
 /// Whether `clap` takes the line.
@@ -114,7 +128,8 @@ fn is_taken(alloc: Global, line: &[&str]) -> Result<bool, AllocError> {
         words.push(String::from_str(alloc, word)?)?;
     }
     let words = words.as_slice();
-    Ok(run_of(words).is_some() || load_of(words).is_some() || check_of(words).is_some())
+    let reads = run_of(words).is_some() || build_of(words).is_some();
+    Ok(reads || load_of(words).is_some() || check_of(words).is_some())
 }
 
 #[test]

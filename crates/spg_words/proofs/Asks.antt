@@ -56,6 +56,7 @@ pub record HoldsAll (h : Held) (plain : List (List ℕ)) (options : List Given) 
   pub lanes : h.lanes ≡ value_of (codes "lanes") options
   pub class : h.class ≡ value_of (codes "class") options
   pub from : h.from ≡ value_of (codes "from") options
+  pub workers : h.workers ≡ value_of (codes "workers") options
   pub words : plain ≡ listed h.first h.second
 
 -- words that were read ask so
@@ -73,7 +74,7 @@ asked words h is =
       plain = plain_of (parts_of parts.pieces);
       options = options_of (parts_of parts.pieces);
       asks = record { parts = parts_of parts.pieces; spelled = parts.spelled; each = parts.each; plain_are = refl; options_are = refl; known = fills.known };
-      holds = record { limit = fills.limit; lanes = fills.lanes; class = fills.class; from = fills.from; words = fills.plain };
+      holds = record { limit = fills.limit; lanes = fills.lanes; class = fills.class; from = fills.from; workers = fills.workers; words = fills.plain };
     }
 
 -- words that ask so are read
@@ -93,6 +94,7 @@ answered words plain options asks few =
         lanes = fills.lanes ∙ sym (ap (value_of (codes "lanes")) same_options);
         class = fills.class ∙ sym (ap (value_of (codes "class")) same_options);
         from = fills.from ∙ sym (ap (value_of (codes "from")) same_options);
+        workers = fills.workers ∙ sym (ap (value_of (codes "workers")) same_options);
         words = same_words ∙ fills.plain;
       },
     )

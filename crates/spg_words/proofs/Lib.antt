@@ -2,4 +2,6 @@ pub mod Pieces
 pub mod Gathered
 pub mod Asks
 pub mod Lines
+pub mod BuildLines
+pub mod Exact
 pub mod ImageNames

@@ -15,7 +15,6 @@ use Rattle.spg_io.specs.Names.{is_name}
 use Rattle.spg_words.specs.Lines.{IsLimit, LimitIs, IsNamed, IsRunLine, IsCheckLine, IsLoad, LanesAre, class_word, ClassIs, IsLoadLine}
 use Rattle.spg_words.specs.Reading.{◌>>=◌, Held, read, nothing, behind}
 use Rattle.spg_words.specs.Asked.{page_limit, limit_in, Run, with_name, run_in, run_of, image_name, name_of, checked_in, check_of, class_named, class_in, lanes_in, checked, load_from, load_in, load_of}
-use Rattle.spg_words.specs.Exact.{LinesAreExact}
 use Rattle.spg_words.proofs.Pieces.{all, bind_some}
 use Rattle.spg_words.proofs.Gathered.{listed}
 use Rattle.spg_words.proofs.Asks.{wider, narrower, absent, asked, answered, named_so}
@@ -23,7 +22,7 @@ use Rattle.spg_words.proofs.Asks.{wider, narrower, absent, asked, answered, name
 -- ---- the command's name
 
 -- the words begin with the name, and what is behind it was read
-behind_tells : (name : List ℕ) (words : List (List ℕ)) (h : Held) → behind name words ≡ Some h → (rest : List (List ℕ)) × (words ≡ name ∷ rest) × (read nothing rest ≡ Some h)
+pub behind_tells : (name : List ℕ) (words : List (List ℕ)) (h : Held) → behind name words ≡ Some h → (rest : List (List ℕ)) × (words ≡ name ∷ rest) × (read nothing rest ≡ Some h)
 behind_tells name [] h is = (cc)
 behind_tells name (word ∷ words) h is = go (bytes_eq word name) refl is
   where
@@ -31,28 +30,28 @@ behind_tells name (word ∷ words) h is = go (bytes_eq word name) refl is
     go true e found = (words, ap (λ w. w ∷ words) ((bytes_eq-Decides word name).0 e), found)
     go false e found = (cc)
 
-behind_named : (name : List ℕ) (words : List (List ℕ)) (rest : List (List ℕ)) → words ≡ name ∷ rest → behind name words ≡ read nothing rest
+pub behind_named : (name : List ℕ) (words : List (List ℕ)) (rest : List (List ℕ)) → words ≡ name ∷ rest → behind name words ≡ read nothing rest
 behind_named name words rest is = ap (behind name) is ∙ ap (λ t. cond t (read nothing rest) None) ((bytes_eq-Decides name name).1 refl)
 
 -- words that are not the same
-differ : (a b : List ℕ) → bytes_eq a b ≡ false → a ≡ b → ⊥
+pub differ : (a b : List ℕ) → bytes_eq a b ≡ false → a ≡ b → ⊥
 differ a b other same = let clash : false ≡ true = sym other ∙ (bytes_eq-Decides a b).1 same in absurd (cc)
 
-abbrev first_word : List (List ℕ) → List ℕ
+abbrev pub first_word : List (List ℕ) → List ℕ
 first_word [] = []
 first_word (word ∷ words) = word
 
 -- ---- tests
 
-and_parts : (a b : Bool) → a && b ≡ true → (a ≡ true) × (b ≡ true)
+pub and_parts : (a b : Bool) → a && b ≡ true → (a ≡ true) × (b ≡ true)
 and_parts true b is = (refl, is)
 and_parts false b is = absurd (cc)
 
-or_parts : (a b : Bool) → a || b ≡ false → (a ≡ false) × (b ≡ false)
+pub or_parts : (a b : Bool) → a || b ≡ false → (a ≡ false) × (b ≡ false)
 or_parts true b is = absurd (cc)
 or_parts false b is = (refl, is)
 
-is_none_of : (o : Option (List ℕ)) → is_some o ≡ false → o ≡ None
+pub is_none_of : (o : Option (List ℕ)) → is_some o ≡ false → o ≡ None
 is_none_of None is = refl
 is_none_of (Some word) is = absurd (cc)
 
@@ -91,12 +90,13 @@ run_names name (inl is) = inl is
 run_names name (inr (inl is)) = inr (inr (inr (inl is)))
 run_names name (inr (inr none)) = absurd none
 
-run_others : (options : List Given) → value_of (codes "lanes") options ≡ None → value_of (codes "class") options ≡ None → (name : List ℕ) → IsOneOf all name → IsOneOf of_run name ⊎ (value_of name options ≡ None)
-run_others options no_lanes no_class name (inl is) = inl (inl is)
-run_others options no_lanes no_class name (inr (inl is)) = inr (ap (λ n. value_of n options) is ∙ no_lanes)
-run_others options no_lanes no_class name (inr (inr (inl is))) = inr (ap (λ n. value_of n options) is ∙ no_class)
-run_others options no_lanes no_class name (inr (inr (inr (inl is)))) = inl (inr (inl is))
-run_others options no_lanes no_class name (inr (inr (inr (inr none)))) = absurd none
+run_others : (options : List Given) → value_of (codes "lanes") options ≡ None → value_of (codes "class") options ≡ None → value_of (codes "workers") options ≡ None → (name : List ℕ) → IsOneOf all name → IsOneOf of_run name ⊎ (value_of name options ≡ None)
+run_others options no_lanes no_class no_workers name (inl is) = inl (inl is)
+run_others options no_lanes no_class no_workers name (inr (inl is)) = inr (ap (λ n. value_of n options) is ∙ no_lanes)
+run_others options no_lanes no_class no_workers name (inr (inr (inl is))) = inr (ap (λ n. value_of n options) is ∙ no_class)
+run_others options no_lanes no_class no_workers name (inr (inr (inr (inl is)))) = inl (inr (inl is))
+run_others options no_lanes no_class no_workers name (inr (inr (inr (inr (inl is))))) = inr (ap (λ n. value_of n options) is ∙ no_workers)
+run_others options no_lanes no_class no_workers name (inr (inr (inr (inr (inr none))))) = absurd none
 
 no_lanes_of_run : IsOneOf of_run (codes "lanes") → ⊥
 no_lanes_of_run (inl is) = differ (codes "lanes") (codes "limit") refl is
@@ -108,8 +108,13 @@ no_class_of_run (inl is) = differ (codes "class") (codes "limit") refl is
 no_class_of_run (inr (inl is)) = differ (codes "class") (codes "from") refl is
 no_class_of_run (inr (inr none)) = none
 
+no_workers_of_run : IsOneOf of_run (codes "workers") → ⊥
+no_workers_of_run (inl is) = differ (codes "workers") (codes "limit") refl is
+no_workers_of_run (inr (inl is)) = differ (codes "workers") (codes "from") refl is
+no_workers_of_run (inr (inr none)) = none
+
 -- the name, where there is one
-abbrev run : ℕ → Option (List ℕ) → Run
+abbrev pub run : ℕ → Option (List ℕ) → Run
 run n from = record { limit = n; from = from }
 
 record NameHeld (m n : ℕ) (o from : Option (List ℕ)) : Type 0 where
@@ -139,23 +144,25 @@ record RunHeld (h : Held) (n : ℕ) (from : Option (List ℕ)) : Type 0 where
   first : h.first ≡ None
   lanes : h.lanes ≡ None
   class : h.class ≡ None
+  workers : h.workers ≡ None
   limit : limit_in h.limit ≡ Some n
   from_is : from ≡ h.from
   named : IsNamed from
 
 run_held : (h : Held) (n : ℕ) (from : Option (List ℕ)) → run_in h ≡ Some (run n from) → RunHeld h n from
-run_held h n from is = go (is_some h.first || (is_some h.lanes || is_some h.class)) refl is
+run_held h n from is = go (is_some h.first || ((is_some h.lanes || is_some h.class) || is_some h.workers)) refl is
   where
-    go : (t : Bool) → is_some h.first || (is_some h.lanes || is_some h.class) ≡ t → cond t None (limit_in h.limit >>= λ m. with_name m h.from) ≡ Some (run n from) → RunHeld h n from
+    go : (t : Bool) → is_some h.first || ((is_some h.lanes || is_some h.class) || is_some h.workers) ≡ t → cond t None (limit_in h.limit >>= λ m. with_name m h.from) ≡ Some (run n from) → RunHeld h n from
     go true e found = (cc)
     go false e found =
-        let a = or_parts (is_some h.first) (is_some h.lanes || is_some h.class) e in
-        let b = or_parts (is_some h.lanes) (is_some h.class) a.1 in
+        let a = or_parts (is_some h.first) ((is_some h.lanes || is_some h.class) || is_some h.workers) e in
+        let c = or_parts (is_some h.lanes || is_some h.class) (is_some h.workers) a.1 in
+        let b = or_parts (is_some h.lanes) (is_some h.class) c.0 in
         let made = bind_some (λ (m : ℕ). with_name m h.from) (limit_in h.limit) (run n from) found in
         let name = name_tells made.0 n h.from from made.2 in
-        record { first = is_none_of h.first a.0; lanes = is_none_of h.lanes b.0; class = is_none_of h.class b.1; limit = made.1 ∙ ap Some name.limit; from_is = name.from_is; named = name.named }
+        record { first = is_none_of h.first a.0; lanes = is_none_of h.lanes b.0; class = is_none_of h.class b.1; workers = is_none_of h.workers c.1; limit = made.1 ∙ ap Some name.limit; from_is = name.from_is; named = name.named }
 
-run_tells : (words : List (List ℕ)) (n : ℕ) (from : Option (List ℕ)) → run_of words ≡ Some (run n from) → IsRunLine n from words
+pub run_tells : (words : List (List ℕ)) (n : ℕ) (from : Option (List ℕ)) → run_of words ≡ Some (run n from) → IsRunLine n from words
 run_tells words n from is =
     let made = bind_some (λ (h : Held). run_in h) (behind (codes "run") words) (run n from) is in
     let named = behind_tells (codes "run") words made.0 made.1 in
@@ -163,8 +170,9 @@ run_tells words n from is =
     let says = asked named.0 made.0 named.2 in
     let no_lanes : value_of (codes "lanes") says.options ≡ None = sym says.holds.lanes ∙ held.lanes in
     let no_class : value_of (codes "class") says.options ≡ None = sym says.holds.class ∙ held.class in
+    let no_workers : value_of (codes "workers") says.options ≡ None = sym says.holds.workers ∙ held.workers in
     let none : says.plain ≡ [] = says.holds.words ∙ ap (λ o. listed o made.0.second) held.first in
-    let asks = named_so all of_run named.0 says.plain says.options says.asks (narrower of_run says.options (run_others says.options no_lanes no_class) says.asks.known) in
+    let asks = named_so all of_run named.0 says.plain says.options says.asks (narrower of_run says.options (run_others says.options no_lanes no_class no_workers) says.asks.known) in
     record {
       behind = named.0;
       options = says.options;
@@ -180,7 +188,7 @@ no_first None second is = refl
 no_first (Some a) None is = (cc)
 no_first (Some a) (Some b) is = (cc)
 
-run_reads : (words : List (List ℕ)) (n : ℕ) (from : Option (List ℕ)) → IsRunLine n from words → run_of words ≡ Some (run n from)
+pub run_reads : (words : List (List ℕ)) (n : ℕ) (from : Option (List ℕ)) → IsRunLine n from words → run_of words ≡ Some (run n from)
 run_reads words n from line =
     let asks = named_so of_run all line.behind [] line.options line.asks (wider of_run line.options run_names line.asks.known) in
     let made = answered line.behind [] line.options asks (omega arith) in
@@ -188,9 +196,10 @@ run_reads words n from line =
     let first : made.0.first ≡ None = no_first made.0.first made.0.second holds.words in
     let lanes : made.0.lanes ≡ None = holds.lanes ∙ absent of_run (codes "lanes") line.options no_lanes_of_run line.asks.known in
     let class : made.0.class ≡ None = holds.class ∙ absent of_run (codes "class") line.options no_class_of_run line.asks.known in
+    let workers : made.0.workers ≡ None = holds.workers ∙ absent of_run (codes "workers") line.options no_workers_of_run line.asks.known in
     let name : with_name n made.0.from ≡ Some (run n from) = ap (with_name n) (holds.from ∙ sym line.from_is) ∙ name_named n from line.named in
     ap (λ (o : Option Held). o >>= λ h. run_in h) (behind_named (codes "run") words line.behind line.command ∙ made.1)
-    ∙ rw (first, lanes, class) (ap (λ (o : Option ℕ). o >>= λ m. with_name m made.0.from) (limit_named made.0.limit n (subst (LimitIs n) (sym holds.limit) line.limit)) ∙ name)
+    ∙ rw (first, lanes, class, workers) (ap (λ (o : Option ℕ). o >>= λ m. with_name m made.0.from) (limit_named made.0.limit n (subst (LimitIs n) (sym holds.limit) line.limit)) ∙ name)
 
 -- ---- `check`
 
@@ -198,15 +207,16 @@ none_of_check : (options : List Given) → AreOf [] options → options ≡ []
 none_of_check [] are = refl
 none_of_check (g ∷ options) are = absurd are.0
 
-check_others : (options : List Given) → value_of (codes "limit") options ≡ None → value_of (codes "lanes") options ≡ None → value_of (codes "class") options ≡ None → value_of (codes "from") options ≡ None
+check_others : (options : List Given) → value_of (codes "limit") options ≡ None → value_of (codes "lanes") options ≡ None → value_of (codes "class") options ≡ None → value_of (codes "from") options ≡ None → value_of (codes "workers") options ≡ None
     → (name : List ℕ) → IsOneOf all name → IsOneOf [] name ⊎ (value_of name options ≡ None)
-check_others options limit lanes class from name (inl is) = inr (ap (λ n. value_of n options) is ∙ limit)
-check_others options limit lanes class from name (inr (inl is)) = inr (ap (λ n. value_of n options) is ∙ lanes)
-check_others options limit lanes class from name (inr (inr (inl is))) = inr (ap (λ n. value_of n options) is ∙ class)
-check_others options limit lanes class from name (inr (inr (inr (inl is)))) = inr (ap (λ n. value_of n options) is ∙ from)
-check_others options limit lanes class from name (inr (inr (inr (inr none)))) = absurd none
+check_others options limit lanes class from workers name (inl is) = inr (ap (λ n. value_of n options) is ∙ limit)
+check_others options limit lanes class from workers name (inr (inl is)) = inr (ap (λ n. value_of n options) is ∙ lanes)
+check_others options limit lanes class from workers name (inr (inr (inl is))) = inr (ap (λ n. value_of n options) is ∙ class)
+check_others options limit lanes class from workers name (inr (inr (inr (inl is)))) = inr (ap (λ n. value_of n options) is ∙ from)
+check_others options limit lanes class from workers name (inr (inr (inr (inr (inl is))))) = inr (ap (λ n. value_of n options) is ∙ workers)
+check_others options limit lanes class from workers name (inr (inr (inr (inr (inr none))))) = absurd none
 
-name_of_tells : (o : Option (List ℕ)) (name : List ℕ) → name_of o ≡ Some name → (o ≡ Some name) × (is_name name ≡ true)
+pub name_of_tells : (o : Option (List ℕ)) (name : List ℕ) → name_of o ≡ Some name → (o ≡ Some name) × (is_name name ≡ true)
 name_of_tells None name is = (cc)
 name_of_tells (Some word) name is = go (is_name word) refl is
   where
@@ -221,28 +231,30 @@ record CheckHeld (h : Held) (name : List ℕ) : Type 0 where
   lanes : h.lanes ≡ None
   class : h.class ≡ None
   from : h.from ≡ None
+  workers : h.workers ≡ None
   named : is_name name ≡ true
 
 check_held : (h : Held) (name : List ℕ) → checked_in h ≡ Some name → CheckHeld h name
-check_held h name is = go ((is_some h.second || (is_some h.limit || is_some h.from)) || (is_some h.lanes || is_some h.class)) refl is
+check_held h name is = go ((is_some h.second || (is_some h.limit || is_some h.from)) || ((is_some h.lanes || is_some h.class) || is_some h.workers)) refl is
   where
-    go : (t : Bool) → (is_some h.second || (is_some h.limit || is_some h.from)) || (is_some h.lanes || is_some h.class) ≡ t → cond t None (name_of h.first) ≡ Some name → CheckHeld h name
+    go : (t : Bool) → (is_some h.second || (is_some h.limit || is_some h.from)) || ((is_some h.lanes || is_some h.class) || is_some h.workers) ≡ t → cond t None (name_of h.first) ≡ Some name → CheckHeld h name
     go true e found = (cc)
     go false e found =
-        let a = or_parts (is_some h.second || (is_some h.limit || is_some h.from)) (is_some h.lanes || is_some h.class) e in
+        let a = or_parts (is_some h.second || (is_some h.limit || is_some h.from)) ((is_some h.lanes || is_some h.class) || is_some h.workers) e in
         let b = or_parts (is_some h.second) (is_some h.limit || is_some h.from) a.0 in
         let c = or_parts (is_some h.limit) (is_some h.from) b.1 in
-        let d = or_parts (is_some h.lanes) (is_some h.class) a.1 in
+        let o = or_parts (is_some h.lanes || is_some h.class) (is_some h.workers) a.1 in
+        let d = or_parts (is_some h.lanes) (is_some h.class) o.0 in
         let made = name_of_tells h.first name found in
-        record { first = made.0; second = is_none_of h.second b.0; limit = is_none_of h.limit c.0; lanes = is_none_of h.lanes d.0; class = is_none_of h.class d.1; from = is_none_of h.from c.1; named = made.1 }
+        record { first = made.0; second = is_none_of h.second b.0; limit = is_none_of h.limit c.0; lanes = is_none_of h.lanes d.0; class = is_none_of h.class d.1; from = is_none_of h.from c.1; workers = is_none_of h.workers o.1; named = made.1 }
 
-check_tells : (words : List (List ℕ)) (name : List ℕ) → check_of words ≡ Some name → IsCheckLine name words
+pub check_tells : (words : List (List ℕ)) (name : List ℕ) → check_of words ≡ Some name → IsCheckLine name words
 check_tells words name is =
     let made = bind_some (λ (h : Held). checked_in h) (behind (codes "check") words) name is in
     let named = behind_tells (codes "check") words made.0 made.1 in
     let held = check_held made.0 name made.2 in
     let says = asked named.0 made.0 named.2 in
-    let others = check_others says.options (sym says.holds.limit ∙ held.limit) (sym says.holds.lanes ∙ held.lanes) (sym says.holds.class ∙ held.class) (sym says.holds.from ∙ held.from) in
+    let others = check_others says.options (sym says.holds.limit ∙ held.limit) (sym says.holds.lanes ∙ held.lanes) (sym says.holds.class ∙ held.class) (sym says.holds.from ∙ held.from) (sym says.holds.workers ∙ held.workers) in
     let are : AreOf [] says.options = narrower [] says.options others says.asks.known in
     let one : says.plain ≡ name ∷ [] = says.holds.words ∙ ap (λ o. listed o made.0.second) held.first ∙ ap (λ o. listed (Some name) o) held.second in
     let asks = named_so all [] named.0 says.plain says.options says.asks are in
@@ -253,19 +265,19 @@ check_tells words name is =
       named = held.named;
     }
 
-one_listed : (a : List ℕ) (first second : Option (List ℕ)) → a ∷ [] ≡ listed first second → (first ≡ Some a) × (second ≡ None)
+pub one_listed : (a : List ℕ) (first second : Option (List ℕ)) → a ∷ [] ≡ listed first second → (first ≡ Some a) × (second ≡ None)
 one_listed a None second is = (cc)
 one_listed a (Some x) None is = let same : a ≡ x = (cc) in (ap Some (sym same), refl)
 one_listed a (Some x) (Some y) is = (cc)
 
-check_reads : (words : List (List ℕ)) (name : List ℕ) → IsCheckLine name words → check_of words ≡ Some name
+pub check_reads : (words : List (List ℕ)) (name : List ℕ) → IsCheckLine name words → check_of words ≡ Some name
 check_reads words name line =
     let asks = named_so [] all line.behind (name ∷ []) [] line.asks tt in
     let made = answered line.behind (name ∷ []) [] asks (omega arith) in
     let holds = made.2 in
     let first = one_listed name made.0.first made.0.second holds.words in
     ap (λ (o : Option Held). o >>= λ h. checked_in h) (behind_named (codes "check") words line.behind line.command ∙ made.1)
-    ∙ rw (first.0, first.1, holds.limit, holds.lanes, holds.class, holds.from) (ap (λ t. cond t (Some name) None) line.named)
+    ∙ rw (first.0, first.1, holds.limit, holds.lanes, holds.class, holds.from, holds.workers) (ap (λ t. cond t (Some name) None) line.named)
 
 -- ---- `gen`
 
@@ -325,6 +337,7 @@ record LoadHeld (h : Held) (load : Load) : Type 0 where
   second : h.second ≡ Some seed
   no_limit : h.limit ≡ None
   no_from : h.from ≡ None
+  no_workers : h.workers ≡ None
   rows_are : rows ≡ decimal load.count
   seed_is : seed ≡ decimal load.seed
   lanes_are : LanesAre load.lanes h.lanes
@@ -332,14 +345,15 @@ record LoadHeld (h : Held) (load : Load) : Type 0 where
   in_range : IsLoad load
 
 load_held : (h : Held) (load : Load) → load_in h ≡ Some load → LoadHeld h load
-load_held h load is = go h.first refl h.second refl h.limit refl h.from refl is
+load_held h load is = go h.first refl h.second refl h.limit refl h.from refl h.workers refl is
   where
-    go : (first : Option (List ℕ)) → h.first ≡ first → (second : Option (List ℕ)) → h.second ≡ second → (limit : Option (List ℕ)) → h.limit ≡ limit → (from : Option (List ℕ)) → h.from ≡ from → load_from first second limit from h ≡ Some load → LoadHeld h load
-    go None e second f limit g from k found = (cc)
-    go (Some rows) e None f limit g from k found = (cc)
-    go (Some rows) e (Some seed) f (Some word) g from k found = (cc)
-    go (Some rows) e (Some seed) f None g (Some word) k found = (cc)
-    go (Some rows) e (Some seed) f None g None k found =
+    go : (first : Option (List ℕ)) → h.first ≡ first → (second : Option (List ℕ)) → h.second ≡ second → (limit : Option (List ℕ)) → h.limit ≡ limit → (from : Option (List ℕ)) → h.from ≡ from → (workers : Option (List ℕ)) → h.workers ≡ workers → load_from first second limit from workers h ≡ Some load → LoadHeld h load
+    go None e second f limit g from k workers w found = (cc)
+    go (Some rows) e None f limit g from k workers w found = (cc)
+    go (Some rows) e (Some seed) f (Some word) g from k workers w found = (cc)
+    go (Some rows) e (Some seed) f None g (Some word) k workers w found = (cc)
+    go (Some rows) e (Some seed) f None g None k (Some word) w found = (cc)
+    go (Some rows) e (Some seed) f None g None k None w found =
         let n = bind_some (λ (n : ℕ). number_of seed >>= λ s. (lanes_in h.lanes >>= λ l. (class_in h.class >>= λ c. checked (record { count = n; seed = s; lanes = l; class = c })))) (number_of rows) load found in
         let s = bind_some (λ (s : ℕ). lanes_in h.lanes >>= λ l. (class_in h.class >>= λ c. checked (record { count = n.0; seed = s; lanes = l; class = c }))) (number_of seed) load n.2 in
         let l = bind_some (λ (l : ℕ). class_in h.class >>= λ c. checked (record { count = n.0; seed = s.0; lanes = l; class = c })) (lanes_in h.lanes) load s.2 in
@@ -352,6 +366,7 @@ load_held h load is = go h.first refl h.second refl h.limit refl h.from refl is
           second = f;
           no_limit = g;
           no_from = k;
+          no_workers = w;
           rows_are = (spelled-number_of rows n.0 n.1).0 ∙ ap (λ (x : Load). decimal x.count) fine.0;
           seed_is = (spelled-number_of seed s.0 s.1).0 ∙ ap (λ (x : Load). decimal x.seed) fine.0;
           lanes_are = subst (λ (x : Load). LanesAre x.lanes h.lanes) fine.0 (lanes_tell h.lanes l.0 l.1);
@@ -364,12 +379,13 @@ load_names name (inl is) = inr (inl is)
 load_names name (inr (inl is)) = inr (inr (inl is))
 load_names name (inr (inr none)) = absurd none
 
-load_others : (options : List Given) → value_of (codes "limit") options ≡ None → value_of (codes "from") options ≡ None → (name : List ℕ) → IsOneOf all name → IsOneOf (codes "lanes" ∷ codes "class" ∷ []) name ⊎ (value_of name options ≡ None)
-load_others options no_limit no_from name (inl is) = inr (ap (λ n. value_of n options) is ∙ no_limit)
-load_others options no_limit no_from name (inr (inl is)) = inl (inl is)
-load_others options no_limit no_from name (inr (inr (inl is))) = inl (inr (inl is))
-load_others options no_limit no_from name (inr (inr (inr (inl is)))) = inr (ap (λ n. value_of n options) is ∙ no_from)
-load_others options no_limit no_from name (inr (inr (inr (inr none)))) = absurd none
+load_others : (options : List Given) → value_of (codes "limit") options ≡ None → value_of (codes "from") options ≡ None → value_of (codes "workers") options ≡ None → (name : List ℕ) → IsOneOf all name → IsOneOf (codes "lanes" ∷ codes "class" ∷ []) name ⊎ (value_of name options ≡ None)
+load_others options no_limit no_from no_workers name (inl is) = inr (ap (λ n. value_of n options) is ∙ no_limit)
+load_others options no_limit no_from no_workers name (inr (inl is)) = inl (inl is)
+load_others options no_limit no_from no_workers name (inr (inr (inl is))) = inl (inr (inl is))
+load_others options no_limit no_from no_workers name (inr (inr (inr (inl is)))) = inr (ap (λ n. value_of n options) is ∙ no_from)
+load_others options no_limit no_from no_workers name (inr (inr (inr (inr (inl is))))) = inr (ap (λ n. value_of n options) is ∙ no_workers)
+load_others options no_limit no_from no_workers name (inr (inr (inr (inr (inr none))))) = absurd none
 
 no_limit_of_load : IsOneOf (codes "lanes" ∷ codes "class" ∷ []) (codes "limit") → ⊥
 no_limit_of_load (inl is) = differ (codes "limit") (codes "lanes") refl is
@@ -381,7 +397,12 @@ no_from_of_load (inl is) = differ (codes "from") (codes "lanes") refl is
 no_from_of_load (inr (inl is)) = differ (codes "from") (codes "class") refl is
 no_from_of_load (inr (inr none)) = none
 
-load_tells : (words : List (List ℕ)) (load : Load) → load_of words ≡ Some load → IsLoadLine load words
+no_workers_of_load : IsOneOf (codes "lanes" ∷ codes "class" ∷ []) (codes "workers") → ⊥
+no_workers_of_load (inl is) = differ (codes "workers") (codes "lanes") refl is
+no_workers_of_load (inr (inl is)) = differ (codes "workers") (codes "class") refl is
+no_workers_of_load (inr (inr none)) = none
+
+pub load_tells : (words : List (List ℕ)) (load : Load) → load_of words ≡ Some load → IsLoadLine load words
 load_tells words load is =
     let made = bind_some (λ (h : Held). load_in h) (behind (codes "gen") words) load is in
     let named = behind_tells (codes "gen") words made.0 made.1 in
@@ -389,8 +410,9 @@ load_tells words load is =
     let says = asked named.0 made.0 named.2 in
     let no_limit : value_of (codes "limit") says.options ≡ None = sym says.holds.limit ∙ held.no_limit in
     let no_from : value_of (codes "from") says.options ≡ None = sym says.holds.from ∙ held.no_from in
+    let no_workers : value_of (codes "workers") says.options ≡ None = sym says.holds.workers ∙ held.no_workers in
     let both : says.plain ≡ held.rows ∷ held.seed ∷ [] = says.holds.words ∙ ap (λ o. listed o made.0.second) held.first ∙ ap (λ o. listed (Some held.rows) o) held.second in
-    let asks = named_so all (codes "lanes" ∷ codes "class" ∷ []) named.0 says.plain says.options says.asks (narrower (codes "lanes" ∷ codes "class" ∷ []) says.options (load_others says.options no_limit no_from) says.asks.known) in
+    let asks = named_so all (codes "lanes" ∷ codes "class" ∷ []) named.0 says.plain says.options says.asks (narrower (codes "lanes" ∷ codes "class" ∷ []) says.options (load_others says.options no_limit no_from no_workers) says.asks.known) in
     record {
       behind = named.0;
       rows = held.rows;
@@ -412,7 +434,7 @@ two_listed a b (Some x) None is = (cc)
 two_listed a b (Some x) (Some y) is = let same : a ≡ x = (cc) in let same2 : b ≡ y = (cc) in (ap Some (sym same), ap Some (sym same2))
 
 load_from_is : (h : Held) (load : Load) (rows seed : List ℕ) → rows ≡ decimal load.count → seed ≡ decimal load.seed → LanesAre load.lanes h.lanes → ClassIs load.class h.class → IsLoad load
-    → load_from (Some rows) (Some seed) None None h ≡ Some load
+    → load_from (Some rows) (Some seed) None None None h ≡ Some load
 load_from_is h load rows seed rows_are seed_is lanes_are class_is is =
     let rows_small : load.count < 2 ^ 32 = omega (arith, is.count) in
     let seed_small : load.seed < 2 ^ 32 = omega (arith, is.seed) in
@@ -423,7 +445,7 @@ load_from_is h load rows seed rows_are seed_is lanes_are class_is is =
     let class_read = class_in_named h.class load.class class_is in
     rw (rows_read, seed_read, lanes_read, class_read) (checked_in_range load is)
 
-load_reads : (words : List (List ℕ)) (load : Load) → IsLoadLine load words → load_of words ≡ Some load
+pub load_reads : (words : List (List ℕ)) (load : Load) → IsLoadLine load words → load_of words ≡ Some load
 load_reads words load line =
     let asks = named_so (codes "lanes" ∷ codes "class" ∷ []) all line.behind (line.rows ∷ line.seed ∷ []) line.options line.asks (wider (codes "lanes" ∷ codes "class" ∷ []) line.options load_names line.asks.known) in
     let made = answered line.behind (line.rows ∷ line.seed ∷ []) line.options asks (omega arith) in
@@ -431,24 +453,11 @@ load_reads words load line =
     let both = two_listed line.rows line.seed made.0.first made.0.second holds.words in
     let no_limit : made.0.limit ≡ None = holds.limit ∙ absent (codes "lanes" ∷ codes "class" ∷ []) (codes "limit") line.options no_limit_of_load line.asks.known in
     let no_from : made.0.from ≡ None = holds.from ∙ absent (codes "lanes" ∷ codes "class" ∷ []) (codes "from") line.options no_from_of_load line.asks.known in
+    let no_workers : made.0.workers ≡ None = holds.workers ∙ absent (codes "lanes" ∷ codes "class" ∷ []) (codes "workers") line.options no_workers_of_load line.asks.known in
     ap (λ (o : Option Held). o >>= λ h. load_in h) (behind_named (codes "gen") words line.behind line.command ∙ made.1)
-    ∙ ap (λ o. load_from o made.0.second made.0.limit made.0.from made.0) both.0
-    ∙ ap (λ o. load_from (Some line.rows) o made.0.limit made.0.from made.0) both.1
-    ∙ ap (λ o. load_from (Some line.rows) (Some line.seed) o made.0.from made.0) no_limit
-    ∙ ap (λ o. load_from (Some line.rows) (Some line.seed) None o made.0) no_from
+    ∙ ap (λ o. load_from o made.0.second made.0.limit made.0.from made.0.workers made.0) both.0
+    ∙ ap (λ o. load_from (Some line.rows) o made.0.limit made.0.from made.0.workers made.0) both.1
+    ∙ ap (λ o. load_from (Some line.rows) (Some line.seed) o made.0.from made.0.workers made.0) no_limit
+    ∙ ap (λ o. load_from (Some line.rows) (Some line.seed) None o made.0.workers made.0) no_from
+    ∙ ap (λ o. load_from (Some line.rows) (Some line.seed) None None o made.0) no_workers
     ∙ load_from_is made.0 load line.rows line.seed line.rows_are line.seed_is (subst (LanesAre load.lanes) (sym holds.lanes) line.lanes_are) (subst (ClassIs load.class) (sym holds.class) line.class_is) line.in_range
-
--- ---- all
-
-pub exact : LinesAreExact
-exact = record {
-  run = λ words n from. (run_tells words n from, run_reads words n from);
-  check = λ words name. (check_tells words name, check_reads words name);
-  load = λ words load. (load_tells words load, load_reads words load);
-  one_run = λ words m n a b p q. let same = same_Some (run m a) (run n b) (sym (run_reads words m a p) ∙ run_reads words n b q) in (ap (λ (r : Run). r.limit) same, ap (λ (r : Run). r.from) same);
-  one_check = λ words a b p q. same_Some a b (sym (check_reads words a p) ∙ check_reads words b q);
-  one_load = λ words a b c d. same_Some a b (sym (load_reads words a c) ∙ load_reads words b d);
-  no_run_and_load = λ words n from load a b. differ (codes "run") (codes "gen") refl (ap first_word (sym a.command ∙ b.command));
-  no_run_and_check = λ words n from name a b. differ (codes "run") (codes "check") refl (ap first_word (sym a.command ∙ b.command));
-  no_check_and_load = λ words name load a b. differ (codes "check") (codes "gen") refl (ap first_word (sym a.command ∙ b.command));
-}

@@ -8,7 +8,7 @@ use Rattle.std.proofs.lemmas.List.{append_assoc}
 use Rattle.std.proofs.lemmas.Option.{same_Some}
 use Rattle.std.proofs.lemmas.Slice.Eq.{starts_is}
 use Rattle.spg_words.specs.declared.option_name.OptionName.{OptionName}
-use Rattle.spg_words.specs.declared.option_name.OptionName.TheVariants.{Limit, Lanes, Class, From}
+use Rattle.spg_words.specs.declared.option_name.OptionName.TheVariants.{Limit, Lanes, Class, From, Workers}
 use Rattle.spg_words.specs.Parts.{Part, plain, joined, apart, words_of, IsPlain, IsPart, options_of, IsOneOf, AreOf}
 use Rattle.spg_words.specs.Reading.{◌>>=◌, is_plain, Held, Taken, Sought, awaits, has, setting_in, option_in, with_plain, with_option, ready, with_value, with_sought, read_on, read}
 
@@ -33,16 +33,18 @@ text Limit = codes "limit"
 text Lanes = codes "lanes"
 text Class = codes "class"
 text From = codes "from"
+text Workers = codes "workers"
 
 abbrev pub all : List (List ℕ)
-all = codes "limit" ∷ codes "lanes" ∷ codes "class" ∷ codes "from" ∷ []
+all = codes "limit" ∷ codes "lanes" ∷ codes "class" ∷ codes "from" ∷ codes "workers" ∷ []
 
 name_in : (name : List ℕ) → IsOneOf all name → (n : OptionName) × (name ≡ text n)
 name_in name (inl is) = (Limit, is)
 name_in name (inr (inl is)) = (Lanes, is)
 name_in name (inr (inr (inl is))) = (Class, is)
 name_in name (inr (inr (inr (inl is)))) = (From, is)
-name_in name (inr (inr (inr (inr none)))) = absurd none
+name_in name (inr (inr (inr (inr (inl is))))) = (Workers, is)
+name_in name (inr (inr (inr (inr (inr none))))) = absurd none
 
 -- ---- words that are no option
 
@@ -86,7 +88,10 @@ spelled-option_in word s is = elim (front_or word (codes "--limit") _ _ s is) [
       | inl (at, found) ↦ at ∙ setting_tells Class (codes "--class") (drop 7 word) s refl found
       | inr last ↦ elim (front_or word (codes "--from") _ _ s last) [
         | inl (at, found) ↦ at ∙ setting_tells From (codes "--from") (drop 6 word) s refl found
-        | inr none ↦ (cc)
+        | inr late ↦ elim (front_or word (codes "--workers") _ _ s late) [
+          | inl (at, found) ↦ at ∙ setting_tells Workers (codes "--workers") (drop 9 word) s refl found
+          | inr none ↦ (cc)
+        ]
       ]
     ]
   ]
@@ -135,10 +140,12 @@ read_pieces (tied Limit value ∷ pieces) h each = rw (plain_true value each.0) 
 read_pieces (tied Lanes value ∷ pieces) h each = rw (plain_true value each.0) (ready_bind (with_option h Lanes value) _ _ (λ k. read_pieces pieces k each.1))
 read_pieces (tied Class value ∷ pieces) h each = rw (plain_true value each.0) (ready_bind (with_option h Class value) _ _ (λ k. read_pieces pieces k each.1))
 read_pieces (tied From value ∷ pieces) h each = rw (plain_true value each.0) (ready_bind (with_option h From value) _ _ (λ k. read_pieces pieces k each.1))
+read_pieces (tied Workers value ∷ pieces) h each = rw (plain_true value each.0) (ready_bind (with_option h Workers value) _ _ (λ k. read_pieces pieces k each.1))
 read_pieces (loose Limit value ∷ pieces) h each = rw (plain_true value each.0) (ready_bind (with_option h Limit value) _ _ (λ k. read_pieces pieces k each.1))
 read_pieces (loose Lanes value ∷ pieces) h each = rw (plain_true value each.0) (ready_bind (with_option h Lanes value) _ _ (λ k. read_pieces pieces k each.1))
 read_pieces (loose Class value ∷ pieces) h each = rw (plain_true value each.0) (ready_bind (with_option h Class value) _ _ (λ k. read_pieces pieces k each.1))
 read_pieces (loose From value ∷ pieces) h each = rw (plain_true value each.0) (ready_bind (with_option h From value) _ _ (λ k. read_pieces pieces k each.1))
+read_pieces (loose Workers value ∷ pieces) h each = rw (plain_true value each.0) (ready_bind (with_option h Workers value) _ _ (λ k. read_pieces pieces k each.1))
 
 -- ---- what is read is put together so
 

@@ -5,7 +5,7 @@ use Rattle.spg_script.specs.declared.class_name.ClassName.{ClassName}
 use Rattle.spg_script.specs.declared.class_name.ClassName.TheVariants.{Quad, Kd, Radix}
 use Rattle.spg_io.specs.Names.{is_name}
 use Rattle.spg_words.specs.declared.load.Load.{Load}
-use Rattle.spg_words.specs.Numbers.{fewest_pages, most_pages, usual_pages, most_rows, most_seed, most_lanes, usual_lanes}
+use Rattle.spg_words.specs.Numbers.{fewest_pages, most_pages, usual_pages, most_rows, most_seed, most_lanes, usual_lanes, most_workers, usual_workers}
 use Rattle.spg_words.specs.Parts.{Given, value_of, Asks}
 
 -- ---- `run`
@@ -84,3 +84,25 @@ pub record IsLoadLine (load : Load) (words : List (List ℕ)) : Type 0 where
   pub lanes_are : LanesAre load.lanes (value_of (codes "lanes") options)
   pub class_is : ClassIs load.class (value_of (codes "class") options)
   pub in_range : IsLoad load
+
+-- ---- `build`
+
+-- a word spells a number of workers
+pub record IsWorkers (n : ℕ) (word : List ℕ) : Type 0 where
+  pub least : 1 ≤ n
+  pub most : n ≤ most_workers
+  pub spelled : word ≡ decimal n
+
+-- the number of workers that the option `--workers` names, or the usual one
+abbrev pub WorkersAre : ℕ → Option (List ℕ) → Type 0
+WorkersAre n None = n ≡ usual_workers
+WorkersAre n (Some word) = IsWorkers n word
+
+-- the words ask to build the image of this name with so many workers: `build` and the name, and the option `--workers` at most
+pub record IsBuildLine (name : List ℕ) (workers : ℕ) (words : List (List ℕ)) : Type 0 where
+  pub behind : List (List ℕ)
+  pub options : List Given
+  pub command : words ≡ codes "build" ∷ behind
+  pub asks : Asks (codes "workers" ∷ []) behind (name ∷ []) options
+  pub named : is_name name ≡ true
+  pub workers_are : WorkersAre workers (value_of (codes "workers") options)

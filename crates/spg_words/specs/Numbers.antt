@@ -23,3 +23,10 @@ most_lanes = 16
 
 abbrev pub usual_lanes : ℕ
 usual_lanes = 4
+
+-- how many workers build an index at most, and usually
+abbrev pub most_workers : ℕ
+most_workers = 16
+
+abbrev pub usual_workers : ℕ
+usual_workers = 4

@@ -3,7 +3,7 @@ use Rattle.std.specs.Prelude.{ℕ, Bool, true, not, ◌==◌, if◌then◌else�
 use Rattle.std.specs.Borrow.{Bor}
 use Rattle.std.specs.List.{starts_with}
 use Rattle.spg_words.specs.declared.option_name.OptionName.{OptionName}
-use Rattle.spg_words.specs.declared.option_name.OptionName.TheVariants.{Limit, Lanes, Class, From}
+use Rattle.spg_words.specs.declared.option_name.OptionName.TheVariants.{Limit, Lanes, Class, From, Workers}
 use Rattle.spg_words.specs.declared.option_name.Setting.{Setting}
 use Rattle.spg_words.specs.declared.option_name.Setting.TheVariants.{Awaits, Has}
 use Rattle.spg_words.specs.declared.words.Words.{Words}
@@ -26,20 +26,21 @@ pub record Held : Type 0 where
   pub lanes : Option (List ℕ)
   pub class : Option (List ℕ)
   pub from : Option (List ℕ)
+  pub workers : Option (List ℕ)
 
 abbrev pub word_in : Option (Bor (List ℕ)) → Option (List ℕ)
 word_in None = None
 word_in (Some word) = Some word.now
 
 abbrev pub held : Words → Held
-held w = record { first = word_in w.first; second = word_in w.second; limit = word_in w.limit; lanes = word_in w.lanes; class = word_in w.class; from = word_in w.from }
+held w = record { first = word_in w.first; second = word_in w.second; limit = word_in w.limit; lanes = word_in w.lanes; class = word_in w.class; from = word_in w.from; workers = word_in w.workers }
 
 abbrev pub held_in : Option Words → Option Held
 held_in None = None
 held_in (Some words) = Some (held words)
 
 abbrev pub nothing : Held
-nothing = record { first = None; second = None; limit = None; lanes = None; class = None; from = None }
+nothing = record { first = None; second = None; limit = None; lanes = None; class = None; from = None; workers = None }
 
 -- the same, and the option whose value is the next word
 pub record Taken : Type 0 where
@@ -77,7 +78,8 @@ option_in word =
     if starts_with nat_eq word (codes "--limit") then setting_in Limit (drop 7 word)
     else (if starts_with nat_eq word (codes "--lanes") then setting_in Lanes (drop 7 word)
     else (if starts_with nat_eq word (codes "--class") then setting_in Class (drop 7 word)
-    else (if starts_with nat_eq word (codes "--from") then setting_in From (drop 6 word) else None)))
+    else (if starts_with nat_eq word (codes "--from") then setting_in From (drop 6 word)
+    else (if starts_with nat_eq word (codes "--workers") then setting_in Workers (drop 9 word) else None))))
 
 -- ---- word by word
 
@@ -100,6 +102,7 @@ with_option h Limit value = once h.limit (record h { limit = Some value })
 with_option h Lanes value = once h.lanes (record h { lanes = Some value })
 with_option h Class value = once h.class (record h { class = Some value })
 with_option h From value = once h.from (record h { from = Some value })
+with_option h Workers value = once h.workers (record h { workers = Some value })
 
 abbrev pub ready : Option Held → Option Taken
 ready None = None

@@ -1,6 +1,7 @@
 //! The words of a command line, and what they ask for.
 #![tactic(auto)]
 
+mod build_line;
 mod check_line;
 mod laws;
 mod load;
@@ -9,6 +10,7 @@ mod option_name;
 mod run_line;
 mod words;
 
+pub use build_line::{BuildLine, build_of};
 pub use check_line::check_of;
 pub use laws::lines_are_exact;
 pub use load::Load;

@@ -60,8 +60,14 @@ fn load_in(words: Words<'_>) -> Option<Load>
     ensures value { result ≡ load_in (held words.entry) }
     ensures in_range { IfSome result (λ load. IsLoad load) }
 {
-    match (words.first, words.second, words.limit, words.from) {
-        (Some(count), Some(seed), None, None) => checked(Load {
+    match (
+        words.first,
+        words.second,
+        words.limit,
+        words.from,
+        words.workers,
+    ) {
+        (Some(count), Some(seed), None, None, None) => checked(Load {
             count: number(count)?,
             seed: number(seed)?,
             lanes: lanes_in(words.lanes)?,

@@ -8,6 +8,7 @@ pub enum OptionName {
     Lanes,
     Class,
     From,
+    Workers,
 }
 
 /// How a word names an option.
@@ -42,6 +43,8 @@ pub fn option_in(word: &[u8]) -> Option<Setting<'_>>
         named_by(OptionName::Class, &word[7..])
     } else if word.starts_with(b"--from") {
         named_by(OptionName::From, &word[6..])
+    } else if word.starts_with(b"--workers") {
+        named_by(OptionName::Workers, &word[9..])
     } else {
         None
     }

@@ -71,7 +71,7 @@ fn run_in(words: Words<'_>) -> Option<RunLine<'_>>
     ensures value { run_told result ≡ run_in (held words.entry) }
     ensures in_range { IfSome result (λ line. (fewest_pages ≤ line.limit) × (line.limit ≤ most_pages)) }
 {
-    let others = words.lanes.is_some() || words.class.is_some();
+    let others = words.lanes.is_some() || words.class.is_some() || words.workers.is_some();
     if words.first.is_some() || others {
         return None;
     }

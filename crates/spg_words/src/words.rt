@@ -14,6 +14,7 @@ pub struct Words<'a> {
     pub lanes: Option<&'a [u8]>,
     pub class: Option<&'a [u8]>,
     pub from: Option<&'a [u8]>,
+    pub workers: Option<&'a [u8]>,
 }
 
 /// The words that were read so far.
@@ -46,6 +47,7 @@ impl<'a> Words<'a> {
             lanes: None,
             class: None,
             from: None,
+            workers: None,
         }
     }
 
@@ -95,6 +97,13 @@ impl<'a> Words<'a> {
             OptionName::From => match self.from {
                 None => Some(Words {
                     from: Some(value),
+                    ..self
+                }),
+                Some(_) => None,
+            },
+            OptionName::Workers => match self.workers {
+                None => Some(Words {
+                    workers: Some(value),
                     ..self
                 }),
                 Some(_) => None,

@@ -1,5 +1,5 @@
 use Rattle.spg_words.proofs.laws.lines_are_exact.Goals as goal
-use Rattle.spg_words.proofs.Lines.{exact}
+use Rattle.spg_words.proofs.Exact.{exact}
 
 pub returns : goal.returns
 returns c = exact
