@@ -1,5 +1,4 @@
 pub mod Nearest
-pub mod Builds
 pub use Rattle.spg_base.specs.Row
 pub use Rattle.spg_opclass.specs.Meaning
 pub use Rattle.spg_opclass.specs.Laws
