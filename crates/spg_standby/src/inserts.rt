@@ -157,10 +157,10 @@ pub(crate) fn insert<O: OpClass>(
         Ok(last) => last,
         Err(refused) => return unopened(state, row, &refused),
     };
-    match &put(state, standby, seat) {
+    match put(state, standby, seat) {
         Ok(()) => Wrote::Added,
         Err(refused) => {
-            let (why, wrote) = cause_of(refused);
+            let (why, wrote) = cause_of(&refused);
             give_up(state, &mut standby.queue, seat, why, last);
             wrote
         }

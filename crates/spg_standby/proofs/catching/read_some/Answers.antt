@@ -12,19 +12,19 @@ use Rattle.spg_standby.proofs.catching.read_some.Goals as goal
 
 pub returns-then-held-eq0-clause-read : goal.returns-then-held-eq0-clause-read
 returns-then-held-eq0-clause-read g c = λ read.
-    let f = c.loop-follower.follower in
-    is_read (scan_at f c.args.seat) (open_still c.args.follower.now f c.args.seat c.loop-follower.invariant.1 c.requires.scans) (let a = c.held.ensures in let b = c.if-held-eq0.true in omega arith)
+    let f = c.loop-seat.follower in
+    is_read (scan_at f c.args.seat) (open_still c.args.follower.now f c.args.seat c.loop-seat.invariant.1 c.requires.scans) (let a = c.held.ensures in let b = c.if-held-eq0.true in omega arith)
 
 pub returns-in_err-went-clause-keeps : goal.returns-in_err-went-clause-keeps
 returns-in_err-went-clause-keeps g c =
-    let f = c.loop-follower.follower in let f2 = c.apply_oldest.new.follower in
-    reads_more c.args.follower.now f f2 c.args.seat c.loop-follower.invariant.1 (same_scans f f2 c.args.seat c.apply_oldest.ensures.scans)
+    let f = c.loop-seat.follower in let f2 = c.apply_oldest.new.follower in
+    reads_more c.args.follower.now f f2 c.args.seat c.loop-seat.invariant.1 (same_scans f f2 c.args.seat c.apply_oldest.ensures.scans)
 
 pub returns-in_err-read-clause-keeps : goal.returns-in_err-read-clause-keeps
 returns-in_err-read-clause-keeps g c =
-    let f = c.loop-follower.follower in let f2 = c.apply_oldest.new.follower in
+    let f = c.loop-seat.follower in let f2 = c.apply_oldest.new.follower in
     subst (λ (x : Standing _ _ _ _). ReadsOn c.args.follower.now x c.args.seat) (sym c.in_err-read.ensures.err)
-    (reads_more c.args.follower.now f f2 c.args.seat c.loop-follower.invariant.1 (same_scans f f2 c.args.seat c.apply_oldest.ensures.scans))
+    (reads_more c.args.follower.now f f2 c.args.seat c.loop-seat.invariant.1 (same_scans f f2 c.args.seat c.apply_oldest.ensures.scans))
 
 pub returns-then-went-clause-paired : goal.returns-then-went-clause-paired
 returns-then-went-clause-paired g c =
@@ -36,26 +36,26 @@ returns-then-went-clause-paired g c =
 pub returns-then-went-clause-keeps : goal.returns-then-went-clause-keeps
 returns-then-went-clause-keeps g c =
     let m = g.O.OpClass.meaning in
-    let f = c.loop-follower.follower in let f2 = c.apply_oldest.new.follower in let f3 = c.read.new.self in
-    reads_more c.args.follower.now f2 f3 c.args.seat (reads_more c.args.follower.now f f2 c.args.seat c.loop-follower.invariant.1 (same_scans f f2 c.args.seat c.apply_oldest.ensures.scans)) (read_once m f2 f3 c.args.seat 0 c.in_ok-read.ensures.ok)
+    let f = c.loop-seat.follower in let f2 = c.apply_oldest.new.follower in let f3 = c.read.new.self in
+    reads_more c.args.follower.now f2 f3 c.args.seat (reads_more c.args.follower.now f f2 c.args.seat c.loop-seat.invariant.1 (same_scans f f2 c.args.seat c.apply_oldest.ensures.scans)) (read_once m f2 f3 c.args.seat 0 c.in_ok-read.ensures.ok)
 
 pub returns-then-went-clause-went : goal.returns-then-went-clause-went
-returns-then-went-clause-went g c = λ no. (let a = c.in_ok-went.ensures.went c.if-went.true in let b = c.loop-follower.invariant.2 in omega arith)
+returns-then-went-clause-went g c = λ no. (let a = c.in_ok-went.ensures.went c.if-went.true in let b = c.loop-seat.invariant.2 in omega arith)
 
-pub loop-follower-preserved : goal.loop-follower-preserved
-loop-follower-preserved g c =
+pub loop-seat-preserved : goal.loop-seat-preserved
+loop-seat-preserved g c =
     let m = g.O.OpClass.meaning in
-    let f = c.loop-follower.follower in let f2 = c.apply_oldest.new.follower in let f3 = c.read.new.self in
+    let f = c.loop-seat.follower in let f2 = c.apply_oldest.new.follower in let f3 = c.read.new.self in
     let (slot, reads, is) = c.in_ok-read.ensures.ok in (
       scanned m c.args.state.now f2 c.apply_oldest.new.queue.items c.apply_oldest.ensures.paired c.args.seat slot f3 is c.in_ok-read.ensures.stands,
-      reads_more c.args.follower.now f2 f3 c.args.seat (reads_more c.args.follower.now f f2 c.args.seat c.loop-follower.invariant.1 (same_scans f f2 c.args.seat c.apply_oldest.ensures.scans)) (read_once m f2 f3 c.args.seat 0 c.in_ok-read.ensures.ok),
-      (let a = c.apply_oldest.ensures.len in let b = c.loop-follower.invariant.2 in omega arith),
+      reads_more c.args.follower.now f2 f3 c.args.seat (reads_more c.args.follower.now f f2 c.args.seat c.loop-seat.invariant.1 (same_scans f f2 c.args.seat c.apply_oldest.ensures.scans)) (read_once m f2 f3 c.args.seat 0 c.in_ok-read.ensures.ok),
+      (let a = c.apply_oldest.ensures.len in let b = c.loop-seat.invariant.2 in omega arith),
     )
 
-pub loop-follower-smaller : goal.loop-follower-smaller
-loop-follower-smaller g c =
+pub loop-seat-smaller : goal.loop-seat-smaller
+loop-seat-smaller g c =
     let m = g.O.OpClass.meaning in
-    let f = c.loop-follower.follower in let f2 = c.apply_oldest.new.follower in let f3 = c.read.new.self in
+    let f = c.loop-seat.follower in let f2 = c.apply_oldest.new.follower in let f3 = c.read.new.self in
     let stands = c.apply_oldest.ensures.paired.stands in
     let H : Shape m (sheets_of f2.table) = stands.holds.holds.shape in
     let same = c.apply_oldest.ensures.scans in

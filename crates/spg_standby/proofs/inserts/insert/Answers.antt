@@ -38,8 +38,8 @@ give_up-requires-clause-open g c = not_free g.O.OpClass.meaning c.args.state.now
 
 pub give_up-requires-clause-why : goal.give_up-requires-clause-why
 give_up-requires-clause-why g c =
-    subst (λ (w : Why). MayGiveUp c.put.new.state.table (stage_at c.put.new.state c.args.seat) w) (sym c.cause_of.ensures.why)
-    (may_give_up g.O.OpClass.meaning c.put.new.state.table (stage_at c.put.new.state c.args.seat) c.in-Err-put.refused.now (still_inserting g.O.OpClass.meaning c.args.state.now c.open.new.state c.args.seat c.args.row c.args.key c.in-Ok.ensures.ok c.put.new.state c.in-Err-put.ensures.err)
+    subst (λ (w : Why). MayGiveUp c.put.new.state.table (stage_at c.put.new.state c.args.seat) w) (sym c.cause_of-why.ensures.why)
+    (may_give_up g.O.OpClass.meaning c.put.new.state.table (stage_at c.put.new.state c.args.seat) c.in-Err-put.refused (still_inserting g.O.OpClass.meaning c.args.state.now c.open.new.state c.args.seat c.args.row c.args.key c.in-Ok.ensures.ok c.put.new.state c.in-Err-put.ensures.err)
     (λ e. (c.put.ensures.full (c.in-Err-put.is ∙ ap Err e)).1) (λ e. (c.put.ensures.clock (c.in-Err-put.is ∙ ap Err e)).1))
 
 pub returns-in-Ok-put-clause-wrote : goal.returns-in-Ok-put-clause-wrote
@@ -47,9 +47,9 @@ returns-in-Ok-put-clause-wrote g c = put_done g.O.OpClass.meaning c.args.state.n
 
 pub returns-in-Err-put-clause-wrote : goal.returns-in-Err-put-clause-wrote
 returns-in-Err-put-clause-wrote g c =
-    subst (λ (w : Wrote). Inserted g.O.OpClass.meaning c.args.state.now c.give_up.new.state c.args.seat c.args.row c.args.key w) (sym c.cause_of.ensures.wrote)
-    (refused_by g.O.OpClass.meaning c.args.state.now c.open.new.state c.args.seat c.args.row c.args.key c.in-Ok.ensures.ok c.put.new.state c.give_up.new.state c.in-Err-put.refused.now c.requires.closed c.in-Err-put.ensures.err
-    (subst (λ (w : Why). GivesUp c.put.new.state c.give_up.new.state c.args.seat w) c.cause_of.ensures.why c.give_up.ensures.up) c.put.ensures.grows
+    subst (λ (w : Wrote). Inserted g.O.OpClass.meaning c.args.state.now c.give_up.new.state c.args.seat c.args.row c.args.key w) (sym c.cause_of-why.ensures.wrote)
+    (refused_by g.O.OpClass.meaning c.args.state.now c.open.new.state c.args.seat c.args.row c.args.key c.in-Ok.ensures.ok c.put.new.state c.give_up.new.state c.in-Err-put.refused c.requires.closed c.in-Err-put.ensures.err
+    (subst (λ (w : Why). GivesUp c.put.new.state c.give_up.new.state c.args.seat w) c.cause_of-why.ensures.why c.give_up.ensures.up) c.put.ensures.grows
     (λ e. c.put.ensures.full (c.in-Err-put.is ∙ ap Err e)) (λ e. c.put.ensures.clock (c.in-Err-put.is ∙ ap Err e)))
 
 pub returns-in-Ok-put-clause-closed : goal.returns-in-Ok-put-clause-closed
@@ -57,8 +57,8 @@ returns-in-Ok-put-clause-closed g c = (put_done g.O.OpClass.meaning c.args.state
 
 pub returns-in-Err-put-clause-closed : goal.returns-in-Err-put-clause-closed
 returns-in-Err-put-clause-closed g c =
-    inserted_closed g.O.OpClass.meaning c.args.state.now c.give_up.new.state c.args.seat c.args.row c.args.key (came_of c.in-Err-put.refused.now)
-    (refused_by g.O.OpClass.meaning c.args.state.now c.open.new.state c.args.seat c.args.row c.args.key c.in-Ok.ensures.ok c.put.new.state c.give_up.new.state c.in-Err-put.refused.now c.requires.closed c.in-Err-put.ensures.err
-    (subst (λ (w : Why). GivesUp c.put.new.state c.give_up.new.state c.args.seat w) c.cause_of.ensures.why c.give_up.ensures.up) c.put.ensures.grows
+    inserted_closed g.O.OpClass.meaning c.args.state.now c.give_up.new.state c.args.seat c.args.row c.args.key (came_of c.in-Err-put.refused)
+    (refused_by g.O.OpClass.meaning c.args.state.now c.open.new.state c.args.seat c.args.row c.args.key c.in-Ok.ensures.ok c.put.new.state c.give_up.new.state c.in-Err-put.refused c.requires.closed c.in-Err-put.ensures.err
+    (subst (λ (w : Why). GivesUp c.put.new.state c.give_up.new.state c.args.seat w) c.cause_of-why.ensures.why c.give_up.ensures.up) c.put.ensures.grows
     (λ e. c.put.ensures.full (c.in-Err-put.is ∙ ap Err e)) (λ e. c.put.ensures.clock (c.in-Err-put.is ∙ ap Err e)))
     c.requires.closed
