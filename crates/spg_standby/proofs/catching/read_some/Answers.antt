@@ -1,8 +1,8 @@
-use Rattle.std.proofs.Common.{◌≡◌, ◌<◌, ◌≤◌, length, refl, sym, ap, subst, arith}
+use Rattle.std.proofs.Common.{◌≡◌, ◌<◌, None, get_or, refl, sym, ap, subst, arith}
 use Rattle.spg_tree.specs.Table.{sheets_of}
 use Rattle.spg_forest.specs.Shape.{Shape}
 use Rattle.spg_standby.specs.Slots.{SlotHeld}
-use Rattle.spg_standby.specs.Standing.{Standing, IsMeant, scan_at, held_in}
+use Rattle.spg_standby.specs.Standing.{Standing, scan_at, held_in}
 use Rattle.spg_standby.specs.Finding.{ReadsOn}
 use Rattle.spg_standby.specs.Progress.{reads_left}
 use Rattle.spg_standby.proofs.Standings.{slot_held}
@@ -59,6 +59,7 @@ loop-seat-smaller g c =
     let stands = c.apply_oldest.ensures.paired.stands in
     let H : Shape m (sheets_of f2.table) = stands.holds.holds.shape in
     let same = c.apply_oldest.ensures.scans in
-    let some : 0 < held_in (scan_at f2 c.args.seat) = c.read.requires.held in
+    let held : held_in (scan_at f2 c.args.seat) ≡ held_in (scan_at f c.args.seat) = ap (λ xs. held_in (get_or xs c.args.seat None)) same in
+    let some : 0 < held_in (scan_at f2 c.args.seat) = (let a = c.held.ensures in let b = c.if-held-eq0.false in omega arith) in
     let shelter : SlotHeld m (sheets_of f2.table) (scan_at f2 c.args.seat) 0 = slot_held m f2 c.args.seat 0 (scan_at f2 c.args.seat) refl (c.args.state.now.journal, stands) some in
     subst (λ (x : Standing _ _ _ _). reads_left m f3 c.args.seat < reads_left m x c.args.seat) (c.in_ok-went.ensures.stays c.if-went.false) (fewer_left m f2 f3 c.args.seat 0 H shelter c.in_ok-read.ensures.ok)
