@@ -17,22 +17,19 @@ enum Write {
     Vacuum,
 }
 
-/// How many records the standby may be behind.
-const LAGS: [u32; 4] = [0, 1, 2, 1000];
-
-/// A write, what came of it, how many events the journal has then, and what a find of all rows behind it
-/// gives, by each number of records that the standby may be behind.
+/// A write, what came of it, how many events the journal has then, and what a find of all rows then
+/// begins at and gives, by how far the standby may be behind.
 #[derive(Clone, Copy)]
 struct Step {
     write: Write,
     wrote: Wrote,
     events: u64,
-    found: [Found; 4],
+    at_once: Found,
+    behind: Found,
 }
 
-/// How many events were applied when a find began and when it ended, the offsets of the rows that it gave,
-/// and how many records were queued then.
-type Found = (u64, u64, &'static [u16], usize);
+/// How many events were applied when a find began, and the offsets of the rows that it gave.
+type Found = (u64, &'static [u16]);
 
 const ORIGIN: Option<Point> = Some(Point { x: 0, y: 0 });
 
@@ -41,113 +38,73 @@ const STEPS: [Step; 10] = [
         write: Write::Put(1, ORIGIN),
         wrote: Wrote::Added,
         events: 2,
-        found: [
-            (2, 2, &[1], 0),
-            (1, 2, &[1], 0),
-            (1, 2, &[], 0),
-            (0, 1, &[], 1),
-        ],
+        at_once: (2, &[1]),
+        behind: (1, &[]),
     },
     Step {
         write: Write::Put(2, Some(Point { x: 1, y: 1 })),
         wrote: Wrote::Added,
         events: 4,
-        found: [
-            (4, 4, &[1, 2], 0),
-            (3, 4, &[1, 2], 0),
-            (3, 4, &[1], 0),
-            (1, 3, &[1], 2),
-        ],
+        at_once: (4, &[1, 2]),
+        behind: (3, &[1]),
     },
     Step {
         write: Write::Put(2, ORIGIN),
         wrote: Wrote::RowUsed,
         events: 4,
-        found: [
-            (4, 4, &[1, 2], 0),
-            (4, 4, &[1, 2], 0),
-            (4, 4, &[1, 2], 0),
-            (3, 4, &[1], 0),
-        ],
+        at_once: (4, &[1, 2]),
+        behind: (4, &[1, 2]),
     },
     // The null's root is read last, when its record is applied.
     Step {
         write: Write::Put(3, None),
         wrote: Wrote::Added,
         events: 6,
-        found: [
-            (6, 6, &[1, 2, 3], 0),
-            (5, 6, &[1, 2, 3], 0),
-            (5, 6, &[1, 2, 3], 0),
-            (4, 5, &[1, 2], 1),
-        ],
+        at_once: (6, &[1, 2, 3]),
+        behind: (5, &[1, 2, 3]),
     },
     Step {
         write: Write::Kill(1),
         wrote: Wrote::Killed,
         events: 7,
-        found: [
-            (7, 7, &[2, 3], 0),
-            (6, 7, &[2, 3], 0),
-            (6, 7, &[2, 3], 0),
-            (5, 7, &[1, 2, 3], 0),
-        ],
+        at_once: (7, &[2, 3]),
+        behind: (6, &[2, 3]),
     },
     Step {
         write: Write::Kill(1),
         wrote: Wrote::NotLive,
         events: 7,
-        found: [
-            (7, 7, &[2, 3], 0),
-            (7, 7, &[2, 3], 0),
-            (7, 7, &[2, 3], 0),
-            (7, 7, &[2, 3], 0),
-        ],
+        at_once: (7, &[2, 3]),
+        behind: (7, &[2, 3]),
     },
     // A row that was deleted is used until a vacuum has swept it.
     Step {
         write: Write::Put(1, ORIGIN),
         wrote: Wrote::RowUsed,
         events: 7,
-        found: [
-            (7, 7, &[2, 3], 0),
-            (7, 7, &[2, 3], 0),
-            (7, 7, &[2, 3], 0),
-            (7, 7, &[2, 3], 0),
-        ],
+        at_once: (7, &[2, 3]),
+        behind: (7, &[2, 3]),
     },
     Step {
         write: Write::Vacuum,
         wrote: Wrote::Vacuumed(1),
         events: 10,
-        found: [
-            (10, 10, &[2, 3], 0),
-            (9, 10, &[2, 3], 0),
-            (9, 10, &[2, 3], 0),
-            (7, 9, &[2, 3], 2),
-        ],
+        at_once: (10, &[2, 3]),
+        behind: (9, &[2, 3]),
     },
     Step {
         write: Write::Put(1, ORIGIN),
         wrote: Wrote::Added,
         events: 12,
-        found: [
-            (12, 12, &[1, 2, 3], 0),
-            (11, 12, &[1, 2, 3], 0),
-            (11, 12, &[2, 3], 0),
-            (9, 10, &[2, 3], 3),
-        ],
+        at_once: (12, &[1, 2, 3]),
+        behind: (11, &[2, 3]),
     },
     Step {
         write: Write::Vacuum,
         wrote: Wrote::Vacuumed(0),
         events: 14,
-        found: [
-            (14, 14, &[1, 2, 3], 0),
-            (13, 14, &[1, 2, 3], 0),
-            (13, 14, &[1, 2, 3], 0),
-            (10, 11, &[2, 3], 5),
-        ],
+        at_once: (14, &[1, 2, 3]),
+        behind: (13, &[1, 2, 3]),
     },
 ];
 
@@ -169,6 +126,12 @@ fn done(pair: &mut Pair<Quad>, write: Write) -> (Wrote, u64) {
     (wrote, span.to)
 }
 
+/// How many events were applied when a find of all rows began and when it ended, and its rows.
+fn find(pair: &mut Pair<Quad>) -> Result<(u64, u64, Rows), Memory> {
+    let (closed, span) = pair.find(Query::All)?;
+    Ok((span.from, span.to, closed.rows))
+}
+
 /// The rows are those of these offsets.
 fn are(rows: &Rows, offsets: &[u16]) -> bool {
     rows.as_slice().len() == offsets.len()
@@ -176,22 +139,28 @@ fn are(rows: &Rows, offsets: &[u16]) -> bool {
             && one.offset() == *offset)
 }
 
-/// Whether a find of all rows gives this.
-fn finds(pair: &mut Pair<Quad>, found: &Found) -> Result<bool, Memory> {
-    let (closed, span) = pair.find(Query::All)?;
+/// What a find gives after a step, where the standby may be so many records behind.
+fn wanted(step: &Step, lag: u32) -> Found {
+    if lag == 0 { step.at_once } else { step.behind }
+}
+
+/// Whether a step's write and a find after it answer what the step says.
+fn is_as_told(pair: &mut Pair<Quad>, step: &Step, lag: u32) -> Result<bool, Memory> {
+    let (wrote, events) = done(pair, step.write);
+    let (from, to, rows) = find(pair)?;
+    let (applied, offsets) = wanted(step, lag);
     Ok(
-        (span.from, span.to) == (found.0, found.1)
-            && are(&closed.rows, found.2)
-            && pair.queued() == found.3,
+        wrote == step.wrote
+            && events == step.events
+            && (from, to) == (applied, events)
+            && are(&rows, offsets),
     )
 }
 
-/// The number of events at the first step of which the write or the find behind it answers another thing,
-/// where what the find gives stands at this place.
-fn first_other(pair: &mut Pair<Quad>, place: usize) -> Result<Option<u64>, Memory> {
+/// The number of events at the first step that answers another thing.
+fn first_other(pair: &mut Pair<Quad>, lag: u32) -> Result<Option<u64>, Memory> {
     for step in &STEPS {
-        let wrote = done(pair, step.write) == (step.wrote, step.events);
-        if !wrote || place >= 4 || !finds(pair, &step.found[place])? {
+        if !is_as_told(pair, step, lag)? {
             return Ok(Some(step.events));
         }
     }
@@ -199,16 +168,20 @@ fn first_other(pair: &mut Pair<Quad>, place: usize) -> Result<Option<u64>, Memor
 }
 
 /// The same of a new pair.
-fn first_other_at(alloc: Global, place: usize, lag: u32) -> Result<Option<u64>, Memory> {
+fn first_other_at(alloc: Global, lag: u32) -> Result<Option<u64>, Memory> {
     let mut pair = Pair::new(alloc, Quad, 4096, lag)?;
-    first_other(&mut pair, place)
+    first_other(&mut pair, lag)
 }
 
 #[test]
-fn a_standby_finds_what_was_applied(rt: HostRuntime) -> Result<(), Fail> {
-    for (place, lag) in LAGS.iter().enumerate() {
-        assert_eq!(rt; first_other_at(rt.alloc(), place, *lag)?, None);
-    }
+fn a_standby_that_is_not_behind_finds_what_stands(rt: HostRuntime) -> Result<(), Fail> {
+    assert_eq!(rt; first_other_at(rt.alloc(), 0)?, None);
+    Ok(())
+}
+
+#[test]
+fn a_standby_that_is_behind_finds_what_was_applied(rt: HostRuntime) -> Result<(), Fail> {
+    assert_eq!(rt; first_other_at(rt.alloc(), 2)?, None);
     Ok(())
 }
 
@@ -233,16 +206,11 @@ fn put_and_kill(pair: &mut Pair<Quad>, last: u16) -> (u32, u32) {
     (added, killed)
 }
 
-/// How many events were applied when a find of all rows began and when it ended, how many rows it gave,
-/// and how many records were queued then.
-fn count(pair: &mut Pair<Quad>) -> Result<(u64, u64, usize, usize), Memory> {
-    let (closed, span) = pair.find(Query::All)?;
-    Ok((
-        span.from,
-        span.to,
-        closed.rows.as_slice().len(),
-        pair.queued(),
-    ))
+/// How many events were applied when a find of all rows began and when it ended, and how many rows it
+/// gave.
+fn count(pair: &mut Pair<Quad>) -> Result<(u64, u64, usize), Memory> {
+    let (from, to, rows) = find(pair)?;
+    Ok((from, to, rows.as_slice().len()))
 }
 
 /// Whether a vacuum sweeps half of the rows, and the row that is put then is found, while the standby is
@@ -250,11 +218,11 @@ fn count(pair: &mut Pair<Quad>) -> Result<(u64, u64, usize, usize), Memory> {
 fn sweeps_half(pair: &mut Pair<Quad>) -> Result<bool, Memory> {
     Ok(
         put_and_kill(pair, 300) == (300, 150)
-            && count(pair)? == (748, 750, 150, 0)
+            && count(pair)? == (748, 750, 150)
             && done(pair, Write::Vacuum) == (Wrote::Vacuumed(150), 902)
-            && count(pair)? == (901, 902, 150, 0)
+            && count(pair)? == (901, 902, 150)
             && done(pair, Write::Put(1, ORIGIN)) == (Wrote::Added, 904)
-            && count(pair)? == (903, 904, 151, 0),
+            && count(pair)? == (903, 904, 151),
     )
 }
 
@@ -268,46 +236,5 @@ fn sweeps_half_at(alloc: Global, lag: u32) -> Result<bool, Memory> {
 #[test]
 fn a_vacuum_reaches_the_standby(rt: HostRuntime) -> Result<(), Fail> {
     assert!(rt; sweeps_half_at(rt.alloc(), 2)?);
-    Ok(())
-}
-
-/// How many rows up to this offset are put at the origin.
-fn put_equal(pair: &mut Pair<Quad>, last: u16) -> u32 {
-    let mut added = 0u32;
-    for offset in 1..=last {
-        if done(pair, Write::Put(offset, ORIGIN)).0 == Wrote::Added {
-            added = added.saturating_add(1);
-        }
-    }
-    added
-}
-
-/// Whether four finds follow what divided the root, and a find behind them holds back the record by which
-/// a vacuum takes a redirect away. The redirect came while this find was open; the find behind it has
-/// none to hold.
-fn holds_back(pair: &mut Pair<Quad>) -> Result<bool, Memory> {
-    Ok(
-        put_equal(pair, 292) == 292
-            && count(pair)? == (577, 579, 289, 10)
-            && count(pair)? == (579, 580, 289, 8)
-            && count(pair)? == (580, 581, 290, 6)
-            && count(pair)? == (581, 583, 291, 4)
-            && done(pair, Write::Put(293, ORIGIN)) == (Wrote::Added, 586)
-            && done(pair, Write::Vacuum) == (Wrote::Vacuumed(0), 588)
-            && count(pair)? == (583, 587, 292, 3)
-            && count(pair)? == (587, 588, 293, 0),
-    )
-}
-
-/// The same of a new pair.
-fn holds_back_at(alloc: Global, lag: u32) -> Result<bool, Memory> {
-    let mut pair = Pair::new(alloc, Quad, 4096, lag)?;
-    holds_back(&mut pair)
-}
-
-/// A record waits for the find that needs a redirect.
-#[test]
-fn an_open_find_holds_a_record_back(rt: HostRuntime) -> Result<(), Fail> {
-    assert!(rt; holds_back_at(rt.alloc(), 12)?);
     Ok(())
 }
