@@ -17,9 +17,9 @@ use Rattle.spg_standby.specs.declared.follower.ApplyOut.TheVariants.{Applied}
 use Rattle.spg_standby.specs.Slots.{SlotReads}
 use Rattle.spg_standby.specs.Standing.{Standing, StandsAt, SlotCloses, StillStands, AppliesOut, ReadsAt, IsReadIn, scan_at, with_scan, held_in}
 use Rattle.spg_standby.specs.Pair.{IsPaired}
-use Rattle.spg_standby.specs.Finding.{IsIdle, ScansFrom, IsOpenIn, ReadsOn}
+use Rattle.spg_standby.specs.Finding.{IsIdle, IsBehind, ScansFrom, IsOpenIn, ReadsOn}
 use Rattle.spg_standby.proofs.Standings.{set_cases}
-use Rattle.spg_standby.proofs.Pairs.{pair_applies, pair_scans}
+use Rattle.spg_standby.proofs.Pairs.{pair_applies, pair_scans, pair_lags}
 
 none_held : {A : Type 0} (items : List A) → length items ≡ 0 → items ≡ []
 none_held [] h = refl
@@ -108,3 +108,11 @@ module _ {O Key Recon Cond : Type 0} where
       let now : ScansFrom f.applied query (scan_at f2 seat) = R.here f.applied query (subst (ScansFrom f.applied query) (sym here) was) in
       subst (λ (n : ℕ). ScanRight m (past_at n journal) (past_at to journal) query closed.rows) (sym at)
       (subst (λ (n : ℕ). ScanRight m (past_at f.applied journal) (past_at n journal) query closed.rows) (sym till) (closes_from m f2 closed journal (scan_at f2 seat) f.applied query now C T))
+
+-- how far behind the primary's journal the standby is
+caught_up : {O Key Recon Cond : Type 0} (m : Meaning Key Recon Cond) (primary : Seen O Key Recon Cond) (standby : Standing O Key Recon Cond) (steps : List Step) → IsPaired m primary standby steps → length steps ≡ 0 → standby.applied ≡ length primary.journal
+caught_up m primary standby [] P none = P.leads.1
+caught_up m primary standby (step ∷ steps) P none = absurd (omega arith)
+
+pub is_behind : {O Key Recon Cond : Type 0} (m : Meaning Key Recon Cond) (primary : Seen O Key Recon Cond) (standby : Standing O Key Recon Cond) (steps : List Step) (from : ℕ) → IsPaired m primary standby steps → from ≡ standby.applied → IsBehind primary.journal from (length steps)
+is_behind m primary standby steps from P at = subst (λ (n : ℕ). IsBehind primary.journal n (length steps)) (sym at) (record { few = pair_lags m primary standby steps P; none = caught_up m primary standby steps P })

@@ -1,16 +1,21 @@
 // A primary that takes the writes, and a standby that answers the searches.
-ghost use Rattle.std.specs.Prelude.{◌≡◌, ◌≢◌, ◌≤◌, ℕ, length, IfOk, OnErr};
+ghost use Rattle.std.specs.Prelude.{◌≡◌, ◌≢◌, ◌≤◌, ◌⊎◌, [], ℕ, length, IfOk};
+ghost use Rattle.spg_rows.specs.Told.{IsUsed};
+ghost use Rattle.spg_core.specs.Seen.{past_of};
 ghost use Rattle.spg_core.specs.Sections.{IsNew};
-ghost use Rattle.spg_standby.specs.declared.primary.Wrote.TheVariants as came;
-ghost use Rattle.spg_standby.specs.Pair.{IsPaired};
-ghost use Rattle.spg_standby.specs.Noting.{AllFree};
-ghost use Rattle.spg_standby.specs.Finding.{IsIdle, Finds};
+ghost use Rattle.spg_whole.specs.Calls.{AllClosed};
+ghost use Rattle.spg_standby.specs.declared.wrote.Wrote.TheVariants as came;
+ghost use Rattle.spg_standby.specs.Finding.{Finds, IsBehind};
+ghost use Rattle.spg_standby.specs.Writes.{Inserted, Deleted, Vacuumed, Answers, IsSpanOf};
 ghost use Rattle.spg_standby.specs.Twin.{IsTwin};
 
-use crate::catching::{catch_up, find};
+use crate::catching::find;
 use crate::follower::Follower;
-use crate::primary::{Wrote, insert, kill, vacuum};
-use crate::record::Record;
+use crate::inserts::insert;
+use crate::kills::kill;
+use crate::standby::{Standby, settle};
+use crate::vacuums::vacuum;
+use crate::wrote::Wrote;
 use spg_base::{Memory, Row, SeatNo, Span};
 use spg_core::State;
 use spg_opclass::{OpClass, Query};
@@ -23,11 +28,8 @@ use std::marker::Model;
 /// Between the calls nothing is open in either.
 #[derive(Drop)]
 pub struct Pair<O: OpClass> {
-    alloc: Global,
     primary: State<O>,
-    follower: Follower<O>,
-    queue: VecDeque<Record>,
-    lag: usize,
+    standby: Standby<O>,
 }
 
 impl<O: OpClass> Model for Pair<O> {
@@ -40,131 +42,93 @@ impl<O: OpClass> Model for Pair<O> {
     ghost invariant = { λ p. IsTwin O.meaning (twin_of p) };
 }
 
-/// Applies the oldest records until at most so many are queued. A write in which this fails has met
-/// want of memory.
-fn settle<O: OpClass>(
-    state: &State<O>,
-    follower: &mut Follower<O>,
-    queue: &mut VecDeque<Record>,
-    lag: usize,
-    wrote: Wrote,
-) -> Wrote
-    requires paired { IsPaired O.meaning state.now follower.old queue.old.items }
-    requires idle { IsIdle follower.old }
-    ensures paired { IsPaired O.meaning state.now follower.new queue.new.items }
-    ensures idle { IsIdle follower.new }
-    ensures lag { result ≢ came.Memory → length queue.new.items ≤ lag }
-{
-    match catch_up(state, follower, queue, lag) {
-        Ok(()) => wrote,
-        Err(Memory) => Wrote::Memory,
-    }
-}
-
 impl<O: OpClass> Pair<O> {
     /// Two indexes of no rows, of 4 to 131,072 pages, the standby at most so many records behind.
     pub fn new(alloc: Global, class: O, limit: u32, lag: u32) -> Result<Pair<O>, Memory>
         requires from { 4 ≤ limit }
         requires to { limit ≤ 131072 }
         ensures primary { IfOk result (λ pair. IsNew limit pair.primary) }
+        ensures queued { IfOk result (λ pair. pair.queue ≡ []) }
         ensures lag { IfOk result (λ pair. pair.lag ≡ lag) }
     {
         let primary = State::new(alloc, class, limit)?;
         let follower = Follower::new(alloc, class, limit)?;
-        Ok(Pair {
+        let standby = Standby {
             alloc,
-            primary,
             follower,
             queue: VecDeque::new(alloc),
             lag: lag as usize,
-        })
-    }
-
-    /// Inserts a row with its key, where the row is not claimed.
-    pub fn insert(&mut self, row: Row, key: Option<O::Key>) -> (Wrote, Span)
-        ensures twin { IsTwin O.meaning self.new }
-        ensures lag { result.0 ≢ came.Memory → length self.new.queue ≤ self.new.lag }
-        ensures same { self.new.lag ≡ self.old.lag }
-    {
-        let from = self.primary.journal().len();
-        let seat = SeatNo::first();
-        let wrote = insert(
-            self.alloc,
-            &mut self.primary,
-            &mut self.queue,
-            seat,
-            row,
-            key,
-        );
-        let wrote = settle(
-            &self.primary,
-            &mut self.follower,
-            &mut self.queue,
-            self.lag,
-            wrote,
-        );
-        let to = self.primary.journal().len();
-        (wrote, Span { from, to })
-    }
-
-    /// Deletes a row, where it is live.
-    pub fn kill(&mut self, row: Row) -> (Wrote, Span)
-        ensures twin { IsTwin O.meaning self.new }
-        ensures lag { result.0 ≢ came.Memory → length self.new.queue ≤ self.new.lag }
-        ensures same { self.new.lag ≡ self.old.lag }
-    {
-        let from = self.primary.journal().len();
-        let seat = SeatNo::first();
-        let wrote = match kill(self.alloc, &mut self.primary, &mut self.queue, seat, row) {
-            Ok(true) => Wrote::Killed,
-            Ok(false) => Wrote::NotLive,
-            Err(Memory) => Wrote::Memory,
         };
-        let wrote = settle(
-            &self.primary,
-            &mut self.follower,
-            &mut self.queue,
-            self.lag,
-            wrote,
-        );
+        Ok(Pair { primary, standby })
+    }
+
+    /// Inserts a row with its key, or with the null. `RowUsed` exactly where an insert of the row was put
+    /// and not swept since, unless memory is short. `IndexFull` only where fewer than 4 blocks are left
+    /// below the limit, and `ClockFull` only where the clock is 2^48 - 1, both only where the keys of its
+    /// tree that were ever inserted take more than 8,160 bytes. The standby follows after each section;
+    /// where it found no memory at the end the answer is `Memory`, and the row may have been put.
+    pub fn insert(&mut self, row: Row, key: Option<O::Key>) -> (Wrote, Span)
+        ensures wrote { Answers (Inserted O.meaning self.old.primary self.new.primary 0 row key) result.0 }
+        ensures used { IsUsed (past_of self.old.primary) row → (result.0 ≡ came.RowUsed) ⊎ (result.0 ≡ came.Memory) }
+        ensures span { IsSpanOf self.old.primary self.new.primary result.1 }
+        ensures queued { result.0 ≢ came.Memory → length self.new.queue ≤ self.new.lag }
+        ensures lag { self.new.lag ≡ self.old.lag }
+    {
+        let from = self.primary.journal().len();
+        let seat = SeatNo::first();
+        let wrote = insert(&mut self.primary, &mut self.standby, seat, row, key);
+        let wrote = settle(&self.primary, &mut self.standby, wrote);
         let to = self.primary.journal().len();
         (wrote, Span { from, to })
     }
 
-    /// Removes the entries of the rows that were deleted.
-    pub fn vacuum(&mut self) -> (Wrote, Span)
-        ensures twin { IsTwin O.meaning self.new }
-        ensures lag { result.0 ≢ came.Memory → length self.new.queue ≤ self.new.lag }
-        ensures same { self.new.lag ≡ self.old.lag }
+    /// Deletes a row. `Killed` exactly where it is live, unless memory is short; else nothing changes.
+    pub fn kill(&mut self, row: Row) -> (Wrote, Span)
+        ensures wrote { Answers (Deleted self.old.primary self.new.primary 0 row) result.0 }
+        ensures span { IsSpanOf self.old.primary self.new.primary result.1 }
+        ensures queued { result.0 ≢ came.Memory → length self.new.queue ≤ self.new.lag }
+        ensures lag { self.new.lag ≡ self.old.lag }
     {
         let from = self.primary.journal().len();
         let seat = SeatNo::first();
-        let wrote = vacuum(self.alloc, &mut self.primary, &mut self.queue, seat);
-        let wrote = settle(
-            &self.primary,
-            &mut self.follower,
-            &mut self.queue,
-            self.lag,
-            wrote,
-        );
+        let wrote = kill(&mut self.primary, &mut self.standby, seat, row);
+        let wrote = settle(&self.primary, &mut self.standby, wrote);
+        let to = self.primary.journal().len();
+        (wrote, Span { from, to })
+    }
+
+    /// Removes the entries of the rows that were deleted. The answer is how many they are.
+    pub fn vacuum(&mut self) -> (Wrote, Span)
+        ensures wrote { Answers (Vacuumed self.old.primary self.new.primary 0) result.0 }
+        ensures span { IsSpanOf self.old.primary self.new.primary result.1 }
+        ensures queued { result.0 ≢ came.Memory → length self.new.queue ≤ self.new.lag }
+        ensures lag { self.new.lag ≡ self.old.lag }
+    {
+        let from = self.primary.journal().len();
+        let seat = SeatNo::first();
+        let wrote = vacuum(&mut self.primary, &mut self.standby, seat);
+        let wrote = settle(&self.primary, &mut self.standby, wrote);
         let to = self.primary.journal().len();
         (wrote, Span { from, to })
     }
 
     /// Finds rows by the standby. They are a right answer by the primary's journal, from the events that
-    /// were applied when it began to those applied at its end. The primary stays as it is.
+    /// were applied when it began to those applied at its end. So far behind the primary's journal it began
+    /// at most: events that are no sweeps are as many as records were queued, and none where none was. The
+    /// primary stays as it is.
     pub fn find(&mut self, query: Query<O>) -> Result<(Closed, Span), Memory>
         ensures found { IfOk result (λ found. Finds O.meaning self.new.primary.journal query found.0 found.1) }
         ensures from { IfOk result (λ found. found.1.from ≡ self.old.follower.applied) }
         ensures to { IfOk result (λ found. found.1.to ≡ self.new.follower.applied) }
+        ensures behind { IfOk result (λ found. IsBehind self.old.primary.journal found.1.from (length self.old.queue)) }
         ensures primary { self.new.primary ≡ self.old.primary }
-        ensures same { self.new.lag ≡ self.old.lag }
-        ensures twin { IsTwin O.meaning self.new }
+        ensures queued { length self.new.queue ≤ length self.old.queue }
+        ensures lag { self.new.lag ≡ self.old.lag }
     {
         find(
             &self.primary,
-            &mut self.follower,
-            &mut self.queue,
+            &mut self.standby.follower,
+            &mut self.standby.queue,
             SeatNo::first(),
             query,
         )
@@ -174,7 +138,7 @@ impl<O: OpClass> Pair<O> {
     pub fn queued(&self) -> usize
         ensures { result ≡ length self.now.queue }
     {
-        self.queue.len()
+        self.standby.queue.len()
     }
 
     /// The primary alone. It takes no memory.
@@ -195,6 +159,6 @@ impl<O: OpClass> Pair<O> {
     pub fn follower(&self) -> &Follower<O>
         ensures { result.now ≡ self.now.follower }
     {
-        &self.follower
+        &self.standby.follower
     }
 }

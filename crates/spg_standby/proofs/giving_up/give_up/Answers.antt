@@ -1,9 +1,6 @@
 use Rattle.std.proofs.Common.{refl}
-use Rattle.spg_standby.proofs.Noting.{noted_leave, gave_up}
-use Rattle.spg_standby.proofs.primary.give_up.Goals as goal
+use Rattle.spg_standby.proofs.Noting.{noted_leave}
+use Rattle.spg_standby.proofs.giving_up.give_up.Goals as goal
 
 pub returns-clause-pairs : goal.returns-clause-pairs
 returns-clause-pairs g c = noted_leave g.O.OpClass.meaning c.args.state.now c.abandon.new.self c.args.queue.now.items c.args.queue.now.items c.note.new.queue.items refl c.note.ensures.items c.tells.ensures.tells c.tells-2.ensures.tells c.args.seat c.args.why c.abandon.ensures.up
-
-pub returns-clause-free : goal.returns-clause-free
-returns-clause-free g c = gave_up c.args.state.now c.abandon.new.self c.args.seat c.args.why c.abandon.ensures.up c.requires.others
