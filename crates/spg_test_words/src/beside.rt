@@ -1,5 +1,5 @@
 use clap::{Arg, ArgAction, Command};
-use spg_words::{build_of, check_of, load_of, run_of};
+use spg_words::{RunLine, build_of, check_of, load_of, run_of};
 use std::alloc::{AllocError, Global};
 use std::process::Abort;
 use std::test::Fail;
@@ -121,12 +121,18 @@ fn clap_takes(alloc: Global, line: &[&str]) -> Result<bool, AllocError> {
     Ok(program(alloc)?.try_get_matches_from(line).is_ok())
 }
 
-/// Whether the program's own readers take it.
-fn is_taken(alloc: Global, line: &[&str]) -> Result<bool, AllocError> {
+/// The words of a line, without the program's name.
+fn words_of(alloc: Global, line: &[&str]) -> Result<Vec<String>, AllocError> {
     let mut words = Vec::new(alloc);
     for word in line.iter().skip(1) {
         words.push(String::from_str(alloc, word)?)?;
     }
+    Ok(words)
+}
+
+/// Whether the program's own readers take it.
+fn is_taken(alloc: Global, line: &[&str]) -> Result<bool, AllocError> {
+    let words = words_of(alloc, line)?;
     let words = words.as_slice();
     let reads = run_of(words).is_some() || build_of(words).is_some();
     Ok(reads || load_of(words).is_some() || check_of(words).is_some())
@@ -138,5 +144,19 @@ fn takes_what_clap_takes(rt: HostRuntime) -> Result<(), Fail> {
         let taken = is_taken(rt.alloc(), line)?;
         assert_eq!(rt; (line, taken), (line, clap_takes(rt.alloc(), line)?));
     }
+    Ok(())
+}
+
+/// A value is a word of its own, or stands behind the option's name.
+#[test]
+fn reads_a_value_both_ways(rt: HostRuntime) -> Result<(), Fail> {
+    let apart = words_of(rt.alloc(), &["spgist", "run", "--limit", "5"])?;
+    let joined = words_of(rt.alloc(), &["spgist", "run", "--limit=5"])?;
+    let wanted = Some(RunLine {
+        limit: 5,
+        from: None,
+    });
+    assert_eq!(rt; run_of(apart.as_slice()), wanted);
+    assert_eq!(rt; run_of(joined.as_slice()), wanted);
     Ok(())
 }
