@@ -1,5 +1,5 @@
 //! Pages that stand already: three chains that fill a leaf page, and empty pages before it.
-ghost use Rattle.std.specs.Prelude.{◌≡◌, ℕ, IsTrue, None as Nil, IfOk};
+ghost use Rattle.std.specs.Prelude.{◌≡◌, ℕ, IsTrue, None as Nil, IfOk, false};
 ghost use Rattle.spg_forest.specs.Sheets.{blank};
 ghost use Rattle.spg_tree.specs.Table.{latch_at, AreRoots};
 
