@@ -1,7 +1,7 @@
 use crate::pages::adopted;
 use crate::places::Stands;
 use crate::steps::{Step, is_so};
-use spg_base::SeatNo;
+use spg_base::{Memory, SeatNo};
 use spg_core::{InsertOut, VacuumOut};
 use std::process::Abort;
 use std::test::Fail;
@@ -140,9 +140,7 @@ const DIVIDED: [Step; 26] = [
 /// Makes the index and takes the steps, each of which comes out as it says.
 fn all_are_so<R: AllocGlobal + Abort>(rt: &R, steps: &[Step]) -> Result<(), Fail> {
     let mut state = adopted(rt.alloc())?;
-    let Some(second) = SeatNo::new(1) else {
-        return Ok(());
-    };
+    let second = SeatNo::new(1).ok_or(Memory)?;
     for (index, step) in steps.iter().enumerate() {
         let so = is_so(rt.alloc(), &mut state, second, step)?;
         assert_eq!(rt; (index, so), (index, true));
