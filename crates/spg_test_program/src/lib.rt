@@ -4,8 +4,6 @@
 #[cfg(test)]
 mod builds;
 #[cfg(test)]
-mod checks;
-#[cfg(test)]
 mod every_line;
 #[cfg(test)]
 mod faults;
