@@ -26,3 +26,4 @@ mod vacuum;
 
 pub use gate::Gate;
 pub use script::perform;
+pub use spg_served::Served;
