@@ -4,6 +4,8 @@
 #[cfg(test)]
 mod builds;
 #[cfg(test)]
+mod checks;
+#[cfg(test)]
 mod every_line;
 #[cfg(test)]
 mod faults;
