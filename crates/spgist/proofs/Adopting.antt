@@ -1,5 +1,6 @@
 -- A table that was built is adopted: no clause fails.
-use Rattle.std.proofs.Common.{◌≡◌, ◌<◌, inl, inr, ℕ, false, true, List, [], ◌∷◌, length, get_or, sym, ap, ◌∙◌, subst, arith}
+use Rattle.std.proofs.Common.{◌≡◌, ◌<◌, ◌≤◌, ◌+◌, ◌*◌, inl, inr, ℕ, false, true, List, [], ◌∷◌, length, get_or, sym, ap, ◌∙◌, subst, arith}
+use Rattle.std.specs.Prelude.{Result, Ok, Err, MatchResult}
 use Rattle.std.specs.List.{AllByRecursion}
 use Rattle.std.proofs.lemmas.List.{get_or_default}
 use Rattle.spg_opclass.specs.Meaning.{Meaning}
@@ -40,12 +41,21 @@ holds_entries O {Key} {Recon} {Cond} m S es once represents = record {
   entries = λ row key. let a = represents.entries row key in let b = built_present O Recon Cond es once row key in ((λ h. b.0 (a.0 h)), (λ h. a.1 (b.1 h)));
 }
 
-pub built_index : (O : Type 0) {Key Recon Cond : Type 0} (m : Meaning Key Recon Cond) (es : List (Entry Key)) (limit : ℕ) (t : Table) (seen : Seen O Key Recon Cond) → AreRowsOnce es → Represents m (sheets_of t) (IsPresentWith (built_past O Recon Cond es)) → IsAtRest t limit → IsAdopted m t seen
+pub built_index : (O : Type 0) {Key Recon Cond : Type 0} (m : Meaning Key Recon Cond) (es : List (Entry Key)) (limit : ℕ) (t : Table) (seen : Seen O Key Recon Cond) → AreRowsOnce es → Represents m (sheets_of t) (IsPresentWith (built_past O Recon Cond es)) → IsAtRest t limit → length t.pages ≤ 4 * length es + 3 → IsAdopted m t seen
     → IsBuilt m es limit seen
-built_index O m es limit t seen once represents at_rest adopted =
+built_index O m es limit t seen once represents at_rest few adopted =
     let same : t ≡ seen.table = sym adopted.loaded.table in
     record {
       represents = subst (λ (x : Table). Represents m (sheets_of x) (HasIn es)) same (holds_entries O m (sheets_of t) es once represents);
+      few = subst (λ (x : Table). length x.pages ≤ 4 * length es + 3) same few;
       at_rest = subst (λ (x : Table). IsAtRest x limit) same at_rest;
       adopted = subst (λ (x : Table). IsAdopted m x seen) same adopted;
     }
+
+-- ---- what a call that answers one of two tells of the one it answered
+
+pub of_ok : {T E : Type 0} (P : T → Type 0) (Q : E → Type 0) (came : Result T E) (t : T) → came ≡ Ok t → MatchResult came P Q → P t
+of_ok {T} {E} P Q came t is told = subst (λ (r : Result T E). MatchResult r P Q) is told
+
+pub of_err : {T E : Type 0} (P : T → Type 0) (Q : E → Type 0) (came : Result T E) (e : E) → came ≡ Err e → MatchResult came P Q → Q e
+of_err {T} {E} P Q came e is told = subst (λ (r : Result T E). MatchResult r P Q) is told
