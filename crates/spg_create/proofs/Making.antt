@@ -1,5 +1,5 @@
 -- A table that was built of entries, and its image.
-use Rattle.std.proofs.Common.{◌≡◌, ℕ, List, length, Option, Some, None, Result, Ok, refl, sym, ◌∙◌, subst}
+use Rattle.std.proofs.Common.{◌≡◌, ℕ, ◌+◌, ◌*◌, ◌≤◌, List, length, Option, Some, None, Result, Ok, refl, sym, ◌∙◌, subst}
 use Rattle.spg_opclass.specs.Meaning.{Meaning}
 use Rattle.spg_forest.specs.Shape.{Represents}
 use Rattle.spg_rows.specs.Present.{IsPresentWith}
@@ -19,13 +19,13 @@ use Rattle.spg_saved.proofs.Saved.{saved_verified}
 use Rattle.spg_create.specs.Creates.{most_pages, IsTableOf}
 use Rattle.spg_create.proofs.Lengths.{as_many_leaves}
 
-pub table_of : (O : Type 0) {Key Recon Cond : Type 0} (m : Meaning Key Recon Cond) (code : ℕ) (entries : List (Entry Key)) (table : Table) → AreRowsOnce entries → Represents m (sheets_of table) (IsPresentWith (built_past O Recon Cond entries)) → IsAtRest table most_pages → IsTableOf m code entries table
-table_of O {Key} {Recon} {Cond} m code entries table once represents at_rest =
+pub table_of : (O : Type 0) {Key Recon Cond : Type 0} (m : Meaning Key Recon Cond) (code : ℕ) (entries : List (Entry Key)) (table : Table) → AreRowsOnce entries → Represents m (sheets_of table) (IsPresentWith (built_past O Recon Cond entries)) → IsAtRest table most_pages → length table.pages ≤ 4 * length entries + 3 → IsTableOf m code entries table
+table_of O {Key} {Recon} {Cond} m code entries table once represents at_rest few =
     let whole : Represents m (sheets_of table) (HasIn entries) = record {
       shape = represents.shape;
       entries = λ row key. let a = represents.entries row key in let b = built_present O Recon Cond entries once row key in ((λ h. b.0 (a.0 h)), (λ h. a.1 (b.1 h)));
     } in
-    record { represents = represents_same m code table (HasIn entries) whole; at_rest = at_rest }
+    record { represents = represents_same m code table (HasIn entries) whole; at_rest = at_rest; few = few }
 
 -- the code is that of the class, and the result is known
 pub saved_as : (code of_class : ℕ) (table : Table) (old now : Option Holding) (name : List ℕ) (result known : Result ℕ SaveRefused) → code ≡ of_class → result ≡ known → Saves (image_of code table) old now name result → Saves (image_of of_class table) old now name known

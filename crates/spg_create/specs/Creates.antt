@@ -34,10 +34,11 @@ pub record AreKept {Key Cond : Type 0} (speech : Speech Key Cond) (inserts : Lis
   pub keeps : Keeps speech [] inserts entries skipped
   pub once : AreRowsOnce entries
 
--- a table of well formed pages that hold exactly these entries, as its image shows; nothing was counted, and there is no redirect
+-- a table of well formed pages that hold exactly these entries, as its image shows; nothing was counted, there is no redirect, and of pages there are few
 pub record IsTableOf {Key Recon Cond : Type 0} (m : Meaning Key Recon Cond) (code : ℕ) (entries : List (Entry Key)) (table : Table) : Type 0 where
   pub represents : Represents m (sheets_in (image_of code table)) (HasIn entries)
   pub at_rest : IsAtRest table most_pages
+  pub few : length table.pages ≤ 4 * length entries + 3
 
 -- the numbers of pages and entries of what was created, as `verify` tells them
 abbrev pub numbers_of : Created → Verified

@@ -1,4 +1,5 @@
 pub mod Nearest
+pub mod Builds
 pub use Rattle.spg_base.specs.Row
 pub use Rattle.spg_opclass.specs.Meaning
 pub use Rattle.spg_opclass.specs.Laws

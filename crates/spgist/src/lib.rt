@@ -2,16 +2,18 @@
 //! are. All that an embedder needs is here under one name; docs/EMBEDDING.md shows each call.
 //!
 //! An `Index` belongs to one owner, and its calls are whole: `insert`, `delete`, `find`, `vacuum`. `near` gives the rows
-//! nearest to a point, `save` and `load_index` write and read images. Threads share it by the crate `spg_share`. A class
-//! is `Quad` or `Kd` for points, `Radix` for texts, `Ranges` for ranges of whole numbers, or `With` one of these and a
-//! number beside each key; docs/CLASSES.md tells how another one is made.
+//! nearest to a point, `save` and `load_index` write and read images, `build_index` makes an index of many rows at once.
+//! Threads share it by the crate `spg_share`. A class is `Quad` or `Kd` for points, `Radix` for texts, `Ranges` for ranges
+//! of whole numbers, or `With` one of these and a number beside each key; docs/CLASSES.md tells how another one is made.
 #![tactic(auto)]
 
+mod builds;
 mod images;
 mod nearest;
 mod queries;
 mod texts;
 
+pub use builds::build_index;
 pub use images::load_index;
 pub use nearest::near;
 pub use queries::{DEFAULT_LIMIT, equal, one, prefix, within};

@@ -5,7 +5,7 @@ use Rattle.spg_create.proofs.whole.create.Goals as goal
 
 pub returns-in-Ok-save_table : goal.returns-in-Ok-save_table
 returns-in-Ok-save_table g c =
-    let made = table_of g.row.O.Denot g.O.OpClass.meaning g.O.OpClass.code_number c.in_ok-entries.entries c.in-Ok.table c.in_ok-entries.ensures.once c.in-Ok.ensures.represents c.in-Ok.ensures.at_rest in
+    let made = table_of g.row.O.Denot g.O.OpClass.meaning g.O.OpClass.code_number c.in_ok-entries.entries c.in-Ok.table c.in_ok-entries.ensures.once c.in-Ok.ensures.represents c.in-Ok.ensures.at_rest c.in-Ok.ensures.few in
     let saved = saved_as c.code.result g.O.OpClass.code_number c.in-Ok.table (g.M.Images.held c.args.images.now) (g.M.Images.held c.save_table.new.images) c.args.name.now c.save_table.result (Ok c.in-Ok-save_table.pages) c.code.ensures c.in-Ok-save_table.is c.save_table.ensures.saves in
     record {
       entries = c.in_ok-entries.entries;
@@ -25,7 +25,7 @@ returns-in-Err-ImageFault g c = (
     skipped = c.in_ok-entries.skipped;
     kept = record { keeps = c.in_ok-entries.ensures.keeps; once = c.in_ok-entries.ensures.once };
     table = c.in-Ok.table;
-    table_of = table_of g.row.O.Denot g.O.OpClass.meaning g.O.OpClass.code_number c.in_ok-entries.entries c.in-Ok.table c.in_ok-entries.ensures.once c.in-Ok.ensures.represents c.in-Ok.ensures.at_rest;
+    table_of = table_of g.row.O.Denot g.O.OpClass.meaning g.O.OpClass.code_number c.in_ok-entries.entries c.in-Ok.table c.in_ok-entries.ensures.once c.in-Ok.ensures.represents c.in-Ok.ensures.at_rest c.in-Ok.ensures.few;
     saved = saved_as c.code.result g.O.OpClass.code_number c.in-Ok.table (g.M.Images.held c.args.images.now) (g.M.Images.held c.save_table.new.images) c.args.name.now c.save_table.result (Err ImageFault) c.code.ensures (c.in-Err-ImageFault.is ∙ ap Err c.in-Err-ImageFault.field-0-is) c.save_table.ensures.saves;
     later = c.save_table.ensures.cause.later;
   },
@@ -38,7 +38,7 @@ returns g c = inr (record {
   skipped = c.in_ok-entries.skipped;
   kept = record { keeps = c.in_ok-entries.ensures.keeps; once = c.in_ok-entries.ensures.once };
   table = c.in-Ok.table;
-  table_of = table_of g.row.O.Denot g.O.OpClass.meaning g.O.OpClass.code_number c.in_ok-entries.entries c.in-Ok.table c.in_ok-entries.ensures.once c.in-Ok.ensures.represents c.in-Ok.ensures.at_rest;
+  table_of = table_of g.row.O.Denot g.O.OpClass.meaning g.O.OpClass.code_number c.in_ok-entries.entries c.in-Ok.table c.in_ok-entries.ensures.once c.in-Ok.ensures.represents c.in-Ok.ensures.at_rest c.in-Ok.ensures.few;
   saved = saved_as c.code.result g.O.OpClass.code_number c.in-Ok.table (g.M.Images.held c.args.images.now) (g.M.Images.held c.save_table.new.images) c.args.name.now c.save_table.result (Err Memory) c.code.ensures (c.in-Err-Memory-save_table.is ∙ ap Err c.in-Err-Memory-save_table.field-0-is) c.save_table.ensures.saves;
   later = c.save_table.ensures.cause.later;
 })
