@@ -7,10 +7,7 @@ use spg_script::{AnyCond, AnyKey, AnyQuery, Spoken};
 use std::alloc::Global;
 
 /// The class's key for a script's, or a null. None exactly where the class has no such key.
-pub(crate) fn key_in<O: Spoken>(
-    class: &O,
-    key: &Option<AnyKey>,
-) -> Result<Option<Option<O::Key>>, Memory>
+pub fn key_in<O: Spoken>(class: &O, key: &Option<AnyKey>) -> Result<Option<Option<O::Key>>, Memory>
     ensures { IfOk result (λ found. found ≡ key_or_null_in O.speech key.now) }
 {
     let Some(key) = key else {
@@ -41,7 +38,7 @@ fn conds_in<O: Spoken>(
 }
 
 /// The class's query for a script's. None exactly where the class lacks a condition.
-pub(crate) fn query_in<O: Spoken>(
+pub fn query_in<O: Spoken>(
     alloc: Global,
     class: &O,
     query: &AnyQuery,

@@ -24,6 +24,8 @@ mod stat;
 mod together;
 mod vacuum;
 
+pub use asking::{key_in, query_in};
+pub use book::Book;
 pub use gate::Gate;
 pub use script::perform;
 pub use spg_served::Served;

@@ -13,5 +13,6 @@ pub mod Reader
 pub mod Speaking
 pub mod Steps
 pub mod Inserts
+pub mod Sequences
 pub mod Refusal
 pub mod Generated

@@ -120,3 +120,8 @@ wanted_at lines n = wanted_in (spot_after Start (take (n - 1) lines)) (drop (n -
 abbrev pub insert_wanted : Wanted → List ℕ → Wanted
 insert_wanted wanted.ClassLine line = wanted.ClassLine
 insert_wanted other line = if starts_with nat_eq line (codes "insert ") then other else wanted.Insert
+
+-- in a script of commands outside lanes, where this is wanted in one of all commands
+abbrev pub standby_wanted : Wanted → List ℕ → Wanted
+standby_wanted wanted.ClassLine line = wanted.ClassLine
+standby_wanted other line = if starts_with nat_eq line (codes "insert ") || starts_with nat_eq line (codes "find ") || starts_with nat_eq line (codes "delete ") then other else wanted.StandbyCommand

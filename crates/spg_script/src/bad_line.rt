@@ -1,11 +1,11 @@
 ghost use Rattle.std.specs.Prelude.{◌≡◌, ◌-◌, [], slice_index_or, take, length};
 ghost use Rattle.spg_script.specs.Script.{lines_of};
-ghost use Rattle.spg_script.specs.Wanting.{line_at, wanted_at, insert_wanted};
+ghost use Rattle.spg_script.specs.Wanting.{line_at, wanted_at, insert_wanted, standby_wanted};
 
 use crate::lines::first_line;
 use crate::spot::Spot;
 use crate::wanted::Wanted;
-use crate::wanting::{end_wants, insert_wanted, line_wants};
+use crate::wanting::{end_wants, insert_wanted, line_wants, standby_wanted};
 use std::fmt;
 
 /// The most bytes of a line that are shown.
@@ -64,6 +64,20 @@ impl<'a> BadLine<'a> {
             number: bad.number,
             text: bad.text,
             wanted: insert_wanted(bad.wanted, bad.text),
+        }
+    }
+
+    /// The same of bytes that are no script for a standby.
+    pub fn of_standby(bytes: &'a [u8], number: u32) -> BadLine<'a>
+        ensures number { result.number ≡ number }
+        ensures text { result.text.now ≡ line_at (lines_of bytes.now) number }
+        ensures wanted { result.wanted ≡ standby_wanted (wanted_at (lines_of bytes.now) number) (line_at (lines_of bytes.now) number) }
+    {
+        let bad = BadLine::of(bytes, number);
+        BadLine {
+            number: bad.number,
+            text: bad.text,
+            wanted: standby_wanted(bad.wanted, bad.text),
         }
     }
 

@@ -7,6 +7,8 @@ pub enum Wanted {
     Command,
     /// An insert: a script of inserts has no other command.
     Insert,
+    /// A command of a script for a standby: one that inserts, deletes, finds or is a vacuum.
+    StandbyCommand,
     /// `lane` and `end` stand in a block alone.
     Together,
     /// A block begins with `lane`.
@@ -54,6 +56,7 @@ impl Wanted {
                 "insert, find, near, delete, vacuum, save, stat or together is wanted"
             }
             Wanted::Insert => "build: insert B.O KEY is wanted",
+            Wanted::StandbyCommand => "standby: insert, find, delete or vacuum is wanted",
             Wanted::Together => "lane and end stand behind together alone",
             Wanted::FirstLane => "together: lane is wanted",
             Wanted::LaneCommand => "insert, find, delete, vacuum, lane or end is wanted",

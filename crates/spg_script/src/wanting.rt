@@ -1,6 +1,6 @@
 ghost use Rattle.std.specs.Prelude.{◌≡◌, take};
 ghost use Rattle.spg_script.specs.Reading.{len_before};
-ghost use Rattle.spg_script.specs.Wanting.{first_word, last_corner, are_corners, insert_wants, cond_wants, conds_want, find_wants, command_wants, between_wants, lane_wants, line_wants, end_wants, insert_wanted};
+ghost use Rattle.spg_script.specs.Wanting.{first_word, last_corner, are_corners, insert_wants, cond_wants, conds_want, find_wants, command_wants, between_wants, lane_wants, line_wants, end_wants, insert_wanted, standby_wanted};
 
 use crate::bytes::{len_before, split};
 use crate::conditions::point_cond_then;
@@ -182,5 +182,19 @@ pub fn insert_wanted(wanted: Wanted, line: &[u8]) -> Wanted
         Wanted::ClassLine => Wanted::ClassLine,
         _ if line.starts_with(b"insert ") => wanted,
         _ => Wanted::Insert,
+    }
+}
+
+/// What is wanted in a script for a standby, where this is wanted in one of all commands.
+pub fn standby_wanted(wanted: Wanted, line: &[u8]) -> Wanted
+    ensures { result ≡ standby_wanted wanted line.now }
+{
+    match wanted {
+        Wanted::ClassLine => Wanted::ClassLine,
+        _
+            if line.starts_with(b"insert ")
+                || line.starts_with(b"find ")
+                || line.starts_with(b"delete ") => { wanted }
+        _ => Wanted::StandbyCommand,
     }
 }

@@ -109,6 +109,20 @@ module _ {O Key Recon Cond : Type 0} where
       subst (λ (n : ℕ). ScanRight m (past_at n journal) (past_at to journal) query closed.rows) (sym at)
       (subst (λ (n : ℕ). ScanRight m (past_at f.applied journal) (past_at n journal) query closed.rows) (sym till) (closes_from m f2 closed journal (scan_at f2 seat) f.applied query now C T))
 
+  from_before : (m : Meaning Key Recon Cond) (f : Standing O Key Recon Cond) (journal : List (Event O Key Recon Cond)) (seat from : ℕ) (query : Query O Key Recon Cond) → StandsAt m journal f → (slot : Option (Scanning O Key Recon Cond)) → scan_at f seat ≡ slot → ScansFrom from query slot → from ≤ f.applied
+  from_before m f journal seat from query T None e h = absurd h
+  from_before m f journal seat from query T (Some s) e (at, asks) = omega (arith, (T.scans seat s e).within, at)
+
+  -- it ended behind where it began
+  pub found_order : (m : Meaning Key Recon Cond) (f f1 f2 : Standing O Key Recon Cond) (journal : List (Event O Key Recon Cond)) (seat from to : ℕ) (query : Query O Key Recon Cond) → seat < length f.scans → f1 ≡ with_scan f seat (Some (opened m query f.applied f.table.clock)) → ReadsOn f1 f2 seat → StandsAt m journal f2
+      → from ≡ f.applied → to ≡ f2.applied → from ≤ to
+  found_order m f f1 f2 journal seat from to query low e R T at till =
+      let its : Scanning O Key Recon Cond = opened m query f.applied f.table.clock in
+      let here : scan_at f1 seat ≡ Some its = ap (λ (x : Standing O Key Recon Cond). scan_at x seat) e ∙ get_or-set_same f.scans seat (Some its) None low in
+      let was : ScansFrom f.applied query (Some its) = (refl, refl) in
+      let now : ScansFrom f.applied query (scan_at f2 seat) = R.here f.applied query (subst (ScansFrom f.applied query) (sym here) was) in
+      omega (arith, from_before m f2 journal seat f.applied query T (scan_at f2 seat) refl now, at, till)
+
 -- how far behind the primary's journal the standby is
 caught_up : {O Key Recon Cond : Type 0} (m : Meaning Key Recon Cond) (primary : Seen O Key Recon Cond) (standby : Standing O Key Recon Cond) (steps : List Step) → IsPaired m primary standby steps → length steps ≡ 0 → standby.applied ≡ length primary.journal
 caught_up m primary standby [] P none = P.leads.1

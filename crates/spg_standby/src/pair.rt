@@ -118,6 +118,8 @@ impl<O: OpClass> Pair<O> {
     /// primary stays as it is.
     pub fn find(&mut self, query: Query<O>) -> Result<(Closed, Span), Memory>
         ensures found { IfOk result (λ found. Finds O.meaning self.new.primary.journal query found.0 found.1) }
+        ensures order { IfOk result (λ found. found.1.from ≤ found.1.to) }
+        ensures within { IfOk result (λ found. found.1.to ≤ length self.new.primary.journal) }
         ensures from { IfOk result (λ found. found.1.from ≡ self.old.follower.applied) }
         ensures to { IfOk result (λ found. found.1.to ≡ self.new.follower.applied) }
         ensures behind { IfOk result (λ found. IsBehind self.old.primary.journal found.1.from (length self.old.queue)) }
@@ -148,9 +150,10 @@ impl<O: OpClass> Pair<O> {
         self.primary
     }
 
-    /// The primary.
+    /// The primary, which has nothing open.
     pub fn primary(&self) -> &State<O>
-        ensures { result.now ≡ self.now.primary }
+        ensures value { result.now ≡ self.now.primary }
+        ensures closed { AllClosed (past_of result.now) }
     {
         &self.primary
     }

@@ -73,11 +73,11 @@ page_limit_named word n is =
     let small : n < 2 ^ 32 = omega (arith, is.most) in
     ap page_limit is.spelled ∙ rw (number_of-decimal n small, le-leb 4 n is.least, le-leb n 131072 is.most) refl
 
-limit_tells : (o : Option (List ℕ)) (n : ℕ) → limit_in o ≡ Some n → LimitIs n o
+pub limit_tells : (o : Option (List ℕ)) (n : ℕ) → limit_in o ≡ Some n → LimitIs n o
 limit_tells None n is = sym (same_Some 65536 n is)
 limit_tells (Some word) n is = page_limit_tells word n is
 
-limit_named : (o : Option (List ℕ)) (n : ℕ) → LimitIs n o → limit_in o ≡ Some n
+pub limit_named : (o : Option (List ℕ)) (n : ℕ) → LimitIs n o → limit_in o ≡ Some n
 limit_named None n is = ap Some (sym is)
 limit_named (Some word) n is = page_limit_named word n is
 

@@ -8,7 +8,8 @@ use Rattle.spg_io.specs.Names.{is_name}
 use Rattle.spg_words.specs.declared.load.Load.{Load}
 use Rattle.spg_words.specs.declared.run_line.RunLine.{RunLine}
 use Rattle.spg_words.specs.declared.build_line.BuildLine.{BuildLine}
-use Rattle.spg_words.specs.Numbers.{fewest_pages, most_pages, usual_pages, most_rows, most_seed, most_lanes, usual_lanes, most_workers, usual_workers}
+use Rattle.spg_words.specs.declared.standby_line.StandbyLine.{StandbyLine}
+use Rattle.spg_words.specs.Numbers.{fewest_pages, most_pages, usual_pages, most_rows, most_seed, most_lanes, usual_lanes, most_workers, usual_workers, most_lag}
 use Rattle.spg_words.specs.Reading.{◌>>=◌, Held, word_in, behind}
 
 -- ---- `run`
@@ -115,3 +116,21 @@ build_in h = if (is_some h.second || (is_some h.limit || is_some h.from)) || (is
 
 abbrev pub build_of : List (List ℕ) → Option Build
 build_of words = behind (codes "build") words >>= λ h. build_in h
+
+-- ---- `standby`
+
+abbrev pub lag_named : List ℕ → Option ℕ
+lag_named word = number_of word >>= λ n. if nat_le n most_lag then Some n else None
+
+abbrev pub lag_in : Option (List ℕ) → Option ℕ
+lag_in None = None
+lag_in (Some word) = lag_named word
+
+abbrev pub with_limit : ℕ → Option (List ℕ) → Option StandbyLine
+with_limit lag option = limit_in option >>= λ n. Some (record { lag = lag; limit = n })
+
+abbrev pub standby_in : Held → Option StandbyLine
+standby_in h = if (is_some h.second || is_some h.from) || ((is_some h.lanes || is_some h.class) || is_some h.workers) then None else (lag_in h.first >>= λ lag. with_limit lag h.limit)
+
+abbrev pub standby_of : List (List ℕ) → Option StandbyLine
+standby_of words = behind (codes "standby") words >>= λ h. standby_in h

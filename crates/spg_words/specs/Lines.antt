@@ -5,7 +5,7 @@ use Rattle.spg_script.specs.declared.class_name.ClassName.{ClassName}
 use Rattle.spg_script.specs.declared.class_name.ClassName.TheVariants.{Quad, Kd, Radix}
 use Rattle.spg_io.specs.Names.{is_name}
 use Rattle.spg_words.specs.declared.load.Load.{Load}
-use Rattle.spg_words.specs.Numbers.{fewest_pages, most_pages, usual_pages, most_rows, most_seed, most_lanes, usual_lanes, most_workers, usual_workers}
+use Rattle.spg_words.specs.Numbers.{fewest_pages, most_pages, usual_pages, most_rows, most_seed, most_lanes, usual_lanes, most_workers, usual_workers, most_lag}
 use Rattle.spg_words.specs.Parts.{Given, value_of, Asks}
 
 -- ---- `run`
@@ -106,3 +106,14 @@ pub record IsBuildLine (name : List ℕ) (workers : ℕ) (words : List (List ℕ
   pub asks : Asks (codes "workers" ∷ []) behind (name ∷ []) options
   pub named : is_name name ≡ true
   pub workers_are : WorkersAre workers (value_of (codes "workers") options)
+
+-- ---- `standby`
+
+-- the words ask to run a script with a standby that is so many records behind at most, over an index of this limit: `standby` and the lag, and the option `--limit` at most
+pub record IsStandbyLine (lag limit : ℕ) (words : List (List ℕ)) : Type 0 where
+  pub behind : List (List ℕ)
+  pub options : List Given
+  pub command : words ≡ codes "standby" ∷ behind
+  pub asks : Asks (codes "limit" ∷ []) behind (decimal lag ∷ []) options
+  pub in_range : lag ≤ most_lag
+  pub limit_is : LimitIs limit (value_of (codes "limit") options)

@@ -30,3 +30,7 @@ most_workers = 16
 
 abbrev pub usual_workers : ℕ
 usual_workers = 4
+
+-- how many records a standby is behind at most
+abbrev pub most_lag : ℕ
+most_lag = 1000

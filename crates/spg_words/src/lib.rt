@@ -8,6 +8,7 @@ mod load;
 mod load_line;
 mod option_name;
 mod run_line;
+mod standby_line;
 mod words;
 
 pub use build_line::{BuildLine, build_of};
@@ -16,3 +17,4 @@ pub use laws::lines_are_exact;
 pub use load::Load;
 pub use load_line::load_of;
 pub use run_line::{RunLine, USUAL_PAGES, run_of};
+pub use standby_line::{StandbyLine, standby_of};

@@ -30,7 +30,7 @@ fn page_limit(word: &[u8]) -> Option<u32>
 }
 
 /// The limit that an option names, or the usual one.
-fn limit_in(option: Option<&[u8]>) -> Option<u32>
+pub(crate) fn limit_in(option: Option<&[u8]>) -> Option<u32>
     ensures value { result ≡ limit_in (word_in option.entry) }
     ensures in_range { IfSome result (λ n. (fewest_pages ≤ n) × (n ≤ most_pages)) }
 {
