@@ -90,11 +90,9 @@ module _ {O Recon Cond : Type 0} (m : Meaning Point Recon Cond) where
       let (t, target, recon) = D.scan.spots.sheltered (i, 0) it.place (Some it.recon) (held it.place (Some it.recon), item_at n.items i it at, (refl, refl, refl)) in
       D.boxes i it row life key at (changes_below m S S2 n.stamp it.place t target row before past by touched since life legal later D.scan.stamp P put b) put is
 
-  abbrev WholeStays : Type 0
-  WholeStays = (S S2 : Sheets) (past es before : History O Point Recon Cond) (n : Nearing Recon) (guard : Query O Point Recon Cond) (seat by : ℕ) (touched : List ℕ) (since : ℕ) →
+  whole_stays : (S S2 : Sheets) (past es before : History O Point Recon Cond) (n : Nearing Recon) (guard : Query O Point Recon Cond) (seat by : ℕ) (touched : List ℕ) (since : ℕ) →
       IsLegal (es ++ past) → open_of seat past ≡ scanning before guard → since ≤ n.stamp → ChangesPages m past by S S2 touched since → IsWholeOf m S before past n → IsWholeOf m S2 before (es ++ past) n
 
-  whole_stays : WholeStays
   whole_stays S S2 past es before n guard seat by touched since legal scans later P D =
       let a = scan_before past before guard seat scans in
       let earlier : length before ≤ length past = omega arith in

@@ -1,5 +1,5 @@
 -- Rows that are kept of those found, since they may be given.
-use Rattle.std.proofs.Common.{◌≡◌, ◌<◌, ◌≤◌, ◌+◌, ◌++◌, ⊎_elim, inl, inr, ℕ, Bool, true, false, List, [], ◌∷◌, Option, Some, None, Contains, length, refl, sym, ap, ◌∙◌, subst, arith, append_assoc, append-nil}
+use Rattle.std.proofs.Common.{◌≡◌, ◌<◌, ◌≤◌, ◌+◌, ◌++◌, ◌⊎◌, ⊎_elim, inl, inr, ℕ, Bool, true, false, List, [], ◌∷◌, Option, Some, None, Contains, length, refl, sym, ap, ◌∙◌, subst, arith, append_assoc, append-nil}
 use Rattle.std.specs.Prelude.{if◌then◌else◌, IsPermutation}
 use Rattle.std.proofs.lemmas.Bool.{cases_lt}
 use Rattle.std.proofs.lemmas.List.Elements.{Contains-append_cases}
@@ -13,10 +13,10 @@ use Rattle.spg_rows.specs.Table as rows
 use Rattle.spg_scan.specs.Scanning.{is_live}
 use Rattle.spg_scan.proofs.CoverNodes.{contains_here, contains_behind, contains_cases, contains_none}
 use Rattle.spg_near.specs.declared.near_row.NearRow.{NearRow}
-use Rattle.spg_near.specs.Boxes.{distance}
+use Rattle.spg_near.specs.Boxes.{distance, bound_of}
 use Rattle.spg_near.specs.Nearing.{NearItem, Nearing, Boxing, NearSpot, LeafSpot, IsBefore, IsDone, nearer_than, near_row, near_rows, near_leaves, live_of}
-use Rattle.spg_near.specs.Best.{AreBest, AreHits, AreNeeded}
-use Rattle.spg_near.proofs.NearCounts.{one, few_near, far_last}
+use Rattle.spg_near.specs.Best.{AreBest, AreHits, AreNeeded, KeepsLive}
+use Rattle.spg_near.proofs.NearCounts.{one, few_near, far_last, enough_near}
 use Rattle.spg_near.proofs.NearOrder.{not_both, nearer}
 
 -- ---- counts
@@ -65,6 +65,13 @@ needed_then limit before live kept live2 kept2 A B = record {
       (⊎_elim (λ a. more_near limit h.distance (before ++ kept) kept2 (A.enough h a)) (λ b. B.enough h b) (Contains-append_cases A.others B.others h c));
 }
 
+pub kept_then : (limit : ℕ) (found found2 found3 live live2 : List NearRow) → KeepsLive limit found found2 live → KeepsLive limit found2 found3 live2 → KeepsLive limit found found3 (live ++ live2)
+kept_then limit found found2 found3 live live2 (kept, is, A) (kept2, is2, B) = (
+  kept ++ kept2,
+  is2 ∙ ap (λ z. z ++ kept2) is ∙ append_assoc found kept kept2,
+  needed_then limit found live kept live2 kept2 A (subst (λ z. AreNeeded limit z live2 kept2) is B),
+)
+
 pub kept_in : (limit : ℕ) (before live kept : List NearRow) → AreNeeded limit before live kept → (h : NearRow) → Contains kept h → Contains live h
 kept_in limit before live kept A h c = Contains-permutation (kept ++ A.others) live h (IsPermutation-sym live (kept ++ A.others) A.all) (in_left h kept A.others c)
 
@@ -109,7 +116,7 @@ module _ (limit : ℕ) (all found : List NearRow) (A : AreNeeded limit [] all fo
 
 pub done_of_all : {Recon : Type 0} (n : Nearing Recon) (all : List NearRow) → AreNeeded n.limit [] all n.found → IsDone n → IsDone (record n { found = all })
 done_of_all n all A (inl none) = inl none
-done_of_all n all A (inr far) = inr (λ i it e. let a = far i it e in let b = counted_all n.limit all n.found A _ in omega arith)
+done_of_all n all A (inr far) = inr (λ i it e. let a = far i it e in let b : nearer_than (bound_of n.target it.area) n.found ≤ nearer_than (bound_of n.target it.area) all = counted_all n.limit all n.found A (bound_of n.target it.area) in omega (arith, a, b))
 
 -- ---- the live rows of leaves
 
@@ -137,3 +144,24 @@ live_spot m boxing table target it (Branch w ns) ys leaves (a, b) = (a, ap (live
 live_spot m boxing table target it (Bucket ls) ys leaves (a, b) = (a, ap (live_of table) b ∙ live_leaves m table target it.recon ls)
 live_spot m boxing table target it (Forward y u) ys leaves (a, b) = (a, ap (live_of table) b)
 live_spot m boxing table target it Nothing ys leaves h = absurd h
+
+-- ---- one leaf
+
+module _ {O Recon Cond : Type 0} (limit : ℕ) (before : List NearRow) (table : rows.Table O Point Recon Cond) (leaf : NearRow) where
+  pub leaf_kept : live_of table (leaf ∷ []) ≡ leaf ∷ [] → KeepsLive limit before (before ++ leaf ∷ []) (live_of table (leaf ∷ []))
+  leaf_kept is = (leaf ∷ [], refl, subst (λ z. AreNeeded limit before z (leaf ∷ [])) (sym is) (needed_whole limit before (leaf ∷ [])))
+
+  only_leaf : (h : NearRow) → Contains (live_of table (leaf ∷ [])) h → leaf ≡ h
+  only_leaf h = at_state (is_live (rows.state_in table leaf.row))
+    where
+      at_state : (live : Bool) → Contains ((if live then leaf ∷ [] else []) ++ []) h → leaf ≡ h
+      at_state true c = ⊎_elim (λ e. e) (λ d. absurd (contains_none h d)) (contains_cases leaf h [] c)
+      at_state false c = absurd (contains_none h c)
+
+  pub leaf_left : (best : List NearRow) → AreBest limit before best → (live_of table (leaf ∷ []) ≡ []) ⊎ ((length best ≡ limit) × ((h : NearRow) → Contains best h → h.distance < leaf.distance)) → KeepsLive limit before before (live_of table (leaf ∷ []))
+  leaf_left best B (inl none) = ([], sym (append-nil before), subst (λ z. AreNeeded limit before z []) (sym none) (needed_none limit before))
+  leaf_left best B (inr (full, near)) = (
+    [],
+    sym (append-nil before),
+    needed_left limit before (live_of table (leaf ∷ [])) (λ h c. subst (λ (z : NearRow). limit ≤ nearer_than z.distance before) (only_leaf h c) (enough_near limit before best B leaf.distance full near)),
+  )

@@ -13,7 +13,8 @@ pub(crate) struct Case {
     pub(crate) between: &'static [Turn],
     pub(crate) count: Option<usize>,
     pub(crate) rows: &'static [(u16, u128)],
-    pub(crate) stats: [(u64, u64); 2],
+    pub(crate) quad: (u64, u64),
+    pub(crate) kd: (u64, u64),
 }
 
 /// Four lines of points, in a quad tree four chains of one inner tuple: the first of 30 points.
@@ -130,7 +131,8 @@ pub(crate) const CASES: [Case; 18] = [
         between: &[],
         count: Some(3),
         rows: &[(10, 1), (9, 4), (8, 9)],
-        stats: [(0, 0), (0, 0)],
+        quad: (0, 0),
+        kd: (0, 0),
     },
     // Equal points: rows decide, and not the order of inserts.
     Case {
@@ -162,7 +164,8 @@ pub(crate) const CASES: [Case; 18] = [
         between: &[],
         count: Some(2),
         rows: &[(1, 0), (3, 0)],
-        stats: [(0, 0), (0, 0)],
+        quad: (0, 0),
+        kd: (0, 0),
     },
     // One null, and no point.
     Case {
@@ -172,7 +175,8 @@ pub(crate) const CASES: [Case; 18] = [
         between: &[],
         count: Some(0),
         rows: &[],
-        stats: [(0, 0), (0, 0)],
+        quad: (0, 0),
+        kd: (0, 0),
     },
     // The corners of the plane and a null; more are wanted than there are.
     Case {
@@ -212,7 +216,8 @@ pub(crate) const CASES: [Case; 18] = [
         between: &[Turn::Wait],
         count: Some(4),
         rows: &[(4, 0), (2, 18446744065119617025), (3, 18446744065119617025), (1, 36893488130239234050)],
-        stats: [(0, 0), (0, 0)],
+        quad: (0, 0),
+        kd: (0, 0),
     },
     // A line of points in many chains.
     Case {
@@ -228,7 +233,8 @@ pub(crate) const CASES: [Case; 18] = [
         between: &[],
         count: Some(4),
         rows: &[(11, 0), (10, 1), (12, 1), (9, 4)],
-        stats: [(3, 2), (2, 1)],
+        quad: (3, 2),
+        kd: (2, 1),
     },
     // A tuple that is all-the-same.
     Case {
@@ -244,7 +250,8 @@ pub(crate) const CASES: [Case; 18] = [
         between: &[Turn::Wait, Turn::Wait],
         count: Some(3),
         rows: &[(1, 1), (2, 1), (3, 1)],
-        stats: [(1, 4), (2, 1)],
+        quad: (1, 4),
+        kd: (2, 1),
     },
     // A nearer point is inserted below it after it was read.
     Case {
@@ -269,7 +276,8 @@ pub(crate) const CASES: [Case; 18] = [
         ],
         count: Some(3),
         rows: &[(600, 0), (1, 1), (2, 1)],
-        stats: [(1, 4), (2, 1)],
+        quad: (1, 4),
+        kd: (2, 1),
     },
     // Four chains. Nobody else works.
     Case {
@@ -279,7 +287,8 @@ pub(crate) const CASES: [Case; 18] = [
         between: &[],
         count: Some(4),
         rows: &[(11, 0), (10, 1), (12, 1), (9, 4)],
-        stats: [(1, 1), (2, 1)],
+        quad: (1, 1),
+        kd: (2, 1),
     },
     // The nearest chain, which is held, moves.
     Case {
@@ -298,17 +307,28 @@ pub(crate) const CASES: [Case; 18] = [
         ],
         count: Some(4),
         rows: &[(11, 0), (10, 1), (12, 1), (610, 1)],
-        stats: [(1, 2), (2, 1)],
+        quad: (1, 2),
+        kd: (2, 1),
     },
     // The same, and a vacuum comes between the move and the read.
     Case {
         before: &CHAINS,
         target: Point { x: 1010, y: 1000 },
         limit: 4,
-        between: &[Turn::Wait, Turn::MoveAndVacuum],
+        between: &[
+            Turn::Wait,
+            Turn::InsertAndVacuum {
+                row: 600,
+                x: 1000,
+                y: 1001,
+                by: 1,
+                count: 40,
+            },
+        ],
         count: Some(4),
         rows: &[(11, 0), (10, 1), (12, 1), (610, 1)],
-        stats: [(1, 1), (2, 0)],
+        quad: (1, 1),
+        kd: (2, 0),
     },
     // Points come nearer, and neither moves nor divides anything.
     Case {
@@ -327,7 +347,8 @@ pub(crate) const CASES: [Case; 18] = [
         ],
         count: Some(4),
         rows: &[(11, 0), (600, 0), (601, 0), (10, 1)],
-        stats: [(1, 1), (2, 1)],
+        quad: (1, 1),
+        kd: (2, 1),
     },
     // Four chains, the nearest of 100 points. Nobody else works.
     Case {
@@ -337,7 +358,8 @@ pub(crate) const CASES: [Case; 18] = [
         between: &[],
         count: Some(4),
         rows: &[(11, 0), (10, 1), (12, 1), (9, 4)],
-        stats: [(1, 1), (2, 1)],
+        quad: (1, 1),
+        kd: (2, 1),
     },
     // The nearest chain, which is held, is divided.
     Case {
@@ -356,7 +378,8 @@ pub(crate) const CASES: [Case; 18] = [
         ],
         count: Some(4),
         rows: &[(11, 0), (10, 1), (12, 1), (610, 1)],
-        stats: [(2, 2), (3, 2)],
+        quad: (2, 2),
+        kd: (3, 2),
     },
     // The same, and a vacuum comes before the last reads: it leaves the redirect of that division.
     Case {
@@ -376,7 +399,8 @@ pub(crate) const CASES: [Case; 18] = [
         ],
         count: Some(4),
         rows: &[(11, 0), (10, 1), (12, 1), (610, 1)],
-        stats: [(2, 1), (3, 1)],
+        quad: (2, 1),
+        kd: (3, 1),
     },
     // Deleted rows are vacuumed.
     Case {
@@ -386,7 +410,8 @@ pub(crate) const CASES: [Case; 18] = [
         between: &[Turn::Vacuum],
         count: Some(3),
         rows: &[(10, 1), (12, 1), (9, 4)],
-        stats: [(1, 0), (2, 0)],
+        quad: (1, 0),
+        kd: (2, 0),
     },
     // The same, and one more is deleted before its chain is read.
     Case {
@@ -396,7 +421,8 @@ pub(crate) const CASES: [Case; 18] = [
         between: &[Turn::Vacuum, Turn::Kill { row: 10 }],
         count: Some(3),
         rows: &[(12, 1), (9, 4), (13, 4)],
-        stats: [(1, 0), (2, 0)],
+        quad: (1, 0),
+        kd: (2, 0),
     },
     // More are wanted than the nearest chain has.
     Case {
@@ -406,7 +432,8 @@ pub(crate) const CASES: [Case; 18] = [
         between: &[Turn::Wait, Turn::Vacuum],
         count: Some(31),
         rows: &[(11, 0), (10, 1), (12, 1), (9, 4)],
-        stats: [(1, 0), (2, 0)],
+        quad: (1, 0),
+        kd: (2, 0),
     },
     // Another seat inserts, and holds the root.
     Case {
@@ -426,6 +453,7 @@ pub(crate) const CASES: [Case; 18] = [
         }],
         count: None,
         rows: &[],
-        stats: [(0, 0), (0, 0)],
+        quad: (0, 0),
+        kd: (0, 0),
     },
 ];

@@ -104,10 +104,8 @@ fn is_right(came: &Option<Came>, case: &Case, stats: (u64, u64)) -> bool {
 #[test]
 fn gives_the_nearest_whatever_others_do(rt: HostRuntime) -> Result<(), Fail> {
     for case in &CASES {
-        let quad = run(rt.alloc(), Quad, case)?;
-        println!(&rt; "{} Q {quad:?}", is_right(&quad, case, case.stats[0]))?;
-        let kd = run(rt.alloc(), Kd, case)?;
-        println!(&rt; "{} K {kd:?}", is_right(&kd, case, case.stats[1]))?;
+        assert!(rt; is_right(&run(rt.alloc(), Quad, case)?, case, case.quad));
+        assert!(rt; is_right(&run(rt.alloc(), Kd, case)?, case, case.kd));
     }
     Ok(())
 }

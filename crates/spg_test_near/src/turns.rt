@@ -1,4 +1,6 @@
 // What another seat does between two reads of a search.
+ghost use Rattle.spg_test_near.specs.Works.{Works};
+
 use spg_base::{Point, Row, SeatNo};
 use spg_core::{InsertOut, OpenKind, State, VacuumOut};
 use spg_opclass::OpClass;
@@ -25,8 +27,14 @@ pub enum Turn {
     Kill { row: u16 },
     /// It vacuums, to the end.
     Vacuum,
-    /// It inserts rows 1.600 to 1.639 at (1000, 1001) and on, and vacuums.
-    MoveAndVacuum,
+    /// It inserts the points of a line, and vacuums.
+    InsertAndVacuum {
+        row: u16,
+        x: i32,
+        y: i32,
+        by: i32,
+        count: u16,
+    },
 }
 
 /// Row 1.N. There is no row 1.0.
@@ -35,7 +43,9 @@ pub(crate) fn row_of(number: u16) -> Row {
 }
 
 /// Opens an insert. False where that is refused.
-fn open<O: OpClass>(state: &mut State<O>, by: SeatNo, row: Row, key: Option<O::Key>) -> bool {
+fn open<O: OpClass>(state: &mut State<O>, by: SeatNo, row: Row, key: Option<O::Key>) -> bool
+    ensures { Works O.meaning by state.old state.new }
+{
     match state.open_of(by) {
         OpenKind::Nothing => match state.open_insert(by, row, key) {
             Ok(()) => true,
@@ -46,7 +56,9 @@ fn open<O: OpClass>(state: &mut State<O>, by: SeatNo, row: Row, key: Option<O::K
 }
 
 /// The next section of an insert. None where it is refused.
-fn step<O: OpClass>(state: &mut State<O>, by: SeatNo) -> Option<InsertOut> {
+fn step<O: OpClass>(state: &mut State<O>, by: SeatNo) -> Option<InsertOut>
+    ensures { Works O.meaning by state.old state.new }
+{
     match state.open_of(by) {
         OpenKind::Insert => match state.insert_step(by) {
             Ok(out) => Some(out),
@@ -57,7 +69,9 @@ fn step<O: OpClass>(state: &mut State<O>, by: SeatNo) -> Option<InsertOut> {
 }
 
 /// Sections of an insert until its row is put. False where it is refused or sent back.
-fn put<O: OpClass>(state: &mut State<O>, by: SeatNo) -> bool {
+fn put<O: OpClass>(state: &mut State<O>, by: SeatNo) -> bool
+    ensures { Works O.meaning by state.old state.new }
+{
     for _ in 0..100 {
         match step(state, by) {
             Some(InsertOut::Put) => return true,
@@ -69,7 +83,9 @@ fn put<O: OpClass>(state: &mut State<O>, by: SeatNo) -> bool {
 }
 
 /// Deletes a row. False where it is not live.
-fn kill<O: OpClass>(state: &mut State<O>, by: SeatNo, row: Row) -> bool {
+fn kill<O: OpClass>(state: &mut State<O>, by: SeatNo, row: Row) -> bool
+    ensures { Works O.meaning by state.old state.new }
+{
     match state.open_of(by) {
         OpenKind::Nothing => match state.kill(by, row) {
             Ok(killed) => killed,
@@ -80,7 +96,9 @@ fn kill<O: OpClass>(state: &mut State<O>, by: SeatNo, row: Row) -> bool {
 }
 
 /// Opens a vacuum. False where that is refused.
-fn open_vacuum<O: OpClass>(state: &mut State<O>, by: SeatNo) -> bool {
+fn open_vacuum<O: OpClass>(state: &mut State<O>, by: SeatNo) -> bool
+    ensures { Works O.meaning by state.old state.new }
+{
     match state.open_of(by) {
         OpenKind::Nothing => match state.open_vacuum(by) {
             Ok(()) => true,
@@ -91,7 +109,9 @@ fn open_vacuum<O: OpClass>(state: &mut State<O>, by: SeatNo) -> bool {
 }
 
 /// The next section of a vacuum. None where it is refused.
-fn sweep<O: OpClass>(state: &mut State<O>, by: SeatNo) -> Option<VacuumOut> {
+fn sweep<O: OpClass>(state: &mut State<O>, by: SeatNo) -> Option<VacuumOut>
+    ensures { Works O.meaning by state.old state.new }
+{
     match state.open_of(by) {
         OpenKind::Vacuum => match state.vacuum_step(by) {
             Ok(out) => Some(out),
@@ -102,7 +122,9 @@ fn sweep<O: OpClass>(state: &mut State<O>, by: SeatNo) -> Option<VacuumOut> {
 }
 
 /// Sections of a vacuum to its end. False where it is refused or comes to a latched block.
-fn sweep_all<O: OpClass>(state: &mut State<O>, by: SeatNo) -> bool {
+fn sweep_all<O: OpClass>(state: &mut State<O>, by: SeatNo) -> bool
+    ensures { Works O.meaning by state.old state.new }
+{
     for _ in 0..1_000 {
         match sweep(state, by) {
             Some(VacuumOut::Finished { .. }) => return true,
@@ -114,7 +136,9 @@ fn sweep_all<O: OpClass>(state: &mut State<O>, by: SeatNo) -> bool {
 }
 
 /// Inserts a key. False where it is refused or sent back.
-fn insert<O: OpClass>(state: &mut State<O>, by: SeatNo, row: Row, key: Option<O::Key>) -> bool {
+fn insert<O: OpClass>(state: &mut State<O>, by: SeatNo, row: Row, key: Option<O::Key>) -> bool
+    ensures { Works O.meaning by state.old state.new }
+{
     open(state, by, row, key) && put(state, by)
 }
 
@@ -126,7 +150,9 @@ fn insert_line<O: OpClass<Key = Point>>(
     from: Point,
     by: i32,
     count: u16,
-) -> bool {
+) -> bool
+    ensures { Works O.meaning seat state.old state.new }
+{
     let mut point = from;
     for index in 0..count {
         if !insert(state, seat, row_of(row.wrapping_add(index)), Some(point)) {
@@ -137,12 +163,21 @@ fn insert_line<O: OpClass<Key = Point>>(
     true
 }
 
+/// Vacuums. False where that is refused or comes to a latched block.
+fn vacuum<O: OpClass>(state: &mut State<O>, by: SeatNo) -> bool
+    ensures { Works O.meaning by state.old state.new }
+{
+    open_vacuum(state, by) && sweep_all(state, by)
+}
+
 /// Takes a turn. False where it could not be done.
 pub(crate) fn take_turn<O: OpClass<Key = Point>>(
     state: &mut State<O>,
     seat: SeatNo,
     turn: Turn,
-) -> bool {
+) -> bool
+    ensures { Works O.meaning seat state.old state.new }
+{
     match turn {
         Turn::Wait => true,
         Turn::Insert {
@@ -157,7 +192,13 @@ pub(crate) fn take_turn<O: OpClass<Key = Point>>(
             open(state, seat, row_of(row), Some(Point { x, y })) && step(state, seat).is_some()
         }
         Turn::Kill { row } => kill(state, seat, row_of(row)),
-        Turn::Vacuum => open_vacuum(state, seat) && sweep_all(state, seat),
-        Turn::MoveAndVacuum => insert_line(state, seat, 600, Point { x: 1000, y: 1001 }, 1, 40) && open_vacuum(state, seat) && sweep_all(state, seat),
+        Turn::Vacuum => vacuum(state, seat),
+        Turn::InsertAndVacuum {
+            row,
+            x,
+            y,
+            by,
+            count,
+        } => insert_line(state, seat, row, Point { x, y }, by, count) && vacuum(state, seat),
     }
 }

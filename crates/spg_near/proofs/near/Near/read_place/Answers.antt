@@ -6,7 +6,7 @@ use Rattle.spg_forest.specs.Shape.{spots}
 use Rattle.spg_tree.specs.Table.{sheets_of, latch_at}
 use Rattle.spg_scan.proofs.Readings.{other_some, other_none}
 use Rattle.spg_near.specs.Held.{item_of}
-use Rattle.spg_near.specs.Nearing.{NearSpot, LeafSpot, near_replaced, live_of}
+use Rattle.spg_near.specs.Nearing.{NearItem, NearSpot, LeafSpot, near_replaced, live_of}
 use Rattle.spg_near.proofs.Looks.{block_there}
 use Rattle.spg_near.proofs.Needed.{live_spot, needed_whole}
 use Rattle.spg_near.proofs.NearFields.{item_here}
@@ -54,7 +54,7 @@ returns-in_ok-take-in-None-clause-ok g c =
     let live = live_of c.args.rows.now leaves in
     let here : slice_get now.items c.args.item ≡ Some (item_of w) = item_here s.target s.limit s.at s.stamp s.items.items s.found.items s.met c.args.item now c.self.view_is w c.index-held.ensures c.requires.item in
     let gives : LeafSpot m g.O.NearClass.box_below now.target (item_of w) (spots S w.place) kids leaves = subst (λ (p : Point). LeafSpot m g.O.NearClass.box_below p (item_of w) (spots S w.place) kids leaves) (ap (λ z. z.target) c.self.view_is) c.in_ok-step-in-None.ensures.gives in
-    let free = λ it by a e.
+    let free : (it : NearItem _) (by : ℕ) → slice_get now.items c.args.item ≡ Some it → latch_at c.args.table.now it.place.block ≡ Some by → by ≡ c.args.seat = λ it by a e.
         let one : Some it ≡ Some (item_of w) = sym a ∙ here in
         let same : it ≡ item_of w = same_Some it (item_of w) one in
         other_none c.args.seat by (latch_at c.args.table.now w.place.block) (sym c.held_by_other.ensures ∙ c.in-None.is) (ap (λ z. latch_at c.args.table.now z.place.block) (sym same) ∙ e) in
@@ -82,7 +82,7 @@ returns-in_ok-take-in-None-clause-all g c = λ h.
     let live = live_of c.args.rows.now leaves in
     let here : slice_get now.items c.args.item ≡ Some (item_of w) = item_here s.target s.limit s.at s.stamp s.items.items s.found.items s.met c.args.item now c.self.view_is w c.index-held.ensures c.requires.item in
     let gives : LeafSpot m g.O.NearClass.box_below now.target (item_of w) (spots S w.place) kids leaves = subst (λ (p : Point). LeafSpot m g.O.NearClass.box_below p (item_of w) (spots S w.place) kids leaves) (ap (λ z. z.target) c.self.view_is) c.in_ok-step-in-None.ensures.gives in
-    let free = λ it by a e.
+    let free : (it : NearItem _) (by : ℕ) → slice_get now.items c.args.item ≡ Some it → latch_at c.args.table.now it.place.block ≡ Some by → by ≡ c.args.seat = λ it by a e.
         let one : Some it ≡ Some (item_of w) = sym a ∙ here in
         let same : it ≡ item_of w = same_Some it (item_of w) one in
         other_none c.args.seat by (latch_at c.args.table.now w.place.block) (sym c.held_by_other.ensures ∙ c.in-None.is) (ap (λ z. latch_at c.args.table.now z.place.block) (sym same) ∙ e) in
