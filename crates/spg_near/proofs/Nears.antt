@@ -49,7 +49,7 @@ use Rattle.spg_near.specs.declared.near_row.NearRow.{NearRow}
 use Rattle.spg_near.specs.Boxes.{in_box, distance}
 use Rattle.spg_near.specs.Nearing.{NearItem, Nearing, Boxing, held_at, scan_of, near_children, near_row, near_rows, NearSpot, near_replaced}
 use Rattle.spg_near.specs.Laws.{CutLaw, KeyLaw}
-use Rattle.spg_near.specs.Cover.{IsWholeOf, IsNearOf, NearStays, NearReads}
+use Rattle.spg_near.specs.Cover.{IsWholeOf, NearStays, NearReads}
 use Rattle.spg_near.proofs.Reading.{row_of, scan_replaced, item_at, reads_spot}
 use Rattle.spg_near.proofs.Needed.{needed_then}
 use Rattle.spg_near.proofs.Below.{changes_below, below_child, below_forward}
@@ -92,7 +92,6 @@ module _ {O Recon Cond : Type 0} (m : Meaning Point Recon Cond) where
 
   whole_stays : (S S2 : Sheets) (past es before : History O Point Recon Cond) (n : Nearing Recon) (guard : Query O Point Recon Cond) (seat by : ℕ) (touched : List ℕ) (since : ℕ) →
       IsLegal (es ++ past) → open_of seat past ≡ scanning before guard → since ≤ n.stamp → ChangesPages m past by S S2 touched since → IsWholeOf m S before past n → IsWholeOf m S2 before (es ++ past) n
-
   whole_stays S S2 past es before n guard seat by touched since legal scans later P D =
       let a = scan_before past before guard seat scans in
       let earlier : length before ≤ length past = omega arith in

@@ -3,7 +3,7 @@ use Rattle.std.proofs.Common.{◌≡◌, ◌<◌, ◌≤◌, ◌+◌, ◌++◌, 
 use Rattle.std.specs.Prelude.{if◌then◌else◌, IsPermutation}
 use Rattle.std.proofs.lemmas.Bool.{cases_lt}
 use Rattle.std.proofs.lemmas.List.Elements.{Contains-append_cases}
-use Rattle.std.proofs.lemmas.List.Sorted.{IsPermutation-refl, IsPermutation-sym, IsPermutation-trans, IsPermutation-append, IsPermutation-append_left, IsPermutation-append_right, IsPermutation-append_comm, Contains-permutation, sum_by-IsPermutation, length_permutation}
+use Rattle.std.proofs.lemmas.List.Sorted.{IsPermutation-refl, IsPermutation-sym, IsPermutation-trans, IsPermutation-append, IsPermutation-append_left, IsPermutation-append_right, IsPermutation-append_comm, Contains-permutation, sum_by-IsPermutation}
 use Rattle.std.proofs.lemmas.List.Sums.{sum_by-append}
 use Rattle.spg_base.specs.declared.point.Point.{Point}
 use Rattle.spg_opclass.specs.Meaning.{Meaning}
@@ -14,7 +14,7 @@ use Rattle.spg_scan.specs.Scanning.{is_live}
 use Rattle.spg_scan.proofs.CoverNodes.{contains_here, contains_behind, contains_cases, contains_none}
 use Rattle.spg_near.specs.declared.near_row.NearRow.{NearRow}
 use Rattle.spg_near.specs.Boxes.{distance, bound_of}
-use Rattle.spg_near.specs.Nearing.{NearItem, Nearing, Boxing, NearSpot, LeafSpot, IsBefore, IsDone, nearer_than, near_row, near_rows, near_leaves, live_of}
+use Rattle.spg_near.specs.Nearing.{NearItem, Nearing, Boxing, NearSpot, LeafSpot, IsDone, nearer_than, near_row, near_rows, near_leaves, live_of}
 use Rattle.spg_near.specs.Best.{AreBest, AreHits, AreNeeded, KeepsLive}
 use Rattle.spg_near.proofs.NearCounts.{one, few_near, far_last, enough_near}
 use Rattle.spg_near.proofs.NearOrder.{not_both, nearer}
