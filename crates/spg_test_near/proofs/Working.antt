@@ -1,15 +1,17 @@
 -- What a seat does, one call after another.
-use Rattle.std.proofs.Common.{◌≡◌, ◌≢◌, ℕ, ◌∙◌, refl, ap}
+use Rattle.std.proofs.Common.{◌≡◌, ◌≢◌, ℕ, Bool, true, false, ◌∙◌, refl, ap}
 use Rattle.spg_opclass.specs.Meaning.{Meaning}
+use Rattle.spg_base.specs.Row.{RowAt}
 use Rattle.spg_rows.specs.declared.event.Event.{Event}
+use Rattle.spg_rows.specs.declared.event.Event.TheVariants.{Kill}
 use Rattle.spg_rows.specs.History.{seat_of}
 use Rattle.spg_scan.specs.Others.{ChangesPages}
 use Rattle.spg_tree.specs.Table.{sheets_of}
 use Rattle.spg_core.specs.declared.answer.InsertOut.{InsertOut}
 use Rattle.spg_core.specs.declared.answer.VacuumOut.{VacuumOut}
-use Rattle.spg_core.specs.Sections.{IsInsertOut, StepsVacuum}
+use Rattle.spg_core.specs.Sections.{IsInsertOut, StepsVacuum, KillsRow}
 use Rattle.spg_core.specs.Calls.{SweepsPages}
-use Rattle.spg_core.specs.Stage.{Stage}
+use Rattle.spg_core.specs.Stage.{Stage, free}
 use Rattle.spg_core.specs.Seen.{Seen, past_of, logged, untouched}
 use Rattle.spg_among.specs.Goes.{Goes}
 use Rattle.spg_among.proofs.Goings.{goes_on, stay_goes, log_goes, step_goes, sweep_goes}
@@ -32,3 +34,7 @@ module _ {O Key Recon Cond : Type 0} (m : Meaning Key Recon Cond) (by : ℕ) whe
 
   pub sweeps : (old new : Seen O Key Recon Cond) (out : VacuumOut) → StepsVacuum old new by out → SweepsPages m old new by → Works m by old new
   sweeps old new out is changes seat s apart stage = sweep_goes m old new seat by out s apart stage is changes
+
+  pub kills : (old new : Seen O Key Recon Cond) (row : RowAt) (killed : Bool) → KillsRow old new by row killed → Works m by old new
+  kills old new row true (live, is, stage) = logs old new (Kill by row) free refl is
+  kills old new row false (dead, same) = stays old new same

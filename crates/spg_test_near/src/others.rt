@@ -9,6 +9,7 @@ use spg_opclass::OpClass;
 pub struct Others<'a> {
     by: SeatNo,
     turns: &'a [Turn],
+    left: u64,
     all_done: bool,
 }
 
@@ -18,31 +19,31 @@ impl<'a> Others<'a> {
         Others {
             by,
             turns,
+            left: turns.len() as u64,
             all_done: true,
         }
     }
 
     /// Whether no turn is left, and each was done.
     pub fn is_done(&self) -> bool {
-        self.all_done && self.turns.is_empty()
+        self.all_done && self.left == 0
     }
 }
 
 impl<O: OpClass<Key = Point>> Between<O> for Others<'_> {
-    ghost use Rattle.std.specs.Prelude.{length};
-
-    ghost left_of = { λ others. length others.turns };
+    ghost left_of = { λ others. others.left };
 
     fn left(&self) -> u64 {
-        self.turns.len() as u64
+        self.left
     }
 
     fn go(&mut self, state: &mut State<O>, seat: SeatNo) {
-        if self.by == seat {
+        if self.by.number() == seat.number() || self.left == 0 {
             return;
         }
         if let Some((turn, rest)) = self.turns.split_first() {
             self.turns = rest;
+            self.left -= 1;
             if !take_turn(state, self.by, *turn) {
                 self.all_done = false;
             }

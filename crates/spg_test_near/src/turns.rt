@@ -73,10 +73,9 @@ fn put<O: OpClass>(state: &mut State<O>, by: SeatNo) -> bool
     ensures { Works O.meaning by state.old state.new }
 {
     for _ in 0..100 {
-        match step(state, by) {
-            Some(InsertOut::Put) => return true,
-            Some(InsertOut::Descended | InsertOut::Restructured) => {}
-            _ => return false,
+        let out = step(state, by);
+        if out == Some(InsertOut::Put) {
+            return true;
         }
     }
     false
@@ -121,15 +120,22 @@ fn sweep<O: OpClass>(state: &mut State<O>, by: SeatNo) -> Option<VacuumOut>
     }
 }
 
+/// Whether a vacuum has ended.
+fn has_ended(out: Option<VacuumOut>) -> bool {
+    match out {
+        Some(VacuumOut::Finished { .. }) => true,
+        _ => false,
+    }
+}
+
 /// Sections of a vacuum to its end. False where it is refused or comes to a latched block.
 fn sweep_all<O: OpClass>(state: &mut State<O>, by: SeatNo) -> bool
     ensures { Works O.meaning by state.old state.new }
 {
     for _ in 0..1_000 {
-        match sweep(state, by) {
-            Some(VacuumOut::Finished { .. }) => return true,
-            Some(VacuumOut::Block | VacuumOut::Pending) => {}
-            _ => return false,
+        let out = sweep(state, by);
+        if has_ended(out) {
+            return true;
         }
     }
     false
