@@ -50,8 +50,12 @@ module _ {O Recon Cond : Type 0} (table : rows.Table O Point Recon Cond) where
       (λ xs ys zs a b. IsPermutation-trans (live_of table xs) (live_of table ys) (live_of table zs) a b)
 
   pub keeps_moved : (limit : ℕ) (found found2 xs ys : List NearRow) → IsPermutation xs ys → KeepsLive limit found found2 (live_of table ys) → KeepsLive limit found found2 (live_of table xs)
-  keeps_moved limit found found2 xs ys moved (kept, is, A) = (kept, is, record {
-    others = A.others;
-    all = IsPermutation-trans (live_of table xs) (live_of table ys) (kept ++ A.others) (live_moved xs ys moved) A.all;
-    enough = A.enough;
-  })
+  keeps_moved limit found found2 xs ys moved (kept, is, A) = (
+    kept,
+    is,
+    record {
+      others = A.others;
+      all = IsPermutation-trans (live_of table xs) (live_of table ys) (kept ++ A.others) (live_moved xs ys moved) A.all;
+      enough = A.enough;
+    },
+  )

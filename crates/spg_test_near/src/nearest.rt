@@ -38,11 +38,7 @@ pub(crate) fn search<O: NearClass>(
 }
 
 /// Takes turns one after another. False where one could not be done.
-pub(crate) fn take_turns<O: NearClass>(
-    state: &mut State<O>,
-    by: SeatNo,
-    turns: &[Turn],
-) -> bool {
+pub(crate) fn take_turns<O: NearClass>(state: &mut State<O>, by: SeatNo, turns: &[Turn]) -> bool {
     for turn in turns {
         if !take_turn(state, by, *turn) {
             return false;

@@ -78,7 +78,8 @@ fn sorted(alloc: Global, points: &[Point], target: Point) -> Result<Vec<NearRow>
 
 /// Whether these rows are the first of those, as many as are wanted.
 fn are_first(rows: &[NearRow], all: &[NearRow], limit: u16) -> bool {
-    rows.len() == all.len().min(usize::from(limit)) && rows.iter().zip(all.iter()).all(|(a, b)| a == b)
+    rows.len() == all.len().min(usize::from(limit))
+        && rows.iter().zip(all.iter()).all(|(a, b)| a == b)
 }
 
 /// Whether searches from points that are drawn give the first of the plain list.
@@ -94,7 +95,8 @@ fn is_like_the_list<O: NearClass>(alloc: Global, class: O) -> Result<bool, Memor
         let all = sorted(alloc, points.as_slice(), target)?;
         let mut others = Others::new(SeatNo::first(), &[]);
         match search(alloc, &mut state, target, limit, &mut others)? {
-            Some(NearOut::Near { rows, .. }) if are_first(rows.as_slice(), all.as_slice(), limit) => {}
+            Some(NearOut::Near { rows, .. }) if are_first(rows.as_slice(), all.as_slice(), limit) =>
+                {}
             _ => return Ok(false),
         }
     }

@@ -20,11 +20,19 @@ pub enum Turn {
         count: u16,
     },
     /// It inserts a null as row 1.N.
-    Null { row: u16 },
+    Null {
+        row: u16,
+    },
     /// It opens an insert of row 1.N, and comes to the root, which it latches.
-    Begin { row: u16, x: i32, y: i32 },
+    Begin {
+        row: u16,
+        x: i32,
+        y: i32,
+    },
     /// It deletes row 1.N.
-    Kill { row: u16 },
+    Kill {
+        row: u16,
+    },
     /// It vacuums, to the end.
     Vacuum,
     /// It inserts the points of a line, and vacuums.
