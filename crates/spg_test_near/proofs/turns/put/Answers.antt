@@ -7,3 +7,6 @@ loop-init g c = stays g.O.OpClass.meaning c.args.by c.args.state.now c.args.stat
 
 pub loop-preserved : goal.loop-preserved
 loop-preserved g c = then g.O.OpClass.meaning c.args.by c.args.state.now c.loop.state c.step-out.new.state c.loop.invariant c.step-out.ensures
+
+pub returns-then-eq : goal.returns-then-eq
+returns-then-eq g c = then g.O.OpClass.meaning c.args.by c.args.state.now c.loop.state c.step-out.new.state c.loop.invariant c.step-out.ensures

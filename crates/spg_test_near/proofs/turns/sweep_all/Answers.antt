@@ -7,3 +7,6 @@ loop-init g c = stays g.O.OpClass.meaning c.args.by c.args.state.now c.args.stat
 
 pub loop-preserved : goal.loop-preserved
 loop-preserved g c = then g.O.OpClass.meaning c.args.by c.args.state.now c.loop.state c.sweep-out.new.state c.loop.invariant c.sweep-out.ensures
+
+pub returns-then-has_ended : goal.returns-then-has_ended
+returns-then-has_ended g c = then g.O.OpClass.meaning c.args.by c.args.state.now c.loop.state c.sweep-out.new.state c.loop.invariant c.sweep-out.ensures
