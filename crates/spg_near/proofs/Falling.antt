@@ -120,6 +120,6 @@ module _ {Recon Cond : Type 0} (m : Meaning Point Recon Cond) (S : Sheets) (H : 
 
 pub near_falls : {O Recon Cond : Type 0} (m : Meaning Point Recon Cond) (boxing : Boxing Recon) → NearFalls O Recon Cond m boxing
 near_falls {O} {Recon} {Cond} m boxing S before past n n2 table i H D R =
-    let (t, target, recon) = D.scan.spots.sheltered (i, 0) R.item.place (Some R.item.recon) (held R.item.place (Some R.item.recon), item_at n.items i R.item R.at, (refl, refl, refl)) in
-    let less = spot_falls m S H boxing R.item table n.target t n.stamp target R.items R.found (spots S R.item.place) refl R.reads in
+    let (t, target, recon) = D.whole.scan.spots.sheltered (i, 0) R.item.place (Some R.item.recon) (held R.item.place (Some R.item.recon), item_at n.items i R.item R.at, (refl, refl, refl)) in
+    let less = spot_falls m S H boxing R.item table n.target t n.stamp target R.items R.live (spots S R.item.place) refl R.reads in
     subst (λ (z : Nearing Recon). near_left S z < near_left S n) (sym R.after) (sum_falls m S H n.items R.items i R.item R.at less)

@@ -41,13 +41,13 @@ module _ {O Recon Cond : Type 0} (m : Meaning Point Recon Cond) (boxing : Boxing
       })
 
   pub is_held : (n : Nearing Recon) → IsOpenNow m boxing seat past t states n → (i : ℕ) (it : NearItem Recon) → slice_get n.items i ≡ Some it → IsHeldAt m (sheets_of t) n.stamp it
-  is_held n A i it at = A.near.scan.spots.sheltered (i, 0) it.place (Some it.recon) (held it.place (Some it.recon), item_at n.items i it at, (refl, refl, refl))
+  is_held n A i it at = A.near.whole.scan.spots.sheltered (i, 0) it.place (Some it.recon) (held it.place (Some it.recon), item_at n.items i it at, (refl, refl, refl))
 
   pub reads : KeptLaw m → CodeLaw m → CutLaw m boxing → NarrowLaw boxing → KeyLaw m → (n n2 : Nearing Recon) (i : ℕ) → IsNext n i → ReadsNear m boxing (sheets_of t) states n n2 i → IsOpenNow m boxing seat past t states n → IsOpenNow m boxing seat past t states n2
   reads kept codes cuts narrows points n n2 i next R A = record {
     now = A.now;
     near = subst (IsNearOf m (sheets_of t) past (OpenScan seat All ∷ past)) (sym R.after)
-        (near_reads m boxing (sheets_of t) past (OpenScan seat All ∷ past) n All seat states i R.item R.items R.found _ kept codes cuts points A.now.legal (itself_opens (OpenScan seat All) past) A.now.holds A.now.told R.at R.reads A.near);
+        (near_reads m boxing (sheets_of t) past (OpenScan seat All ∷ past) n All seat states i R.item R.items R.live R.found _ kept codes cuts points A.now.legal (itself_opens (OpenScan seat All) past) A.now.holds A.now.told R.at R.reads R.kept A.near);
     rest = near_rests_on m boxing (sheets_of t) past (OpenScan seat All ∷ past) n n2 states i codes cuts narrows points A.now.holds.shape A.near next R A.rest;
   }
 

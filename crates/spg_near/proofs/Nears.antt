@@ -7,6 +7,7 @@ use Rattle.spg_base.specs.Row.{RowAt}
 use Rattle.spg_base.specs.declared.point.Point.{Point}
 use Rattle.spg_opclass.specs.Meaning.{Meaning}
 use Rattle.spg_opclass.specs.Laws.{CodeLaw}
+use Rattle.spg_opclass.specs.declared.query.Query.{Query}
 use Rattle.spg_points.specs.Codec.{is_point}
 use Rattle.spg_points.proofs.PointLemmas.{true_and}
 use Rattle.spg_forest.specs.View.{Place, Leaf, Target}
@@ -22,7 +23,7 @@ use Rattle.spg_forest.proofs.Relocate.{within_from_some}
 use Rattle.spg_forest.proofs.Scan.{target_once}
 use Rattle.spg_forest.proofs.Sections.{shape_tree}
 use Rattle.spg_forest.proofs.Trees.{recon_once}
-use Rattle.spg_rows.specs.History.{History}
+use Rattle.spg_rows.specs.History.{History, scanning, open_of}
 use Rattle.spg_rows.specs.Lives.{Life}
 use Rattle.spg_rows.specs.Legal.{IsLegal}
 use Rattle.spg_rows.specs.Scans.{WasPut, HasLivedWith}
@@ -48,8 +49,9 @@ use Rattle.spg_near.specs.declared.near_row.NearRow.{NearRow}
 use Rattle.spg_near.specs.Boxes.{in_box, distance}
 use Rattle.spg_near.specs.Nearing.{NearItem, Nearing, Boxing, held_at, scan_of, near_children, near_row, near_rows, NearSpot, near_replaced}
 use Rattle.spg_near.specs.Laws.{CutLaw, KeyLaw}
-use Rattle.spg_near.specs.Cover.{IsNearOf, NearStays, NearReads}
+use Rattle.spg_near.specs.Cover.{IsWholeOf, NearStays, NearReads}
 use Rattle.spg_near.proofs.Reading.{row_of, scan_replaced, item_at, reads_spot}
+use Rattle.spg_near.proofs.Needed.{needed_then}
 use Rattle.spg_near.proofs.Below.{changes_below, below_child, below_forward}
 
 module _ {O Recon Cond : Type 0} (m : Meaning Point Recon Cond) where
@@ -83,13 +85,14 @@ module _ {O Recon Cond : Type 0} (m : Meaning Point Recon Cond) where
 
   -- ---- a section of another seat
 
-  boxed_pages : (S S2 : Sheets) (before past : History O Point Recon Cond) (n : Nearing Recon) (by : ℕ) (touched : List ℕ) (since : ℕ) → IsLegal past → since ≤ n.stamp → ChangesPages m past by S S2 touched since → IsNearOf m S before past n → AreBoxed S2 before past n
+  boxed_pages : (S S2 : Sheets) (before past : History O Point Recon Cond) (n : Nearing Recon) (by : ℕ) (touched : List ℕ) (since : ℕ) → IsLegal past → since ≤ n.stamp → ChangesPages m past by S S2 touched since → IsWholeOf m S before past n → AreBoxed S2 before past n
   boxed_pages S S2 before past n by touched since legal later P D i it row life key at b put is =
       let (t, target, recon) = D.scan.spots.sheltered (i, 0) it.place (Some it.recon) (held it.place (Some it.recon), item_at n.items i it at, (refl, refl, refl)) in
       D.boxes i it row life key at (changes_below m S S2 n.stamp it.place t target row before past by touched since life legal later D.scan.stamp P put b) put is
 
-  pub near_stays : NearStays O Recon Cond m
-  near_stays S S2 past es before n guard seat by touched since legal scans later P D =
+  whole_stays : (S S2 : Sheets) (past es before : History O Point Recon Cond) (n : Nearing Recon) (guard : Query O Point Recon Cond) (seat by : ℕ) (touched : List ℕ) (since : ℕ) →
+      IsLegal (es ++ past) → open_of seat past ≡ scanning before guard → since ≤ n.stamp → ChangesPages m past by S S2 touched since → IsWholeOf m S before past n → IsWholeOf m S2 before (es ++ past) n
+  whole_stays S S2 past es before n guard seat by touched since legal scans later P D =
       let a = scan_before past before guard seat scans in
       let earlier : length before ≤ length past = omega arith in
       record {
@@ -98,9 +101,16 @@ module _ {O Recon Cond : Type 0} (m : Meaning Point Recon Cond) where
         distances = measured_events es before past n earlier D.distances;
       }
 
+  pub near_stays : NearStays O Recon Cond m
+  near_stays S S2 past es before n guard seat by touched since legal scans later P D = record {
+    all = D.all;
+    whole = whole_stays S S2 past es before (record n { found = D.all }) guard seat by touched since legal scans later P D.whole;
+    kept = D.kept;
+  }
+
   -- ---- a read
 
-  module _ (boxing : Boxing Recon) (S : Sheets) (before past : History O Point Recon Cond) (n : Nearing Recon) (table : rows.Table O Point Recon Cond) (A : Grounds m S before past table (scan_of n)) (D : IsNearOf m S before past n)
+  module _ (boxing : Boxing Recon) (S : Sheets) (before past : History O Point Recon Cond) (n : Nearing Recon) (table : rows.Table O Point Recon Cond) (A : Grounds m S before past table (scan_of n)) (D : IsWholeOf m S before past n)
       (cuts : CutLaw m boxing) (points : KeyLaw m) (i : ℕ) (it : NearItem Recon) (at : slice_get n.items i ≡ Some it) where
     H : Shape m S
     H = A.holds.shape
@@ -208,7 +218,7 @@ module _ {O Recon Cond : Type 0} (m : Meaning Point Recon Cond) where
     found_measured (Forward y u) e ys found (is, none) h c = absurd (contains_none h (subst (λ (xs : List NearRow). Contains xs h) none c))
     found_measured Nothing e ys found never h c = absurd never
 
-    near_read : (ys : List (NearItem Recon)) (found : List NearRow) (met : ℕ) → NearSpot m boxing table n.target it (spots S it.place) ys found → IsNearOf m S before past (near_replaced n i ys found met)
+    near_read : (ys : List (NearItem Recon)) (found : List NearRow) (met : ℕ) → NearSpot m boxing table n.target it (spots S it.place) ys found → IsWholeOf m S before past (near_replaced n i ys found met)
     near_read ys found met h = record {
       scan = subst (λ (s : Scanning O Point Recon Cond). IsScanOf m S before past s) (sym (scan_replaced n i ys found met))
           (does m S before past table (scan_of n) A i (held_at it) (map held_at ys) (map row_of found) met (item_at n.items i it at)
@@ -221,5 +231,8 @@ module _ {O Recon Cond : Type 0} (m : Meaning Point Recon Cond) where
     }
 
   pub near_reads : (boxing : Boxing Recon) → NearReads O Recon Cond m boxing
-  near_reads boxing S before past n guard seat table i it ys found met K L C P legal scans R states at h D =
-      near_read boxing S before past n table (record { kept = K; codes = L; legal = legal; holds = R; states = states; none = scan_reuses past before guard seat legal scans; is = D.scan }) D C P i it at ys found met h
+  near_reads boxing S before past n guard seat table i it ys live found met K L C P legal scans R states at h A D = record {
+    all = D.all ++ live;
+    whole = near_read boxing S before past (record n { found = D.all }) table (record { kept = K; codes = L; legal = legal; holds = R; states = states; none = scan_reuses past before guard seat legal scans; is = D.whole.scan }) D.whole C P i it at ys live met h;
+    kept = needed_then n.limit [] D.all n.found live found D.kept A;
+  }
