@@ -59,3 +59,11 @@ module _ {O Key Recon Cond : Type 0} (m : Meaning Key Recon Cond) (speech : Spee
         lag_is = lag_is;
         queued = λ kept. omega (arith, ap length unqueued);
       })
+
+  -- what commands led to from there
+  pub mirrored_to : (limit lag : ℕ) (p p1 : Twin O Key Recon Cond) (none done records : List Record) (all commands : List Command) (seen : Seen O Key Recon Cond) → LeadsTo m speech p none p1 done (commands_tasks 0 all) → SoFar m speech limit lag [] p none
+      → all ≡ commands → seen ≡ p1.primary → records ≡ done → Mirrored m speech limit lag (commands_tasks 0 commands) seen records
+  mirrored_to limit lag p p1 none done records all commands seen leads start are is same =
+      subst (λ (cs : List Command). Mirrored m speech limit lag (commands_tasks 0 cs) seen records) are
+      (subst (λ (s : Seen O Key Recon Cond). Mirrored m speech limit lag (commands_tasks 0 all) s records) (sym is)
+      (subst (λ (rs : List Record). Mirrored m speech limit lag (commands_tasks 0 all) p1.primary rs) (sym same) (leads limit lag start).mirrored))

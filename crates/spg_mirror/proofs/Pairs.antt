@@ -1,5 +1,5 @@
 -- What a call of a pair does is what its command does.
-use Rattle.std.proofs.Common.{◌≡◌, ◌≢◌, ◌≤◌, ◌⊎◌, inl, inr, ℕ, true, List, length, Option, Some, Ok, Err, refl, sym, ap, ◌∙◌, subst}
+use Rattle.std.proofs.Common.{◌≡◌, ◌≢◌, ◌≤◌, ◌⊎◌, inl, inr, ℕ, true, false, List, length, Option, Some, Ok, Err, refl, sym, ap, ◌∙◌, subst}
 use Rattle.spg_base.specs.Row.{RowAt}
 use Rattle.spg_base.specs.declared.names.Span.{Span}
 use Rattle.spg_base.specs.declared.memory.Memory.{Memory}
@@ -76,7 +76,7 @@ not_told wrote o is other same = other (is ∙ memory_told wrote same)
 module _ {O Key Recon Cond : Type 0} (m : Meaning Key Recon Cond) (speech : Speech Key Cond) (p p2 : Twin O Key Recon Cond) (c : Command) (r : Record) (Came : Wrote → Type 0) (wrote : Wrote) (told : r.outcome ≡ wrote_outcome wrote) (span : IsSpanOf p.primary p2.primary r.span)
     (acts : (wr : Wrote) (x : Record) → Came wr → Spans x (wrote_outcome wr) (length p.primary.journal) (length p2.primary.journal) → Acts m speech p.primary p2.primary 0 true c x)
     (queued : wrote ≢ came.Memory → length p2.queue ≤ p2.lag) (lag : p2.lag ≡ p.lag) (right : Right m p2.primary.journal) (closed : AllClosed (past_of p2.primary)) where
-  spans_as : (wr : Wrote) → Record
+  abbrev spans_as : (wr : Wrote) → Record
   spans_as wr = record { span = r.span; outcome = wrote_outcome wr }
 
   pub writes : Answers Came wrote → Writes m speech p p2 c r

@@ -8,11 +8,11 @@ use Rattle.spg_mirror.proofs.Runs.{leads_on, all_led}
 use Rattle.spg_mirror.proofs.performing.commands.Goals as goal
 
 pub command-requires-clause-known : goal.command-requires-clause-known
-command-requires-clause-known g c κs within =
+command-requires-clause-known g c =
     subst (λ (x : Command). IsKnown g.O.Spoken.speech x) (sym c.one-item.is) (All-get_or (IsKnown g.O.Spoken.speech) c.args.commands.now c.loop-one.one-index c.one-item.result c.loop-one-test.true c.requires.known)
 
 pub command-requires-clause-lane : goal.command-requires-clause-lane
-command-requires-clause-lane g c κs within =
+command-requires-clause-lane g c =
     subst (λ (x : Command). IsLaneCommand x) (sym c.one-item.is) (All-get_or IsLaneCommand c.args.commands.now c.loop-one.one-index c.one-item.result c.loop-one-test.true c.requires.lane)
 
 pub loop-one-preserved : goal.loop-one-preserved
