@@ -1,7 +1,6 @@
 -- What a call of a pair does is what its command does.
-use Rattle.std.proofs.Common.{◌≡◌, ◌≢◌, ◌≤◌, ◌⊎◌, inl, inr, ℕ, true, false, List, length, Option, Some, Ok, Err, refl, sym, ap, ◌∙◌, subst}
+use Rattle.std.proofs.Common.{◌≡◌, ◌≢◌, ◌≤◌, inl, inr, true, false, length, Option, Some, Ok, Err, refl, ap, ◌∙◌}
 use Rattle.spg_base.specs.Row.{RowAt}
-use Rattle.spg_base.specs.declared.names.Span.{Span}
 use Rattle.spg_base.specs.declared.memory.Memory.{Memory}
 use Rattle.spg_opclass.specs.Meaning.{Meaning}
 use Rattle.spg_rows.specs.Right.{Right}
@@ -24,7 +23,7 @@ use Rattle.spg_standby.specs.declared.wrote.Wrote.TheVariants as came
 use Rattle.spg_standby.specs.Writes.{Inserted, Deleted, Vacuumed, Answers, IsSpanOf}
 use Rattle.spg_standby.specs.Twin.{Twin}
 use Rattle.spg_mirror.specs.Outcomes.{wrote_outcome}
-use Rattle.spg_mirror.specs.Mirrored.{IsToldAs, Writes}
+use Rattle.spg_mirror.specs.Mirrored.{Writes}
 
 no_memory : Memory
 no_memory = record {}

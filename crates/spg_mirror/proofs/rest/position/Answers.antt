@@ -1,6 +1,3 @@
-use Rattle.std.proofs.Common.{◌≡◌, ℕ, subst}
-use Rattle.spg_core.specs.Stage.{free}
-use Rattle.spg_core.specs.Seen.{Seen, stage_at}
 use Rattle.spg_whole.proofs.Alone.{free_by}
 use Rattle.spg_mirror.proofs.rest.position.Goals as goal
 
