@@ -1,4 +1,4 @@
-use Rattle.std.proofs.Common.{sym, ◌∙◌, subst}
+use Rattle.std.proofs.Common.{refl, sym, subst}
 use Rattle.spg_quad.specs.Quad.{quad_meaning}
 use Rattle.spg_kd.specs.Kd.{kd_meaning}
 use Rattle.spg_radix.specs.Radix.{radix_meaning}
@@ -17,6 +17,18 @@ run_mirrored-requires-in-Kd-clause-of_class g c κs within = subst (IsOfClass po
 
 pub run_mirrored-requires-in-Radix-clause-of_class : goal.run_mirrored-requires-in-Radix-clause-of_class
 run_mirrored-requires-in-Radix-clause-of_class g c κs within = subst (IsOfClass text_speech) (sym c.in-Radix.is) radix_is_of_class
+
+pub run_mirrored-requires-clause-lane : goal.run_mirrored-requires-clause-lane
+run_mirrored-requires-clause-lane g c κs within = c.in-Ok.ensures.sequence.is_script.commands
+
+pub run_mirrored-requires-in-Kd-clause-lane : goal.run_mirrored-requires-in-Kd-clause-lane
+run_mirrored-requires-in-Kd-clause-lane g c κs within = c.in-Ok.ensures.sequence.is_script.commands
+
+pub run_mirrored-requires-in-Radix-clause-lane : goal.run_mirrored-requires-in-Radix-clause-lane
+run_mirrored-requires-in-Radix-clause-lane g c κs within = c.in-Ok.ensures.sequence.is_script.commands
+
+pub returns-in-Err : goal.returns-in-Err
+returns-in-Err g c = (c.in-Err.ensures.status, refl)
 
 pub returns-in-Quad : goal.returns-in-Quad
 returns-in-Quad g c = mirrored_ended quad_meaning point_speech c.args.line.limit c.args.line.lag _ _ _ _ _ c.in-Ok.sequence (λ seen. state.Quad seen) c.in-Ok.ensures.sequence (λ status seen ran. (c.in-Quad.is, ran)) c.run_mirrored.result c.quad_ended.result c.quad_ended.ensures c.run_mirrored.ensures
