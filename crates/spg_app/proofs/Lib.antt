@@ -6,6 +6,7 @@ pub mod Images
 pub mod Complete
 pub mod Refused
 pub mod Builds
+pub mod Standbys
 pub mod Lines
 pub mod RunEnds
 pub mod LoadRows

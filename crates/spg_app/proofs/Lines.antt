@@ -4,9 +4,10 @@ use Rattle.std.specs.Borrow.{Bor}
 use Rattle.spg_words.specs.declared.load.Load.{Load}
 use Rattle.spg_words.specs.declared.run_line.RunLine.{RunLine}
 use Rattle.spg_words.specs.declared.build_line.BuildLine.{BuildLine}
+use Rattle.spg_words.specs.declared.standby_line.StandbyLine.{StandbyLine}
 use Rattle.spg_words.specs.Reading.{word_in}
-use Rattle.spg_words.specs.Asked.{run_told, run_of, name_told, check_of, load_of, build_told, build_of}
-use Rattle.spg_words.specs.Lines.{IsRunLine, IsCheckLine, IsLoadLine, IsBuildLine}
+use Rattle.spg_words.specs.Asked.{run_told, run_of, name_told, check_of, load_of, build_told, build_of, standby_of}
+use Rattle.spg_words.specs.Lines.{IsRunLine, IsCheckLine, IsLoadLine, IsBuildLine, IsStandbyLine}
 use Rattle.spg_words.proofs.Exact.{exact}
 use Rattle.spg_histories.specs.declared.status.Status.{Status}
 use Rattle.spg_app.specs.declared.end_state.EndState.{EndState}
@@ -14,6 +15,7 @@ use Rattle.spg_app.specs.Checks.{IsChecked}
 use Rattle.spg_app.specs.Ending.{Outlets}
 use Rattle.spg_app.specs.Loads.{IsGen}
 use Rattle.spg_app.specs.Builds.{IsBuildOf}
+use Rattle.spg_app.specs.Standbys.{Sunk, IsStandbyRun}
 use Rattle.spg_app.specs.Headline.{Streams, IsRun}
 
 -- what is no value is None
@@ -46,6 +48,12 @@ module _ (words : List (List ℕ)) where
   pub no_build_line : (o : Option BuildLine) → build_told o ≡ build_of words → o ≡ None → (name : List ℕ) (workers : ℕ) → IsBuildLine name workers words → ⊥
   no_build_line o value none name workers line = let some = (exact.build words name workers).1 line in absurd (cc (sym value ∙ ap build_told none, some))
 
+  pub standby_line : (o : Option StandbyLine) (line : StandbyLine) → o ≡ standby_of words → o ≡ Some line → IsStandbyLine line.lag line.limit words
+  standby_line o line value is = (exact.standby words line.lag line.limit).0 (sym value ∙ is)
+
+  pub no_standby_line : (o : Option StandbyLine) → o ≡ standby_of words → o ≡ None → (lag limit : ℕ) → IsStandbyLine lag limit words → ⊥
+  no_standby_line o value none lag limit line = let some = (exact.standby words lag limit).1 line in absurd (cc (sym value ∙ none, some))
+
   -- ---- one line asks for one thing
 
   pub run_asked : (m n : ℕ) (a b : Option (List ℕ)) (io : Streams) (out : Outlets) (status : Status) (end : Option EndState) → IsRunLine m a words → IsRunLine n b words → IsRun m a io out status end → IsRun n b io out status end
@@ -58,3 +66,8 @@ module _ (words : List (List ℕ)) where
 
   pub build_asked : (a b : List ℕ) (m n : ℕ) (left left_after : Option (List ℕ)) (f g : ℕ) (out : Outlets) (status : Status) → IsBuildLine a m words → IsBuildLine b n words → IsBuildOf a left left_after f g out status → IsBuildOf b left left_after f g out status
   build_asked a b m n left left_after f g out status line other run = subst (λ (x : List ℕ). IsBuildOf x left left_after f g out status) (exact.one_build words a b m n line other).0 run
+
+  pub standby_asked : (a b m n : ℕ) (left left_after : Option (List ℕ)) (f g : ℕ) (out : Sunk) (status : Status) (end : Option EndState) → IsStandbyLine a m words → IsStandbyLine b n words → IsStandbyRun a m left left_after f g out status end → IsStandbyRun b n left left_after f g out status end
+  standby_asked a b m n left left_after f g out status end line other run =
+      let same = exact.one_standby words a b m n line other in
+      subst (λ k. IsStandbyRun k n left left_after f g out status end) same.0 (subst (λ k. IsStandbyRun a k left left_after f g out status end) same.1 run)

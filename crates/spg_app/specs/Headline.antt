@@ -19,7 +19,7 @@ use Rattle.spg_script.specs.Blocks.{Script}
 use Rattle.spg_script.specs.Speech.{Speech, point_speech, text_speech}
 use Rattle.spg_script.specs.Script.{IsScript, IsFirstBad}
 use Rattle.spg_words.specs.declared.load.Load.{Load}
-use Rattle.spg_words.specs.Lines.{IsRunLine, IsCheckLine, IsLoadLine, IsBuildLine}
+use Rattle.spg_words.specs.Lines.{IsRunLine, IsCheckLine, IsLoadLine, IsBuildLine, IsStandbyLine}
 use Rattle.spg_histories.specs.declared.status.Status.{Status}
 use Rattle.spg_histories.specs.declared.status.Status.TheVariants.{Done, Usage, BadScript, ReadFault, WriteFault, ImageFault, BadImage, Memory, Full}
 use Rattle.spg_app.specs.declared.end_state.EndState.{EndState}
@@ -30,6 +30,7 @@ use Rattle.spg_app.specs.Ending.{Outlets, LeftAlone, Unwritten, RanCommands}
 use Rattle.spg_app.specs.Io.{longest_script, ReadWhole, ReadMore}
 use Rattle.spg_app.specs.Loads.{IsGen}
 use Rattle.spg_app.specs.Builds.{IsBuildOf}
+use Rattle.spg_app.specs.Standbys.{sunk, IsStandbyRun}
 
 -- what a source tells before and after
 pub record Streams : Type 0 where
@@ -116,6 +117,7 @@ pub record IsUsage (words : List (List ℕ)) (io : Streams) (out : Outlets) (sta
   pub no_check : (name : List ℕ) → IsCheckLine name words → ⊥
   pub no_load : (load : Load) → IsLoadLine load words → ⊥
   pub no_build : (name : List ℕ) (workers : ℕ) → IsBuildLine name workers words → ⊥
+  pub no_standby : (lag limit : ℕ) → IsStandbyLine lag limit words → ⊥
   pub unread : (io.left_after ≡ io.left) × (io.read_faults_after ≡ io.read_faults)
   pub left_alone : LeftAlone out
 
@@ -142,13 +144,21 @@ pub record IsBuild (words : List (List ℕ)) (io : Streams) (out : Outlets) (sta
   pub none : end ≡ None
   pub run : IsBuildOf name io.left io.left_after io.read_faults io.read_faults_after out status
 
+-- the words ask to do the commands of the source on an index with a standby; the images are as they were
+pub record IsStandby (words : List (List ℕ)) (io : Streams) (out : Outlets) (status : Status) (end : Option EndState) : Type 0 where
+  pub lag : ℕ
+  pub limit : ℕ
+  pub asked : IsStandbyLine lag limit words
+  pub images : out.images_after ≡ out.images
+  pub run : IsStandbyRun lag limit io.left io.left_after io.read_faults io.read_faults_after (sunk out.taken out.taken_after out.write_faults out.write_faults_after) status end
+
 -- the words ask to run the script of the source
 abbrev pub IsRunOf : List (List ℕ) → Streams → Outlets → Status → Option EndState → Type 0
 IsRunOf words io out status end = (limit : ℕ) × (from : Option (List ℕ)) × IsRunLine limit from words × IsRun limit from io out status end
 
 -- what each answer says
 abbrev pub IsAnswer : List (List ℕ) → Streams → Outlets → Status → Option EndState → Type 0
-IsAnswer words io out status end = ((IsUsage words io out status end ⊎ IsRunOf words io out status end) ⊎ (IsLoaded words io out status end ⊎ IsCheck words io out status end)) ⊎ IsBuild words io out status end
+IsAnswer words io out status end = ((IsUsage words io out status end ⊎ IsRunOf words io out status end) ⊎ (IsLoaded words io out status end ⊎ IsCheck words io out status end)) ⊎ (IsBuild words io out status end ⊎ IsStandby words io out status end)
 
 -- the answer of a run that ended so, by its class
 abbrev pub ended : {O Key Recon Cond : Type 0} → (Seen O Key Recon Cond → EndState) → Status × Option (Seen O Key Recon Cond) → Status × Option EndState

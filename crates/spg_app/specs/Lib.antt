@@ -6,6 +6,7 @@ pub mod Checks
 pub mod Summary
 pub mod Loads
 pub mod Builds
+pub mod Standbys
 pub mod Headline
 pub mod Farewell
 pub mod Alike

@@ -11,6 +11,7 @@ mod laws;
 mod program;
 mod reasons;
 mod session;
+mod standby;
 mod stream;
 mod summary;
 mod writing;

@@ -4,11 +4,12 @@ ghost use Rattle.spg_clauses.specs.declared.reason.Fault.{Fault};
 ghost use Rattle.spg_radix.specs.Texts.{is_bytes};
 ghost use Rattle.spg_script.specs.Script.{IsScript};
 ghost use Rattle.spg_script.specs.Refusal.{IsCause};
-ghost use Rattle.spg_words.specs.Lines.{IsRunLine, IsCheckLine, IsLoadLine, IsBuildLine};
+ghost use Rattle.spg_words.specs.Lines.{IsRunLine, IsCheckLine, IsLoadLine, IsBuildLine, IsStandbyLine};
 ghost use Rattle.spg_words.specs.Reading.{word_in};
 ghost use Rattle.spg_words.specs.declared.load.Load.{Load};
 ghost use Rattle.spg_app.specs.Ending.{outlets};
 ghost use Rattle.spg_app.specs.Builds.{HoldsInserts, HoldsNoInserts};
+ghost use Rattle.spg_app.specs.Standbys.{HoldsSequence, HoldsNoSequence};
 ghost use Rattle.spg_app.specs.Headline.{GaveScript, IsRefusal, IsRun, IsAnswer, HoldsScript, HoldsNoScript, HoldsImageFor, HoldsNoImageFor, HoldsImage, HoldsNoImage, NoFault, streams};
 
 use crate::build::build_image;
@@ -16,6 +17,7 @@ use crate::check::check_image;
 use crate::end_state::{EndState, kd_ended, quad_ended, radix_ended};
 use crate::generated::run_generated;
 use crate::session::run_commands;
+use crate::standby::run_standby;
 use crate::stream::{ReadRefused, read_all};
 use spg_histories::Status;
 use spg_io::{Images, Sink, Source};
@@ -24,7 +26,7 @@ use spg_perform::Gate;
 use spg_quad::Quad;
 use spg_radix::Radix;
 use spg_script::{BadLine, ClassName, Script, ScriptRefused, parse};
-use spg_words::{RunLine, build_of, check_of, load_of, run_of};
+use spg_words::{RunLine, build_of, check_of, load_of, run_of, standby_of};
 use std::alloc::Global;
 use std::sync::Wait;
 use std::thread::Threads;
@@ -98,11 +100,14 @@ fn run_script<R: AllocGlobal + Threads + Wait + Sync, S: Source, K: Sink, M: Ima
 /// `--class C`: the script is the generated one, nothing is read, and the summary of the run is written.
 /// Or they are `build NAME` with the option `--workers N`: the script inserts rows and does nothing else,
 /// an index is built of it at once and saved under the name, and how large it is is written.
+/// Or they are `standby LAG` with the option `--limit N`, LAG from 0 to 1,000: a script whose commands
+/// insert, delete, find and are vacuums outside lanes is done on a new index, whose finds a standby
+/// answers that is at most LAG sections behind.
 /// `Usage` comes exactly where they are none of these. Lanes run beside each other, and each asks the
 /// gate before each of its commands. `ReadFault` comes only where the source failed. `BadScript(n)` comes
 /// exactly where the bytes are no script, and line `n`, counted from 1, is the first at which none can
 /// go on; `BadScript(0)` exactly where there are more than 67,108,864 bytes. For `build` another line than
-/// an insert is bad, and `Full` comes only where `4 * E + 7` for `E` rows is above 131,072. Behind a script
+/// an insert is bad, and for `standby` a lane and any other command; `Full` comes only where `4 * E + 7` for `E` rows is above 131,072. Behind a script
 /// `BadImage` comes exactly where the image fails a clause, with the first that it fails, as far as the
 /// images tell; `ImageFault` only where they failed. Nothing is written then.
 /// Once the commands have begun the state after the last one is handed back, and the status is the
@@ -175,6 +180,18 @@ pub fn run<R: AllocGlobal + Threads + Wait + Sync, S: Source, K: Sink, M: Images
     ensures no_inserts { (name : List ℕ) → (workers : ℕ) → IsBuildLine name workers (map string_bytes words.now) → (n : ℕ) → HoldsNoInserts (S.left script.old) n
         → ¬ Rose (S.faults script.old) (S.faults script.new)
         → (result.0 ≡ Status.BadScript n) ⊎ (result.0 ≡ Status.Memory) }
+
+    // Commands are done beside a standby, where no call fails.
+    ensures complete_standby { (lag : ℕ) → (limit : ℕ) → IsStandbyLine lag limit (map string_bytes words.now) → HoldsSequence (S.left script.old)
+        → NoFault (streams (S.left script.old) (S.left script.new) (S.faults script.old) (S.faults script.new))
+        (outlets (K.contents out.old) (K.contents out.new) (K.faults out.old) (K.faults out.new)
+        (M.held images.old) (M.held images.new) (M.faults images.old) (M.faults images.new))
+        → (result.0 ≡ Status.Done) ⊎ (result.0 ≡ Status.Memory) }
+
+    // What is no script of such commands is refused with its first bad line, where no read fails.
+    ensures no_sequence { (lag : ℕ) → (limit : ℕ) → IsStandbyLine lag limit (map string_bytes words.now) → (n : ℕ) → HoldsNoSequence (S.left script.old) n
+        → ¬ Rose (S.faults script.old) (S.faults script.new)
+        → (result.0 ≡ Status.BadScript n) ⊎ (result.0 ≡ Status.Memory) }
 {
     if let Some(line) = run_of(words) {
         return run_script(rt, line, script, out, images, gate);
@@ -184,6 +201,9 @@ pub fn run<R: AllocGlobal + Threads + Wait + Sync, S: Source, K: Sink, M: Images
     }
     if let Some(line) = build_of(words) {
         return (build_image(rt, line, script, out, images, gate), None);
+    }
+    if let Some(line) = standby_of(words) {
+        return run_standby(rt.alloc(), line, script, out, gate);
     }
     match load_of(words) {
         Some(load) => run_generated(rt, load, out, images, gate),

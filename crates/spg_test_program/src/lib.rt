@@ -26,6 +26,8 @@ mod rows;
 #[cfg(test)]
 mod scripts;
 #[cfg(test)]
+mod standbys;
+#[cfg(test)]
 mod watching;
 #[cfg(test)]
 mod words;

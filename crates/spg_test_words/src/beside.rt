@@ -1,12 +1,12 @@
 use clap::{Arg, ArgAction, Command};
-use spg_words::{RunLine, build_of, check_of, load_of, run_of};
+use spg_words::{RunLine, build_of, check_of, load_of, run_of, standby_of};
 use std::alloc::{AllocError, Global};
 use std::process::Abort;
 use std::test::Fail;
 
 /// Lines, each behind the program's name, whose numbers and names are in their forms: which options and
 /// words stand where decides whether they are taken.
-const LINES: [&[&str]; 47] = [
+const LINES: [&[&str]; 54] = [
     &["spgist", "run"],
     &["spgist", "run", "--limit", "4"],
     &["spgist", "run", "--limit=4"],
@@ -62,6 +62,13 @@ const LINES: [&[&str]; 47] = [
     &["spgist", "build", "town", "town"],
     &["spgist", "build", "town", "--lanes=2"],
     &["spgist", "check", "town", "--workers=2"],
+    &["spgist", "standby", "1"],
+    &["spgist", "standby", "--limit", "4", "0"],
+    &["spgist", "standby", "1", "--limit=4"],
+    &["spgist", "standby"],
+    &["spgist", "standby", "1", "2"],
+    &["spgist", "standby", "1", "--from=town"],
+    &["spgist", "standby", "1", "--workers=2"],
 ];
 
 /// An option with a value.
@@ -105,6 +112,12 @@ fn build_command<'a>(alloc: Global) -> Result<Command<'a>, AllocError> {
         .arg(option(alloc, "workers"))
 }
 
+fn standby_command<'a>(alloc: Global) -> Result<Command<'a>, AllocError> {
+    bare(alloc, "standby")
+        .arg(word(alloc, "LAG"))?
+        .arg(option(alloc, "limit"))
+}
+
 /// The program as `clap` sees it.
 fn program<'a>(alloc: Global) -> Result<Command<'a>, AllocError> {
     bare(alloc, "spgist")
@@ -113,7 +126,8 @@ fn program<'a>(alloc: Global) -> Result<Command<'a>, AllocError> {
         .subcommand(run_command(alloc)?)?
         .subcommand(check_command(alloc)?)?
         .subcommand(gen_command(alloc)?)?
-        .subcommand(build_command(alloc)?)
+        .subcommand(build_command(alloc)?)?
+        .subcommand(standby_command(alloc)?)
 }
 
 /// Whether `clap` takes the line.
@@ -135,6 +149,7 @@ fn is_taken(alloc: Global, line: &[&str]) -> Result<bool, AllocError> {
     let words = words_of(alloc, line)?;
     let words = words.as_slice();
     let reads = run_of(words).is_some() || build_of(words).is_some();
+    let reads = reads || standby_of(words).is_some();
     Ok(reads || load_of(words).is_some() || check_of(words).is_some())
 }
 

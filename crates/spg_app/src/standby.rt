@@ -1,0 +1,111 @@
+ghost use Rattle.std.specs.Prelude.{◌≡◌, ◌≤◌, ◌<◌, ◌-◌, ◌^◌, true, IfOk, IfErr, length};
+ghost use Rattle.std.specs.List.{AllByRecursion};
+ghost use Rattle.spg_radix.specs.Texts.{is_bytes};
+ghost use Rattle.spg_script.specs.Script.{IsWritten, IsLaneCommand};
+ghost use Rattle.spg_script.specs.Sequences.{script_of, IsSequence, IsSequenceCause};
+ghost use Rattle.spg_perform.specs.Session.{IsOfClass};
+ghost use Rattle.spg_app.specs.Standbys.{GaveSequence, IsSequenceRefusal, sunk, EndsMirrored, IsStandbyRun};
+
+use crate::end_state::{EndState, kd_ended, quad_ended, radix_ended};
+use crate::session::status_after;
+use crate::stream::{ReadRefused, read_all};
+use crate::writing::write_text;
+use spg_core::State;
+use spg_histories::Status;
+use spg_io::{Sink, Source};
+use spg_kd::Kd;
+use spg_mirror::perform_on;
+use spg_perform::Gate;
+use spg_quad::Quad;
+use spg_radix::Radix;
+use spg_script::{BadLine, ClassName, ScriptRefused, Sequence, Spoken, parse_sequence};
+use spg_words::StandbyLine;
+use std::alloc::Global;
+
+/// The commands of bytes that were read. Each of them is below 256.
+fn sequence_of(alloc: Global, bytes: &[u8]) -> Result<Sequence, ScriptRefused>
+    requires { length bytes.now < 2 ^ 32 - 1 }
+    ensures bytes { is_bytes bytes.now ≡ true }
+    ensures found { IfOk result (λ sequence. IsSequence bytes.now sequence) }
+    ensures written { IfOk result (λ sequence. IsWritten (script_of sequence)) }
+    ensures bad { IfErr result (λ why. IsSequenceCause bytes.now why) }
+{
+    parse_sequence(alloc, bytes)
+}
+
+/// The commands of a source, which stand outside lanes, or the answer where there are none. The gate is told of a bad line.
+fn read_sequence<S: Source, G: Gate>(
+    alloc: Global,
+    source: &mut S,
+    gate: &G,
+) -> Result<Sequence, Status>
+    ensures sequence { IfOk result (λ sequence. GaveSequence (S.left source.old) (S.left source.new) sequence) }
+    ensures written { IfOk result (λ sequence. IsWritten (script_of sequence)) }
+    ensures status { IfErr result (λ status. IsSequenceRefusal (S.left source.old) (S.left source.new) (S.faults source.old) (S.faults source.new) status) }
+{
+    let bytes = match read_all(alloc, source) {
+        Ok(bytes) => bytes,
+        Err(ReadRefused::Failed) => return Err(Status::ReadFault),
+        Err(ReadRefused::TooLong) => return Err(Status::BadScript(0)),
+        Err(ReadRefused::Memory) => return Err(Status::Memory),
+    };
+    match sequence_of(alloc, &bytes) {
+        Ok(sequence) => Ok(sequence),
+        Err(ScriptRefused::BadLine(line)) => {
+            gate.bad_line(&BadLine::of_standby(&bytes, line));
+            Err(Status::BadScript(line))
+        }
+        Err(ScriptRefused::Memory) => Err(Status::Memory),
+    }
+}
+
+/// Does the commands on a new index with a standby, then writes the text of the run. The state of the
+/// primary is handed back; there is none where memory was wanting before the first command.
+fn run_mirrored<O: Spoken, K: Sink, G: Gate>(
+    alloc: Global,
+    class: O,
+    line: StandbyLine,
+    sequence: &Sequence,
+    out: &mut K,
+    gate: &G,
+) -> (Status, Option<State<O>>)
+    requires of_class { IsOfClass O.speech sequence.now.class }
+    requires written { IsWritten (script_of sequence.now) }
+    requires lane { AllByRecursion IsLaneCommand sequence.now.commands }
+    requires from { 4 ≤ line.limit }
+    requires to { line.limit ≤ 131072 }
+    ensures { EndsMirrored O.meaning O.speech line.limit line.lag sequence.now (sunk (K.contents out.old) (K.contents out.new) (K.faults out.old) (K.faults out.new)) result.0 result.1 }
+{
+    let done = perform_on(alloc, class, line.limit, line.lag, sequence, gate);
+    let Ok((state, records)) = done else {
+        return (Status::Memory, None);
+    };
+    let events = state.journal().as_slice();
+    let written = write_text(alloc, state.class(), events, records.as_slice(), out);
+    (status_after(written, records.as_slice()), Some(state))
+}
+
+/// Reads commands that stand outside lanes, does them on an index whose searches a standby answers, and
+/// writes the text of the run.
+pub fn run_standby<S: Source, K: Sink, G: Gate>(
+    alloc: Global,
+    line: StandbyLine,
+    source: &mut S,
+    out: &mut K,
+    gate: &G,
+) -> (Status, Option<EndState>)
+    requires from { 4 ≤ line.limit }
+    requires to { line.limit ≤ 131072 }
+    ensures { IsStandbyRun line.lag line.limit (S.left source.old) (S.left source.new) (S.faults source.old) (S.faults source.new)
+        (sunk (K.contents out.old) (K.contents out.new) (K.faults out.old) (K.faults out.new)) result.0 result.1 }
+{
+    let sequence = match read_sequence(alloc, source, gate) {
+        Ok(sequence) => sequence,
+        Err(status) => return (status, None),
+    };
+    match sequence.class {
+        ClassName::Quad => quad_ended(run_mirrored(alloc, Quad, line, &sequence, out, gate)),
+        ClassName::Kd => kd_ended(run_mirrored(alloc, Kd, line, &sequence, out, gate)),
+        ClassName::Radix => radix_ended(run_mirrored(alloc, Radix, line, &sequence, out, gate)),
+    }
+}
