@@ -17,6 +17,7 @@ pub use builds::build_index;
 pub use images::load_index;
 pub use nearest::near;
 pub use queries::{DEFAULT_LIMIT, equal, one, prefix, within};
+pub use spg_among::{Between, Idle, NearOut, near_among};
 pub use spg_base::{
     Block, Bytes, Failed, Labels, List, Memory, Origin, Point, PointCond, Row, Rows, Same, SeatNo,
     Span, Stamp, Stat,

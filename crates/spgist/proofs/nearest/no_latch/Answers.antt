@@ -1,4 +1,4 @@
-use Rattle.std.proofs.Common.{◌≡◌, ℕ, arith}
+use Rattle.std.proofs.Common.{◌≡◌, arith}
 use Rattle.spg_whole.proofs.Alone.{own_latches}
 use Rattle.spgist.proofs.nearest.no_latch.Goals as goal
 
