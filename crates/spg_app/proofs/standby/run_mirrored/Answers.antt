@@ -4,8 +4,8 @@ use Rattle.spg_app.specs.Ending.{writing_of}
 use Rattle.spg_app.proofs.Outcomes.{wrote_as, cause_of, fits_as, text_same}
 use Rattle.spg_app.proofs.standby.run_mirrored.Goals as goal
 
-pub returns-in-Ok : goal.returns-in-Ok
-returns-in-Ok g c = record {
+pub returns : goal.returns
+returns g c = record {
   records = c.in-Ok.records;
   mirrored = c.in-Ok.ensures;
   writing = writing_of c.write_text-written.result;
