@@ -1,5 +1,8 @@
 // Places, by where they lie and by their names.
-use spgist::{DEFAULT_LIMIT, Index, List, Memory, NearRow, Point, Quad, Radix, Row, Rows, near, prefix, text, within};
+use spgist::{
+    DEFAULT_LIMIT, Index, List, Memory, NearRow, Point, Quad, Radix, Row, Rows, near, prefix, text,
+    within,
+};
 use std::alloc::Global;
 
 /// The names of places, and two indexes of their rows.
@@ -27,13 +30,16 @@ impl Gazetteer {
         let row = Row::at(self.names.len() as u32, 1);
         self.names.push(String::from_str(self.alloc, name)?)?;
         self.by_place.insert(row, Some(at))?;
-        self.by_name.insert(row, Some(text(self.alloc, name.as_bytes())?))?;
+        self.by_name
+            .insert(row, Some(text(self.alloc, name.as_bytes())?))?;
         Ok(())
     }
 
     /// The name of a row's place.
     pub fn name_of(&self, row: Row) -> &str {
-        self.names.get(row.block() as usize).map_or("", |name| name.as_str())
+        self.names
+            .get(row.block() as usize)
+            .map_or("", |name| name.as_str())
     }
 
     /// The places in a rectangle with its border.

@@ -32,7 +32,12 @@ fn answer(rt: &impl Print, places: &mut Gazetteer, line: &str) -> anyhow::Result
         }
         Some(Line::Near(at, count)) => {
             for found in places.near(at, count)?.as_slice() {
-                println!(rt; "{} {}, {} away squared", found.row, places.name_of(found.row), found.distance)?;
+                println!(rt;
+                    "{} {}, {} away squared",
+                    found.row,
+                    places.name_of(found.row),
+                    found.distance
+                )?;
             }
         }
         None => println!(rt; "not understood: {line}")?,

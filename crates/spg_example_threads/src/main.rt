@@ -22,13 +22,20 @@ impl Work {
     fn new(alloc: Global, number: u8) -> Result<Work, Memory> {
         let y = i32::from(number);
         let line = within(alloc, Point { x: 0, y }, Point { x: 200, y })?;
-        Ok(Work { number, line, found: None })
+        Ok(Work {
+            number,
+            line,
+            found: None,
+        })
     }
 
     /// Inserts the points of the line, and deletes every second one.
     fn fill<R: Wait>(&self, rt: &R, seat: &mut Seat<'_, Quad>) {
         for n in 1..=100u16 {
-            let at = Point { x: i32::from(n), y: i32::from(self.number) };
+            let at = Point {
+                x: i32::from(n),
+                y: i32::from(self.number),
+            };
             let row = Row::at(u32::from(self.number), n);
             let _ = seat.insert(rt, row, Some(at));
             if n % 2 == 0 {
