@@ -4,8 +4,6 @@
 #[cfg(test)]
 mod builds;
 #[cfg(test)]
-mod checks;
-#[cfg(test)]
 mod every_line;
 #[cfg(test)]
 mod faults;
@@ -25,8 +23,6 @@ mod rounds;
 mod rows;
 #[cfg(test)]
 mod scripts;
-#[cfg(test)]
-mod standbys;
 #[cfg(test)]
 mod watching;
 #[cfg(test)]
