@@ -22,7 +22,10 @@ const FAULT: &[u8] = b"10 18 18 image fault\n";
 const BEHIND: &[u8] =
     b"journal 18\n0 0 open insert 0.1 \"12 High Street, Oxford\"\n1 0 put 0.1\n2 0 open insert 0.2 \"14 High Street, Oxford\"\n3 0 put 0.2\n4 0 open insert 0.3 \"3 Mill Lane, Ely\"\n5 0 put 0.3\n6 0 open insert 0.4 null\n7 0 put 0.4\n8 0 open scan where starts \"1\"\n9 0 close scan 2\n10 0 kill 0.2\n11 0 open scan where starts \"1\"\n12 0 close scan 1\n13 0 open vacuum\n14 0 sweep 0.2\n15 0 close vacuum 1\n16 0 open scan all\n17 0 close scan 3\n";
 
-fn town<R: AllocGlobal + Threads + Wait + Sync>(rt: &R, fails: Fails) -> Result<Ended, Fail> {
+pub(crate) fn town<R: AllocGlobal + Threads + Wait + Sync>(
+    rt: &R,
+    fails: Fails,
+) -> Result<Ended, Fail> {
     ran(rt, &run_word(), TOWN, fails)
 }
 

@@ -4,6 +4,8 @@
 #[cfg(test)]
 mod builds;
 #[cfg(test)]
+mod checks;
+#[cfg(test)]
 mod every_line;
 #[cfg(test)]
 mod faults;
@@ -23,6 +25,8 @@ mod rounds;
 mod rows;
 #[cfg(test)]
 mod scripts;
+#[cfg(test)]
+mod standbys;
 #[cfg(test)]
 mod watching;
 #[cfg(test)]

@@ -3,7 +3,7 @@ use spg_app::Status;
 use std::test::Fail;
 
 /// Words that are no line of the program.
-const REFUSED: [&[&str]; 60] = [
+const REFUSED: [&[&str]; 68] = [
     &[],
     &["run", "--limit", "3"],
     &["run", "--limit", "05"],
@@ -64,6 +64,14 @@ const REFUSED: [&[&str]; 60] = [
     &["build", "town", "--workers=2", "--workers=2"],
     &["build", "town", "--limit=5"],
     &["run", "--workers=2"],
+    &["standby"],
+    &["standby", "1001"],
+    &["standby", "01"],
+    &["standby", "1", "2"],
+    &["standby", "1", "--from=town"],
+    &["standby", "1", "--workers", "2"],
+    &["standby", "--limit=3", "1"],
+    &["standby", "1", "--limit=4", "--limit=4"],
 ];
 
 /// Words that are.
