@@ -22,7 +22,7 @@ use Rattle.spg_report.specs.declared.record.Record.{Record}
 use Rattle.spg_histories.specs.Run.{RunOf}
 use Rattle.spg_histories.proofs.Blocks.{runs_grow}
 use Rattle.spg_histories.proofs.Causes.{causes_grow}
-use Rattle.spg_perform.specs.Session.{IsOfClass}
+use Rattle.spg_commands.specs.Known.{IsOfClass}
 use Rattle.spg_standby.specs.Twin.{Twin}
 use Rattle.spg_mirror.specs.Mirrored.{made_with, commands_tasks, Mirrored, SoFar, LeadsTo}
 

@@ -17,7 +17,7 @@ use Rattle.spg_calls.specs.Calls.{past_at, between}
 use Rattle.spg_script.specs.declared.any_query.AnyQuery.{AnyQuery}
 use Rattle.spg_histories.specs.Run.{OfSave, Does, Did}
 use Rattle.spg_histories.specs.Ending.{any_outcome, is_fault, is_memory}
-use Rattle.spg_perform.specs.Acted.{task_of}
+use Rattle.spg_commands.specs.Acted.{task_of}
 use Rattle.spg_mirror.specs.Mirrored.{commands_tasks, writes_in, write_records, IsToldAs, FindsBy, AreAnswered, Mirrored}
 
 no_save : (P : Type 0) (c : Command) → IsLaneCommand c → OfSave P c → ⊥

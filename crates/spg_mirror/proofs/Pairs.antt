@@ -15,9 +15,9 @@ use Rattle.spg_script.specs.Speech.{Speech, key_or_null_in}
 use Rattle.spg_report.specs.declared.outcome.Outcome.{Outcome}
 use Rattle.spg_report.specs.declared.outcome.Outcome.TheVariants as outcome
 use Rattle.spg_report.specs.declared.record.Record.{Record}
-use Rattle.spg_perform.specs.Acted.{Acts}
-use Rattle.spg_perform.proofs.Acting.{Spans, rests}
-use Rattle.spg_perform.proofs.Commands.{inserted, deleted, vacuumed}
+use Rattle.spg_commands.specs.Acted.{Acts}
+use Rattle.spg_commands.proofs.Acting.{Spans, rests}
+use Rattle.spg_commands.proofs.Commands.{inserted, deleted, vacuumed}
 use Rattle.spg_standby.specs.declared.wrote.Wrote.{Wrote}
 use Rattle.spg_standby.specs.declared.wrote.Wrote.TheVariants as came
 use Rattle.spg_standby.specs.Writes.{Inserted, Deleted, Vacuumed, Answers, IsSpanOf}

@@ -25,8 +25,8 @@ use Rattle.spg_histories.specs.Causes.{IsDue, IsDueIn, IsCaused, Causes, CausesG
 use Rattle.spg_histories.specs.Ending.{is_memory}
 use Rattle.spg_histories.proofs.Blocks.{run_goes_on, alone_block, zip_append}
 use Rattle.spg_histories.proofs.Causes.{causes_grow}
-use Rattle.spg_perform.specs.Acted.{Acted, task_of}
-use Rattle.spg_perform.proofs.BlocksTasks.{IsNext, up_to_next}
+use Rattle.spg_commands.specs.Acted.{Acted, task_of}
+use Rattle.spg_commands.proofs.Next.{IsNext, up_to_next}
 use Rattle.spg_standby.specs.Finding.{IsBehind}
 use Rattle.spg_standby.specs.Twin.{Twin}
 use Rattle.spg_mirror.specs.Mirrored.{is_find, commands_tasks, unless_find, writes_in, write_records, IsToldAs, IsFound, FindsBy, IsAnswered, AreAnswered, made_with, Mirrored, Writes, Searches, DoesOn, at_behind, kept_behind, SoFar, LeadsTo}

@@ -23,7 +23,7 @@ use Rattle.spg_histories.specs.Tasks.{Task}
 use Rattle.spg_histories.specs.Run.{RunOf}
 use Rattle.spg_histories.specs.Causes.{Causes}
 use Rattle.spg_histories.specs.Ending.{is_memory}
-use Rattle.spg_perform.specs.Acted.{task_of, Acts}
+use Rattle.spg_commands.specs.Acted.{task_of, Acts}
 use Rattle.spg_standby.specs.Finding.{IsBehind}
 use Rattle.spg_standby.specs.Twin.{Twin}
 

@@ -6,8 +6,8 @@ ghost use Rattle.spg_mirror.specs.Mirrored.{Searches};
 
 use crate::outcomes::found_outcome;
 use spg_base::{Memory, Span};
+use spg_commands::query_in;
 use spg_opclass::Query;
-use spg_perform::query_in;
 use spg_report::{Outcome, Record};
 use spg_script::{AnyQuery, Spoken};
 use spg_standby::Pair;

@@ -3,15 +3,15 @@ ghost use Rattle.std.specs.List.{AllByRecursion};
 ghost use Rattle.spg_script.specs.Script.{IsWritten, IsLaneCommand};
 ghost use Rattle.spg_script.specs.Sequences.{script_of};
 ghost use Rattle.spg_script.specs.Speech.{IsKnown};
-ghost use Rattle.spg_perform.specs.Session.{IsOfClass};
+ghost use Rattle.spg_commands.specs.Known.{IsOfClass};
 ghost use Rattle.spg_mirror.specs.Mirrored.{commands_tasks, Mirrored, DoesOn, LeadsTo};
 
 use crate::find::find;
 use crate::rest::position;
 use crate::writes::{delete, insert, vacuum};
 use spg_base::Memory;
+use spg_commands::{Book, Gate};
 use spg_core::State;
-use spg_perform::{Book, Gate};
 use spg_report::{Record, Records};
 use spg_script::{Command, Sequence, Spoken};
 use spg_standby::Pair;

@@ -6,7 +6,7 @@ ghost use Rattle.spg_mirror.specs.Mirrored.{Writes};
 use crate::outcomes::wrote_outcome;
 use crate::rest::position;
 use spg_base::{Memory, Row, Span};
-use spg_perform::key_in;
+use spg_commands::key_in;
 use spg_report::{Outcome, Record};
 use spg_script::{AnyKey, Spoken};
 use spg_standby::Pair;

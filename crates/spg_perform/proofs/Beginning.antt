@@ -22,7 +22,7 @@ use Rattle.spg_histories.specs.Run.{Entry, load_events, RunOf}
 use Rattle.spg_histories.proofs.Blocks.{runs_grow}
 use Rattle.spg_histories.proofs.Causes.{causes_grow}
 use Rattle.spg_perform.specs.Session.{AllClosed, IsOfClass, Outside, StillTell, Session, standing, LeadsOn, Performs}
-use Rattle.spg_perform.specs.Acted.{HasName, CanBeDone, CanBlock}
+use Rattle.spg_commands.specs.Acted.{HasName, CanBeDone, CanBlock}
 
 -- ---- the commands of a script can be done
 

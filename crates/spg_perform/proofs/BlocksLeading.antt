@@ -6,7 +6,8 @@ use Rattle.spg_script.specs.Blocks.{Part}
 use Rattle.spg_script.specs.Speech.{Speech}
 use Rattle.spg_histories.specs.Tasks.{Task, lanes_tasks, parts_tasks}
 use Rattle.spg_perform.specs.Session.{Session, Standing, LeadsOn}
-use Rattle.spg_perform.proofs.BlocksTasks.{IsNext, parts_next}
+use Rattle.spg_commands.proofs.Next.{IsNext}
+use Rattle.spg_perform.proofs.BlocksTasks.{parts_next}
 
 module _ {O Key Recon Cond : Type 0} (m : Meaning Key Recon Cond) (speech : Speech Key Cond) (code : ℕ) where
   -- commands that lead on, and then others

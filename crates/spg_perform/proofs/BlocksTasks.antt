@@ -1,20 +1,12 @@
 -- The commands of lanes and of blocks, one lane or one block more.
 use Rattle.std.proofs.Common.{◌≡◌, ◌<◌, ◌+◌, ℕ, true, not, List, [], ◌∷◌, ◌++◌, length, take, drop, get_or, sym, ap, ◌∙◌, arith, length-append}
-use Rattle.std.proofs.lemmas.List.{length-take-le, take_more, at_drop_more}
+use Rattle.std.proofs.lemmas.List.{length-take-le, at_drop_more}
 use Rattle.spg_script.specs.declared.command.Command.{Command}
 use Rattle.spg_script.specs.Blocks.{Part}
 use Rattle.spg_histories.specs.Tasks.{lane_tasks, lanes_tasks, parts_tasks}
 use Rattle.spg_histories.proofs.Calls.{calls_compose}
+use Rattle.spg_commands.proofs.Next.{IsNext, up_to_next}
 use Rattle.spg_perform.proofs.Tasks.{lane_length, lanes_length, parts_length}
-
--- the item at an index
-pub record IsNext {X : Type 0} (xs : List X) (i : ℕ) (x : X) : Type 0 where
-  pub within : i < length xs
-  pub here : x ≡ get_or xs i x
-
-module _ {X : Type 0} where
-  pub up_to_next : (xs : List X) (i : ℕ) (x : X) → IsNext xs i x → take (i + 1) xs ≡ take i xs ++ x ∷ []
-  up_to_next xs i x next = take_more xs i x next.within ∙ ap (λ (y : X). take i xs ++ y ∷ []) (sym next.here)
 
 -- ---- in order
 

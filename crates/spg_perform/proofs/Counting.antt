@@ -26,8 +26,8 @@ use Rattle.spg_script.specs.Speech.{Speech}
 use Rattle.spg_report.specs.declared.outcome.Outcome.TheVariants as outcome
 use Rattle.spg_report.specs.declared.record.Record.{Record}
 use Rattle.spg_histories.specs.Pages.{IsCount}
-use Rattle.spg_perform.specs.Acted.{Acts}
-use Rattle.spg_perform.proofs.Acting.{Spans, rests}
+use Rattle.spg_commands.specs.Acted.{Acts}
+use Rattle.spg_commands.proofs.Acting.{Spans, rests}
 use Rattle.spg_perform.proofs.StatRows.{has_from, contains_from, distinct_from, as_long}
 
 -- ---- the leaf tuples of pages

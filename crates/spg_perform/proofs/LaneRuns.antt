@@ -10,7 +10,7 @@ use Rattle.spg_report.specs.declared.record.Record.{Record}
 use Rattle.spg_turn.specs.declared.rule.View.{View}
 use Rattle.spg_desk.specs.Knowing.{own_since}
 use Rattle.spg_perform.specs.Lanes.{CommandDone, CommandsDone, Went, WentOne}
-use Rattle.spg_perform.proofs.BlocksTasks.{IsNext, up_to_next}
+use Rattle.spg_commands.proofs.Next.{IsNext, up_to_next}
 use Rattle.spg_perform.proofs.LaneCalls.{commands_push, commands_long}
 
 module _ {O Key Recon Cond : Type 0} (m : Meaning Key Recon Cond) (speech : Speech Key Cond) where

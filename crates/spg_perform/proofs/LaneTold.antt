@@ -29,7 +29,7 @@ use Rattle.spg_desk.specs.declared.answer.FindAnswer.TheVariants as finds
 use Rattle.spg_desk.specs.declared.answer.VacuumAnswer.{VacuumAnswer}
 use Rattle.spg_desk.specs.declared.answer.VacuumAnswer.TheVariants as vacuums
 use Rattle.spg_perform.specs.Lanes.{lane_task, WentOne, insert_record, kill_record, find_record, vacuum_record, refused_at}
-use Rattle.spg_perform.proofs.Keys.{same_null}
+use Rattle.spg_commands.proofs.Keys.{same_null}
 
 module _ {O Key Recon Cond : Type 0} (m : Meaning Key Recon Cond) (speech : Speech Key Cond) (v w : View (Event O Key Recon Cond)) where
   went : (c : Command) (r : Record) (events : List (Event O Key Recon Cond)) → Told m v w r.span events → ((block : ℕ) → Does speech (lane_task block v.number c) (past_at r.span.from w.seen) events r.outcome)

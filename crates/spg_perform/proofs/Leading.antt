@@ -22,7 +22,7 @@ use Rattle.spg_histories.specs.Causes.{IsDue, IsDueIn, IsCaused, Causes, CausesG
 use Rattle.spg_histories.proofs.Blocks.{run_goes_on, alone_block}
 use Rattle.spg_histories.proofs.Causes.{causes_grow}
 use Rattle.spg_histories.proofs.Telling.{one_more}
-use Rattle.spg_perform.specs.Acted.{Acted}
+use Rattle.spg_commands.specs.Acted.{Acted}
 use Rattle.spg_perform.specs.Session.{AllClosed, told_of, ReadsBack, StillTell, is_image_fault, image_faults, RoseBy, LeadsOn, standing}
 use Rattle.spg_whole.proofs.Alone.{closed_again}
 use Rattle.spg_perform.proofs.LeadingImages.{faults_append, rose_then, Outward}

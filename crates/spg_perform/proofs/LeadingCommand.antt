@@ -14,7 +14,7 @@ use Rattle.spg_script.specs.declared.command.Command.TheVariants.{Save}
 use Rattle.spg_script.specs.Script.{IsLaneCommand}
 use Rattle.spg_script.specs.Speech.{Speech}
 use Rattle.spg_report.specs.declared.record.Record.{Record}
-use Rattle.spg_perform.specs.Acted.{Acts, task_of}
+use Rattle.spg_commands.specs.Acted.{Acts, task_of}
 use Rattle.spg_perform.specs.Saved.{IsSaved}
 use Rattle.spg_perform.specs.Session.{AllClosed, is_image_fault, RoseBy, LeadsOn, standing}
 use Rattle.spg_perform.proofs.LeadingImages.{SavesNone, Outward, inward, outward}

@@ -21,7 +21,7 @@ use Rattle.spg_histories.specs.Tasks.{Task}
 use Rattle.spg_histories.specs.Run.{OfSave, Does, past_at}
 use Rattle.spg_histories.specs.Pages.{HoldsAt}
 use Rattle.spg_histories.specs.Telling.{IsQuiet, is_save, SaveGave}
-use Rattle.spg_perform.specs.Acted.{task_of}
+use Rattle.spg_commands.specs.Acted.{task_of}
 use Rattle.spg_perform.specs.Saved.{TouchesOnly, IsSaved}
 use Rattle.spg_perform.specs.Session.{told_of, ReadsBack, StillTell, is_image_fault, image_faults, RoseBy}
 

@@ -9,9 +9,9 @@ use Rattle.spg_script.specs.Speech.{Speech}
 use Rattle.spg_report.specs.declared.outcome.Outcome.{Outcome}
 use Rattle.spg_report.specs.declared.outcome.Outcome.TheVariants as outcome
 use Rattle.spg_report.specs.declared.record.Record.{Record}
-use Rattle.spg_perform.specs.Acted.{Acts}
+use Rattle.spg_commands.specs.Acted.{Acts}
 use Rattle.spg_perform.specs.Saved.{IsSaved}
-use Rattle.spg_perform.proofs.Acting.{Spans, rests}
+use Rattle.spg_commands.proofs.Acting.{Spans, rests}
 
 module _ {O Key Recon Cond : Type 0} (m : Meaning Key Recon Cond) (speech : Speech Key Cond) (code : ℕ) (s : Seen O Key Recon Cond) (seat : ℕ) (name : List ℕ) (r : Record) (held held2 : Option Holding) (idle : stage_at s seat ≡ free) where
   pub save_acts : (o : Outcome) → IsSaved code s.table held held2 name o → Spans r o (length s.journal) (length s.journal) → Acts m speech s s seat true (Save name) r

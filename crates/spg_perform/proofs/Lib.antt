@@ -1,9 +1,5 @@
 pub mod Lists
-pub mod Keys
-pub mod Rows
-pub mod Acting
-pub mod Commands
-pub mod KnownConds
+pub mod Nearest
 pub mod OfClass
 pub mod StatRows
 pub mod Counting

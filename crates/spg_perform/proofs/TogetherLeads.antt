@@ -29,7 +29,7 @@ use Rattle.spg_histories.proofs.Blocks.{runs_grow, run_goes_on, each_weaker, eac
 use Rattle.spg_histories.proofs.Causes.{causes_grow, no_save_in}
 use Rattle.spg_histories.proofs.Telling.{lanes_more}
 use Rattle.spg_perform.specs.Session.{AllClosed, told_of, ReadsBack, is_image_fault, image_faults, RoseBy, Session, LeadsOn, standing}
-use Rattle.spg_perform.specs.Acted.{CanBeDone}
+use Rattle.spg_commands.specs.Acted.{CanBeDone}
 use Rattle.spg_perform.specs.Lanes.{refusals}
 use Rattle.spg_perform.specs.Posts.{RanBeside}
 use Rattle.spg_perform.proofs.LaneCalls.{lanes_ran, lanes_full}

@@ -7,15 +7,12 @@ use Rattle.spg_io.specs.Held.{Holding}
 use Rattle.spg_rows.specs.Right.{Right}
 use Rattle.spg_tree.specs.Table.{sheets_of}
 use Rattle.spg_core.specs.Seen.{Seen, past_of}
-use Rattle.spg_script.specs.declared.class_name.ClassName.{ClassName}
-use Rattle.spg_script.specs.declared.command.Command.{Command}
 use Rattle.spg_script.specs.Blocks.{Script}
-use Rattle.spg_script.specs.Line.{has_texts}
-use Rattle.spg_script.specs.Laws.{IsCommand}
-use Rattle.spg_script.specs.Speech.{Speech, IsKnown}
+use Rattle.spg_script.specs.Speech.{Speech}
 use Rattle.spg_report.specs.declared.outcome.Outcome.{Outcome}
 use Rattle.spg_report.specs.declared.outcome.Outcome.TheVariants as outcome
 use Rattle.spg_report.specs.declared.record.Record.{Record}
+pub use Rattle.spg_commands.specs.Known.{IsOfClass}
 pub use Rattle.spg_whole.specs.Calls.{AllClosed}
 use Rattle.spg_histories.specs.Tasks.{Task, tasks_of}
 use Rattle.spg_histories.specs.Run.{Entry, load_events, RunOf}
@@ -23,10 +20,6 @@ use Rattle.spg_histories.specs.Telling.{TellAll}
 use Rattle.spg_histories.specs.Causes.{Causes}
 use Rattle.spg_image.specs.Image.{Image, sheets_in}
 use Rattle.spg_image.specs.Saving.{HoldsImage}
-
--- the class has the keys and conditions of every command that scripts of this class name
-abbrev pub IsOfClass : {Key Cond : Type 0} → Speech Key Cond → ClassName → Type 0
-IsOfClass speech class = (c : Command) → IsCommand (has_texts class) c → IsKnown speech c
 
 -- ---- images
 

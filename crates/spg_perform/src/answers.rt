@@ -1,6 +1,7 @@
 // The outcomes of what the calls of an index answer.
 ghost use Rattle.std.specs.Prelude.{◌≡◌};
-ghost use Rattle.spg_perform.specs.Outcomes.{insert_outcome, delete_outcome, find_outcome, vacuum_outcome, near_outcome, IsAnswered};
+ghost use Rattle.spg_commands.specs.Outcomes.{insert_outcome, delete_outcome, find_outcome, vacuum_outcome};
+ghost use Rattle.spg_perform.specs.Outcomes.{near_outcome, IsAnswered};
 
 use spg_base::Memory;
 use spg_core::Closed;

@@ -2,14 +2,13 @@ ghost use Rattle.std.specs.Prelude.{◌≡◌, ◌<◌, ◌≤◌, ◌+◌, ◌�
 ghost use Rattle.spg_core.specs.Seen.{past_of};
 ghost use Rattle.spg_histories.specs.Tasks.{lanes_tasks, parts_tasks};
 ghost use Rattle.spg_perform.specs.Session.{AllClosed, LeadsOn, standing};
-ghost use Rattle.spg_perform.specs.Acted.{CanBeDone, CanBlock, task_of};
+ghost use Rattle.spg_commands.specs.Acted.{CanBeDone, CanBlock, task_of};
 
-use crate::book::Book;
 use crate::command::command;
 use crate::count::count_commands;
-use crate::gate::Gate;
 use crate::together::together;
 use spg_base::SeatNo;
+use spg_commands::{Book, Gate};
 use spg_core::State;
 use spg_io::Images;
 use spg_opclass::SharedClass;

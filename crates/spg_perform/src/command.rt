@@ -6,7 +6,7 @@ ghost use Rattle.spg_script.specs.declared.command.Command.TheVariants as asked;
 ghost use Rattle.spg_report.specs.declared.record.Record.{Record as Done};
 ghost use Rattle.spg_perform.specs.Session.{AllClosed, LeadsOn, RoseBy, is_image_fault, standing};
 ghost use Rattle.spg_perform.specs.Saved.{IsSaved};
-ghost use Rattle.spg_perform.specs.Acted.{Acts, CanBeDone, task_of};
+ghost use Rattle.spg_commands.specs.Acted.{Acts, CanBeDone, task_of};
 
 use crate::delete::delete;
 use crate::find::find;

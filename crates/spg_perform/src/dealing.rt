@@ -2,13 +2,13 @@
 ghost use Rattle.std.specs.Prelude.{◌≡◌, ◌<◌, ◌≤◌, ℕ, false, List as Items, length, All, slice_index_or};
 ghost use Rattle.spg_script.specs.declared.command.Command.{Command as Asked};
 ghost use Rattle.spg_desk.specs.Passes.{desk_id, desk_seats, desk_of, view_of};
-ghost use Rattle.spg_perform.specs.Acted.{CanBeDone};
+ghost use Rattle.spg_commands.specs.Acted.{CanBeDone};
 ghost use Rattle.spg_perform.specs.Posts.{IsReady, HasRun, IsDealt};
 
-use crate::gate::Gate;
 use crate::lane::run_lane;
 use crate::post::Post;
 use spg_base::List;
+use spg_commands::Gate;
 use spg_desk::{Desk, Pass};
 use spg_opclass::{OpClass, SharedClass};
 use spg_script::{Command, Spoken};

@@ -2,7 +2,7 @@ ghost use Rattle.std.specs.Prelude.{Bool};
 ghost use Rattle.spg_core.specs.Seen.{past_of};
 ghost use Rattle.spg_script.specs.declared.command.Command.TheVariants.{Delete};
 ghost use Rattle.spg_whole.specs.Calls.{AllClosed};
-ghost use Rattle.spg_perform.specs.Acted.{Acts};
+ghost use Rattle.spg_commands.specs.Acted.{Acts};
 
 use crate::answers::delete_outcome;
 use crate::position::{none_open, position, recorded};

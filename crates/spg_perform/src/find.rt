@@ -3,12 +3,12 @@ ghost use Rattle.spg_core.specs.Seen.{past_of};
 ghost use Rattle.spg_script.specs.Speech.{IsKnown};
 ghost use Rattle.spg_script.specs.declared.command.Command.TheVariants.{Find};
 ghost use Rattle.spg_whole.specs.Calls.{AllClosed};
-ghost use Rattle.spg_perform.specs.Acted.{Acts};
+ghost use Rattle.spg_commands.specs.Acted.{Acts};
 
 use crate::answers::find_outcome;
-use crate::asking::query_in;
 use crate::position::{none_open, position, recorded};
 use spg_base::{Memory, SeatNo};
+use spg_commands::query_in;
 use spg_core::State;
 use spg_report::{Outcome, Record};
 use spg_script::{AnyQuery, Spoken};

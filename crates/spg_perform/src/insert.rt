@@ -3,12 +3,12 @@ ghost use Rattle.spg_core.specs.Seen.{past_of};
 ghost use Rattle.spg_script.specs.Speech.{IsKnown};
 ghost use Rattle.spg_script.specs.declared.command.Command.TheVariants.{Insert};
 ghost use Rattle.spg_whole.specs.Calls.{AllClosed};
-ghost use Rattle.spg_perform.specs.Acted.{Acts};
+ghost use Rattle.spg_commands.specs.Acted.{Acts};
 
 use crate::answers::insert_outcome;
-use crate::asking::key_in;
 use crate::position::{none_open, position, recorded};
 use spg_base::{Memory, Row, SeatNo};
+use spg_commands::key_in;
 use spg_core::State;
 use spg_report::{Outcome, Record};
 use spg_script::{AnyKey, Spoken};

@@ -3,13 +3,12 @@ ghost use Rattle.std.specs.Prelude.{◌≡◌, ◌≤◌, [], false, length, All
 ghost use Rattle.spg_script.specs.declared.command.Command.TheVariants as asked;
 ghost use Rattle.spg_script.specs.Speech.{IsKnown};
 ghost use Rattle.spg_desk.specs.Passes.{desk_id, desk_of, view_of};
-ghost use Rattle.spg_perform.specs.Acted.{CanBeDone};
+ghost use Rattle.spg_commands.specs.Acted.{CanBeDone};
 ghost use Rattle.spg_perform.specs.Lanes.{Went, WentOne, insert_record, kill_record, find_record, vacuum_record, refused_at};
 ghost use Rattle.spg_perform.specs.Posts.{IsWhole};
 
-use crate::asking::{key_in, query_in};
-use crate::gate::Gate;
 use spg_base::{Memory, Row, Span};
+use spg_commands::{Gate, key_in, query_in};
 use spg_desk::{Desk, FindAnswer, InsertAnswer, KillAnswer, Pass, VacuumAnswer};
 use spg_opclass::OpClass;
 use spg_report::{Outcome, Record};

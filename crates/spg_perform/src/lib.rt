@@ -3,15 +3,12 @@
 #![tactic(auto)]
 
 mod answers;
-mod asking;
 mod blocks;
-mod book;
 mod command;
 mod count;
 mod dealing;
 mod delete;
 mod find;
-mod gate;
 mod gathering;
 mod insert;
 mod lane;
@@ -24,8 +21,6 @@ mod stat;
 mod together;
 mod vacuum;
 
-pub use asking::{key_in, query_in};
-pub use book::Book;
-pub use gate::Gate;
 pub use script::perform;
+pub use spg_commands::Gate;
 pub use spg_served::Served;

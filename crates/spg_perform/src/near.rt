@@ -3,7 +3,7 @@ ghost use Rattle.spg_core.specs.Seen.{past_of};
 ghost use Rattle.spg_script.specs.Speech.{IsKnown};
 ghost use Rattle.spg_script.specs.declared.command.Command.TheVariants.{Near};
 ghost use Rattle.spg_whole.specs.Calls.{AllClosed};
-ghost use Rattle.spg_perform.specs.Acted.{Acts};
+ghost use Rattle.spg_commands.specs.Acted.{Acts};
 
 use crate::answers::near_outcome;
 use crate::position::{none_open, position, recorded};

@@ -4,10 +4,9 @@ ghost use Rattle.spg_histories.specs.Tasks.{parts_tasks};
 ghost use Rattle.spg_perform.specs.Session.{AllClosed, IsOfClass, Performs, standing};
 
 use crate::blocks::parts;
-use crate::book::Book;
 use crate::count::count_commands;
-use crate::gate::Gate;
 use spg_base::Memory;
+use spg_commands::{Book, Gate};
 use spg_core::State;
 use spg_io::Images;
 use spg_opclass::SharedClass;

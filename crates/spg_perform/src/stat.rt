@@ -2,7 +2,7 @@ ghost use Rattle.std.specs.Prelude.{◌≡◌, Bool};
 ghost use Rattle.spg_core.specs.Stage.{free};
 ghost use Rattle.spg_core.specs.Seen.{stage_at};
 ghost use Rattle.spg_script.specs.declared.command.Command.TheVariants.{Stat};
-ghost use Rattle.spg_perform.specs.Acted.{Acts};
+ghost use Rattle.spg_commands.specs.Acted.{Acts};
 
 use crate::position::{position, recorded};
 use spg_base::SeatNo;

@@ -8,7 +8,7 @@ use Rattle.spg_tree.specs.Table.{sheets_of}
 use Rattle.spg_core.specs.Seen.{Seen, past_of}
 use Rattle.spg_core.specs.Stepping.{SamePages}
 use Rattle.spg_near.specs.declared.near_row.NearRow.{NearRow}
-use Rattle.spg_nearest.specs.declared.nearest.Nearest.{Nearest}
+pub use Rattle.spg_nearest.specs.declared.nearest.Nearest.{Nearest}
 use Rattle.spg_script.specs.Speech.{Speech}
 use Rattle.spg_whole.specs.Calls.{Did}
 use Rattle.spg_histories.specs.Nearest.{IsKeyOf, AreNearest, WalksNear}

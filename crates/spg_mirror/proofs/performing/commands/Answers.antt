@@ -3,7 +3,7 @@ use Rattle.std.proofs.lemmas.List.Elements.{All-get_or}
 use Rattle.spg_script.specs.declared.command.Command.{Command}
 use Rattle.spg_script.specs.Script.{IsLaneCommand}
 use Rattle.spg_script.specs.Speech.{IsKnown}
-use Rattle.spg_perform.proofs.BlocksTasks.{IsNext}
+use Rattle.spg_commands.proofs.Next.{IsNext}
 use Rattle.spg_mirror.proofs.Runs.{leads_on, all_led}
 use Rattle.spg_mirror.proofs.performing.commands.Goals as goal
 

@@ -1,7 +1,7 @@
 use Rattle.std.proofs.Common.{ℕ, true, List, [], ◌∷◌, ◌++◌, sym, subst}
 use Rattle.spg_report.specs.declared.record.Record.{Record}
 use Rattle.spg_perform.specs.Session.{LeadsOn, standing}
-use Rattle.spg_perform.specs.Acted.{task_of}
+use Rattle.spg_commands.specs.Acted.{task_of}
 use Rattle.spg_perform.proofs.blocks.alone.Goals as goal
 
 pub returns-clause-leads : goal.returns-clause-leads

@@ -6,7 +6,7 @@ use Rattle.spg_script.specs.Blocks.{Part}
 use Rattle.spg_script.specs.Parts.{lent_part}
 use Rattle.spg_histories.specs.Tasks.{lanes_tasks}
 use Rattle.spg_perform.specs.Session.{LeadsOn, standing}
-use Rattle.spg_perform.specs.Acted.{CanBeDone, CanBlock}
+use Rattle.spg_commands.specs.Acted.{CanBeDone, CanBlock}
 use Rattle.spg_perform.proofs.blocks.part.Goals as goal
 
 pub alone-requires-clause-can : goal.alone-requires-clause-can

@@ -1,9 +1,10 @@
 use Rattle.std.proofs.Common.{arith, sym, subst}
 use Rattle.std.proofs.lemmas.List.Elements.{All-get_or}
 use Rattle.spg_script.specs.Blocks.{Part}
-use Rattle.spg_perform.specs.Acted.{CanBlock}
+use Rattle.spg_commands.specs.Acted.{CanBlock}
 use Rattle.spg_perform.specs.Session.{standing}
-use Rattle.spg_perform.proofs.BlocksTasks.{IsNext, parts_left}
+use Rattle.spg_commands.proofs.Next.{IsNext}
+use Rattle.spg_perform.proofs.BlocksTasks.{parts_left}
 use Rattle.spg_perform.proofs.BlocksLeading.{parts_lead, parts_led}
 use Rattle.spg_perform.proofs.blocks.parts.Goals as goal
 

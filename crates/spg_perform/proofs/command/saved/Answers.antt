@@ -1,5 +1,5 @@
 use Rattle.std.proofs.Common.{length, ◌∙◌}
-use Rattle.spg_perform.proofs.Acting.{Spans}
+use Rattle.spg_commands.proofs.Acting.{Spans}
 use Rattle.spg_perform.proofs.LeadingSave.{save_acts}
 use Rattle.spg_perform.proofs.command.saved.Goals as goal
 

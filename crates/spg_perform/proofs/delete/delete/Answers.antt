@@ -1,7 +1,7 @@
 use Rattle.std.proofs.Common.{length, ◌∙◌}
-use Rattle.spg_perform.specs.Outcomes.{delete_outcome}
-use Rattle.spg_perform.proofs.Acting.{Spans}
-use Rattle.spg_perform.proofs.Commands.{deleted}
+use Rattle.spg_commands.specs.Outcomes.{delete_outcome}
+use Rattle.spg_commands.proofs.Acting.{Spans}
+use Rattle.spg_commands.proofs.Commands.{deleted}
 use Rattle.spg_perform.proofs.delete.delete.Goals as goal
 
 pub returns : goal.returns

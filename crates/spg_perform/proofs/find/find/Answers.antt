@@ -1,9 +1,9 @@
 use Rattle.std.proofs.Common.{true, inl, length, refl, sym, ◌∙◌}
 use Rattle.spg_report.specs.declared.outcome.Outcome.TheVariants as outcome
 use Rattle.spg_script.specs.declared.command.Command.TheVariants.{Find}
-use Rattle.spg_perform.specs.Outcomes.{find_outcome}
-use Rattle.spg_perform.proofs.Acting.{Spans, rests}
-use Rattle.spg_perform.proofs.Commands.{found}
+use Rattle.spg_commands.specs.Outcomes.{find_outcome}
+use Rattle.spg_commands.proofs.Acting.{Spans, rests}
+use Rattle.spg_commands.proofs.Commands.{found}
 use Rattle.spg_perform.proofs.find.find.Goals as goal
 
 pub returns-in-Err : goal.returns-in-Err

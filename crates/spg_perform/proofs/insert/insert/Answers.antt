@@ -1,9 +1,9 @@
 use Rattle.std.proofs.Common.{inl, length, refl, sym, ap, ◌∙◌}
 use Rattle.spg_report.specs.declared.outcome.Outcome.TheVariants as outcome
 use Rattle.spg_script.specs.declared.command.Command.TheVariants.{Insert}
-use Rattle.spg_perform.specs.Outcomes.{insert_outcome}
-use Rattle.spg_perform.proofs.Acting.{Spans, rests}
-use Rattle.spg_perform.proofs.Commands.{inserted}
+use Rattle.spg_commands.specs.Outcomes.{insert_outcome}
+use Rattle.spg_commands.proofs.Acting.{Spans, rests}
+use Rattle.spg_commands.proofs.Commands.{inserted}
 use Rattle.spg_perform.proofs.insert.insert.Goals as goal
 
 pub returns-in-Err : goal.returns-in-Err

@@ -1,6 +1,6 @@
 use Rattle.std.proofs.Common.{◌≡◌, length, ◌∙◌, arith}
 use Rattle.spg_desk.specs.Passes.{view_of}
-use Rattle.spg_perform.proofs.BlocksTasks.{IsNext}
+use Rattle.spg_commands.proofs.Next.{IsNext}
 use Rattle.spg_perform.proofs.LaneRuns.{went_next, went_count}
 use Rattle.spg_perform.proofs.lane.run_lane.Goals as goal
 

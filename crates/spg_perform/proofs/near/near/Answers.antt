@@ -1,7 +1,7 @@
 use Rattle.std.proofs.Common.{length, sym, ◌∙◌}
 use Rattle.spg_perform.specs.Outcomes.{near_outcome}
-use Rattle.spg_perform.proofs.Acting.{Spans}
-use Rattle.spg_perform.proofs.Commands.{answered, nearest}
+use Rattle.spg_commands.proofs.Acting.{Spans}
+use Rattle.spg_perform.proofs.Nearest.{answered, nearest}
 use Rattle.spg_perform.proofs.near.near.Goals as goal
 
 pub near_outcome-requires : goal.near_outcome-requires

@@ -1,6 +1,6 @@
 use Rattle.std.proofs.Common.{length, ◌∙◌}
 use Rattle.spg_report.specs.declared.outcome.Outcome.TheVariants as outcome
-use Rattle.spg_perform.proofs.Acting.{Spans}
+use Rattle.spg_commands.proofs.Acting.{Spans}
 use Rattle.spg_perform.proofs.Counting.{counted}
 use Rattle.spg_perform.proofs.stat.stat.Goals as goal
 

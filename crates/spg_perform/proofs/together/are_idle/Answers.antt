@@ -1,7 +1,8 @@
 use Rattle.std.proofs.Common.{true, length, sym, arith}
 use Rattle.std.proofs.lemmas.Bool.{ne_eqb}
 use Rattle.spg_histories.specs.Tasks.{lanes_tasks}
-use Rattle.spg_perform.proofs.BlocksTasks.{IsNext, lanes_left}
+use Rattle.spg_commands.proofs.Next.{IsNext}
+use Rattle.spg_perform.proofs.BlocksTasks.{lanes_left}
 use Rattle.spg_perform.proofs.Refusing.{filled, emptied}
 use Rattle.spg_perform.proofs.together.are_idle.Goals as goal
 

@@ -1,7 +1,7 @@
 use Rattle.std.proofs.Common.{length, ◌∙◌}
-use Rattle.spg_perform.specs.Outcomes.{vacuum_outcome}
-use Rattle.spg_perform.proofs.Acting.{Spans}
-use Rattle.spg_perform.proofs.Commands.{vacuumed}
+use Rattle.spg_commands.specs.Outcomes.{vacuum_outcome}
+use Rattle.spg_commands.proofs.Acting.{Spans}
+use Rattle.spg_commands.proofs.Commands.{vacuumed}
 use Rattle.spg_perform.proofs.vacuum.vacuum.Goals as goal
 
 pub returns : goal.returns

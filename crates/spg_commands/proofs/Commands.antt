@@ -3,12 +3,10 @@ use Rattle.std.specs.Prelude.{map, is_none}
 use Rattle.std.proofs.Common.{◌≡◌, ◌<◌, ◌+◌, ◌^◌, inl, inr, ℕ, Bool, true, false, List, [], ◌∷◌, ◌++◌, length, Option, Some, None, Result, Ok, Err, OnOk, IfOk, OnErr, IfErr, refl, sym, ap, ◌∙◌, subst, arith}
 use Rattle.std.specs.List.{AllByRecursion}
 use Rattle.spg_base.specs.Row.{RowAt}
-use Rattle.spg_base.specs.declared.point.Point.{Point}
 use Rattle.spg_base.specs.declared.recorded.Origin.{Origin}
 use Rattle.spg_base.specs.declared.memory.Memory.{Memory as NoMemory}
 use Rattle.spg_opclass.specs.Meaning.{Meaning}
 use Rattle.spg_opclass.specs.declared.query.Query.{Query}
-use Rattle.spg_opclass.specs.declared.query.Query.TheVariants as asks
 use Rattle.spg_forest.specs.Walk.{weight_of}
 use Rattle.spg_rows.specs.declared.event.Event.{Event}
 use Rattle.spg_rows.specs.declared.event.Event.TheVariants.{OpenInsert, Put, Drop, Kill, OpenScan, CloseScan, OpenVacuum, Sweep, CloseVacuum, Leave}
@@ -27,30 +25,28 @@ use Rattle.spg_whole.specs.declared.refused.InsertRefused.TheVariants as refused
 use Rattle.spg_whole.specs.Calls.{AllClosed, Did, Inserts, KeepsOut, Deletes, Finds, FindsNone, Vacuums, VacuumsNot, swept_then}
 use Rattle.spg_whole.proofs.Lists.{each_append}
 use Rattle.spg_whole.proofs.Sections.{sweeps_by}
-use Rattle.spg_nearest.specs.declared.nearest.Nearest.{Nearest}
-use Rattle.spg_served.specs.Serves.{IsServed}
 use Rattle.spg_script.specs.declared.any_key.AnyKey.{AnyKey}
 use Rattle.spg_script.specs.declared.any_query.AnyQuery.{AnyQuery}
 use Rattle.spg_script.specs.declared.command.Command.{Command}
-use Rattle.spg_script.specs.declared.command.Command.TheVariants.{Insert, Delete, Find, Vacuum, Near}
-use Rattle.spg_script.specs.Speech.{Speech, key_or_null_in, query_in, IsKnown}
+use Rattle.spg_script.specs.declared.command.Command.TheVariants.{Insert, Delete, Find, Vacuum}
+use Rattle.spg_script.specs.Speech.{Speech, key_or_null_in, query_in}
 use Rattle.spg_report.specs.declared.outcome.Outcome.{Outcome}
 use Rattle.spg_report.specs.declared.outcome.Outcome.TheVariants as outcome
 use Rattle.spg_report.specs.declared.record.Record.{Record}
 use Rattle.spg_histories.specs.Run.{Does}
 use Rattle.spg_histories.specs.Telling.{TellsOf, LeafIs, is_quiet_command}
 use Rattle.spg_histories.specs.Causes.{IsDue, IsCaused, PrintsPages}
-use Rattle.spg_perform.specs.Acted.{Acts, task_of}
-use Rattle.spg_perform.specs.Outcomes.{insert_outcome, delete_outcome, find_outcome, vacuum_outcome, near_outcome, IsAnswered}
-use Rattle.spg_perform.proofs.Keys.{same_null}
-use Rattle.spg_perform.proofs.Rows.{unclaimed}
-use Rattle.spg_perform.proofs.Acting.{Spans, acts, rests, grew_into}
+use Rattle.spg_commands.specs.Acted.{Acts, task_of}
+use Rattle.spg_commands.specs.Outcomes.{insert_outcome, delete_outcome, find_outcome, vacuum_outcome}
+use Rattle.spg_commands.proofs.Keys.{same_null}
+use Rattle.spg_commands.proofs.Rows.{unclaimed}
+use Rattle.spg_commands.proofs.Acting.{Spans, acts, rests, grew_into}
 
 module _ {O Key Recon Cond : Type 0} (m : Meaning Key Recon Cond) (speech : Speech Key Cond) (s0 s1 : Seen O Key Recon Cond) (seat : ℕ) (alone : Bool) (idle : stage_at s0 seat ≡ free) (idle_then : stage_at s1 seat ≡ free) (right : Right m s1.journal) where
   abbrev By : List (Event O Key Recon Cond) → Type 0
   By events = AllByRecursion (λ (e : Event O Key Recon Cond). seat_of e ≡ seat) events
 
-  did : (c : Command) (o : Outcome) (r : Record) → Spans r o (length s0.journal) (length s1.journal) → (events : List (Event O Key Recon Cond)) → Did s0 s1 events → By events
+  pub did : (c : Command) (o : Outcome) (r : Record) → Spans r o (length s0.journal) (length s1.journal) → (events : List (Event O Key Recon Cond)) → Did s0 s1 events → By events
       → ((block : ℕ) → Does {O = O} {Key = Key} {Recon = Recon} {Cond = Cond} speech (task_of block seat alone c) (past_of s0) events o)
       → IsDue m s0.origin c (past_of s0) (past_of s1) o → IsCaused s0.origin.limit (sheets_of s1.table) o → (is_quiet_command c ≡ true → sheets_of s1.table ≡ sheets_of s0.table) → (alone ≡ true → TellsOf O m speech (sheets_of s1.table) c o)
       → LeafIs (present_count (past_of s0)) o → PrintsPages (sheets_of s1.table) o → Acts m speech s0 s1 seat alone c r
@@ -109,27 +105,3 @@ module _ {O Key Recon Cond : Type 0} (m : Meaning Key Recon Cond) (speech : Spee
       (λ z. (q, k, asked, w, ap (λ (n : ℕ). Some n) met)) tt tt
   found query q asked r (Err n) F (inl same) spans = rests m speech s0 s1 seat true (Find query) outcome.Memory r spans same idle (λ block. inl refl) tt tt (λ z. tt) tt tt
   found query q asked r (Err n) F (inr (D, pages)) spans = did m speech s0 s1 seat true idle idle_then right (Find query) outcome.Memory r spans (OpenScan seat q ∷ Leave seat ∷ []) D (refl, (refl, tt)) (λ block. inr (q, asked, refl)) tt tt (λ z. pages.0) (λ z. tt) tt tt
-
--- ---- searches for the nearest rows
-
-module _ {O Key Recon Cond : Type 0} (m : Meaning Key Recon Cond) (speech : Speech Key Cond) (s0 s1 : Seen O Key Recon Cond) (seat : ℕ) where
-  pub answered : (target : Point) (limit : ℕ) → IsKnown speech (Near target limit) → (result : Result (Option Nearest) NoMemory) → IfOk result (λ found. IsServed m speech s0 s1 seat target limit found) → IsAnswered result
-  answered target limit known (Ok (Some found)) served = tt
-  answered target limit known (Ok None) served = served.0 known.0 known.1
-  answered target limit known (Err e) served = tt
-
-  pub closed_then : (target : Point) (limit : ℕ) → AllClosed (past_of s0) → (result : Result (Option Nearest) NoMemory) → IfOk result (λ found. IsServed m speech s0 s1 seat target limit found) → OnErr result (FindsNone s0 s1 seat asks.All) → AllClosed (past_of s1)
-  closed_then target limit closed (Ok (Some found)) served e = served.did.closed
-  closed_then target limit closed (Ok None) served e = subst (λ (s : Seen O Key Recon Cond). AllClosed (past_of s)) (sym served.1) closed
-  closed_then target limit closed (Err n) served (inl same) = subst (λ (s : Seen O Key Recon Cond). AllClosed (past_of s)) (sym same) closed
-  closed_then target limit closed (Err n) served (inr (D, pages)) = D.closed
-
-module _ {O Key Recon Cond : Type 0} (m : Meaning Key Recon Cond) (speech : Speech Key Cond) (s0 s1 : Seen O Key Recon Cond) (seat : ℕ) (idle : stage_at s0 seat ≡ free) (idle_then : stage_at s1 seat ≡ free) (right : Right m s1.journal) where
-  pub nearest : (target : Point) (limit : ℕ) → IsKnown speech (Near target limit) → (r : Record) (result : Result (Option Nearest) NoMemory) → IfOk result (λ found. IsServed m speech s0 s1 seat target limit found) → OnErr result (FindsNone s0 s1 seat asks.All)
-      → Spans r (near_outcome result) (length s0.journal) (length s1.journal) → Acts m speech s0 s1 seat true (Near target limit) r
-  nearest target limit known r (Ok (Some found)) served e spans =
-      did m speech s0 s1 seat true idle idle_then right (Near target limit) (outcome.Near found.rows found.met) r spans (OpenScan seat asks.All ∷ Leave seat ∷ []) served.did (refl, (refl, tt)) (λ block. ((asks.All, refl, refl), served.right, refl)) tt tt (λ z. served.pages.0)
-      (λ z. served.walk) tt tt
-  nearest target limit known r (Ok None) served e spans = absurd (served.0 known.0 known.1)
-  nearest target limit known r (Err n) served (inl same) spans = rests m speech s0 s1 seat true (Near target limit) outcome.Memory r spans same idle (λ block. inl refl) tt tt (λ z. tt) tt tt
-  nearest target limit known r (Err n) served (inr (D, pages)) spans = did m speech s0 s1 seat true idle idle_then right (Near target limit) outcome.Memory r spans (OpenScan seat asks.All ∷ Leave seat ∷ []) D (refl, (refl, tt)) (λ block. inr (asks.All, refl, refl)) tt tt (λ z. pages.0) (λ z. tt) tt tt

@@ -13,7 +13,7 @@ pub struct Book {
 
 impl Model for Book {
     ghost use Rattle.std.specs.Prelude.{◌-◌, vec_capacity, vec_len};
-    ghost use Rattle.spg_perform.specs.Noted.{Noted};
+    ghost use Rattle.spg_commands.specs.Noted.{Noted};
 
     ghost Value = { Noted };
 

@@ -17,7 +17,7 @@ use Rattle.spg_report.specs.declared.record.Record.{Record}
 use Rattle.spg_histories.specs.Run.{Does}
 use Rattle.spg_histories.specs.Telling.{TellsOf, LeafIs, is_quiet_command}
 use Rattle.spg_histories.specs.Causes.{IsDue, IsCaused, GrewInto, PrintsPages}
-use Rattle.spg_perform.specs.Acted.{Acts, task_of}
+use Rattle.spg_commands.specs.Acted.{Acts, task_of}
 
 -- the record of what happened between two lengths of a journal
 pub record Spans (r : Record) (outcome : Outcome) (from to : ℕ) : Type 0 where

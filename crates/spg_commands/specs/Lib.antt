@@ -1,0 +1,4 @@
+pub mod Known
+pub mod Acted
+pub mod Outcomes
+pub mod Noted
