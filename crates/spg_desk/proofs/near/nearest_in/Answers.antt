@@ -17,15 +17,15 @@ pub search_now-requires-clause-now : goal.search_now-requires-clause-now
 search_now-requires-clause-now g c =
     let seen = c.args.bare.now in (
       past_of seen,
-      begins g.O.OpClass.meaning seen c.args.seat c.pages.result.now c.rows.result.now c.pages.ensures.value c.journal.ensures.right.legal c.requires.free c.open_of.ensures.journal c.pages.ensures.represents c.rows.ensures.states,
+      begins g.O.OpClass.meaning seen c.args.seat c.pages-pages.result.now c.rows-rows.result.now c.pages-pages.ensures.value c.journal.ensures.right.legal c.requires.free c.open_of.ensures.journal c.pages-pages.ensures.represents c.rows-rows.ensures.states,
       c.len-at.ensures ∙ ap length c.journal.ensures.events ∙ sym (length-reverse seen.journal),
     )
 
-pub returns : goal.returns
-returns g c =
+pub returns-in-Found : goal.returns-in-Found
+returns-in-Found g c =
     let seen = c.args.bare.now in
-    let (right, walk) = subst (IsSought g.O.OpClass.meaning g.O.NearClass.box_below c.args.seat (past_of seen) c.pages.result.now c.args.target c.args.limit) c.in-Found.is
-    (c.in_ok-search_now.ensures (past_of seen)
-    (begins g.O.OpClass.meaning seen c.args.seat c.pages.result.now c.rows.result.now c.pages.ensures.value c.journal.ensures.right.legal c.requires.free c.open_of.ensures.journal c.pages.ensures.represents c.rows.ensures.states)
+    let (right, walk) = subst (IsSought g.O.OpClass.meaning g.O.NearClass.box_below c.args.seat (past_of seen) c.pages-pages.result.now c.args.target c.args.limit) c.in-Found.is
+    (c.in_ok-rows.ensures (past_of seen)
+    (begins g.O.OpClass.meaning seen c.args.seat c.pages-pages.result.now c.rows-rows.result.now c.pages-pages.ensures.value c.journal.ensures.right.legal c.requires.free c.open_of.ensures.journal c.pages-pages.ensures.represents c.rows-rows.ensures.states)
     (c.len-at.ensures ∙ ap length c.journal.ensures.events ∙ sym (length-reverse seen.journal))) in
     exact (past_of seen) c.journal.ensures.right.legal c.args.seat c.args.target c.args.limit c.in-Found.rows right

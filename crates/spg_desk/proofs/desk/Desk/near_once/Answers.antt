@@ -1,9 +1,9 @@
-use Rattle.std.proofs.Common.{◌≡◌, [], refl, sym, ap, ◌∙◌}
+use Rattle.std.proofs.Common.{[], refl, ap, subst}
 use Rattle.spg_turn.specs.Passes.{pass_view, held_view, held_state}
 use Rattle.spg_turn.specs.declared.rule.View.{View}
-use Rattle.spg_calls.specs.Doing.{idle}
 use Rattle.spg_core.specs.Seen.{stage_at}
 use Rattle.spg_desk.specs.Acting.{IsStageFor}
+use Rattle.spg_desk.specs.Knowing.{doing_at}
 use Rattle.spg_desk.proofs.Inserting.{stage_here}
 use Rattle.spg_desk.proofs.Nearing.{one_moment, found_then}
 use Rattle.spg_desk.proofs.Sections.{adds_none, section_grown, section_did}
@@ -14,7 +14,7 @@ nearest_in-found-requires g c =
     let v = pass_view c.args.going.pass in
     let e = c.enter-held.ensures in
     let s = held_state c.enter-held.result in
-    record { free = stage_here v (held_view c.enter-held.result) s c.state-2.result.now c.seat-seat.result idle e.view c.state-2.ensures c.seat-seat.ensures (rw c.requires.idle at e.stage) }
+    record { free = subst (λ d. IsStageFor d (stage_at c.state-2.result.now c.seat-seat.result)) c.requires.idle (stage_here v (held_view c.enter-held.result) s c.state-2.result.now c.seat-seat.result (doing_at v) e.view c.state-2.ensures c.seat-seat.ensures e.stage) }
 
 pub leave-going-requires-clause-grown : goal.leave-going-requires-clause-grown
 leave-going-requires-clause-grown g c =
