@@ -5,4 +5,5 @@ pub mod Composing
 pub mod Calls
 pub mod Inserting
 pub mod Finding
+pub mod Nearing
 pub mod Sweeping

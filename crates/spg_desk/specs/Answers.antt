@@ -1,5 +1,6 @@
 -- What a call of the desk answers, and what it has done then.
-use Rattle.std.specs.Prelude.{◌≡◌, ◌<◌, ◌⊎◌, ◌++◌, ℕ, Bool, true, false, List, [], ◌∷◌, length, map, is_none, Option, Some, Result, Ok, Err}
+use Rattle.std.specs.Prelude.{◌≡◌, ◌<◌, ◌⊎◌, ◌++◌, ℕ, Bool, true, false, List, [], ◌∷◌, length, map, reverse, is_none, Option, Some, Result, Ok, Err}
+use Rattle.spg_base.specs.declared.point.Point.{Point}
 use Rattle.spg_base.specs.declared.recorded.Origin.{Origin}
 use Rattle.spg_base.specs.Row.{RowAt}
 use Rattle.spg_base.specs.declared.names.Span.{Span}
@@ -21,15 +22,18 @@ use Rattle.spg_rows.specs.Rows.{held_by, is_live}
 use Rattle.spg_rows.specs.Told.{IsUsed}
 use Rattle.spg_turn.specs.declared.rule.View.{View}
 use Rattle.spg_core.specs.Weight.{opened_keys}
-use Rattle.spg_calls.specs.Calls.{past_at}
+use Rattle.spg_calls.specs.Calls.{past_at, span_at}
 use Rattle.spg_desk.specs.declared.answer.InsertAnswer.{InsertAnswer}
 use Rattle.spg_desk.specs.declared.answer.InsertAnswer.TheVariants as inserts
 use Rattle.spg_desk.specs.declared.answer.KillAnswer.{KillAnswer}
 use Rattle.spg_desk.specs.declared.answer.KillAnswer.TheVariants as kills
 use Rattle.spg_desk.specs.declared.answer.FindAnswer.{FindAnswer}
 use Rattle.spg_desk.specs.declared.answer.FindAnswer.TheVariants as finds
+use Rattle.spg_desk.specs.declared.answer.NearAnswer.{NearAnswer}
+use Rattle.spg_desk.specs.declared.answer.NearAnswer.TheVariants as nears
 use Rattle.spg_desk.specs.declared.answer.VacuumAnswer.{VacuumAnswer}
 use Rattle.spg_desk.specs.declared.answer.VacuumAnswer.TheVariants as vacuums
+use Rattle.spg_near.specs.Nearest.{AreNearest}
 use Rattle.spg_desk.specs.Told.{Told}
 
 -- what a call answers, by how it went
@@ -92,3 +96,9 @@ module _ {O Key Recon Cond : Type 0} (m : Meaning Key Recon Cond) (v w : View (E
   DidVacuum (vacuums.Vacuumed swept span) = (rows : List RowAt) × (length rows ≡ swept) × Told m v w span (swept_then rows (CloseVacuum v.number swept))
   DidVacuum (vacuums.Open by span) = Told m v w span [] × ((before : History O Key Recon Cond) × (open_of by (past_at span.from w.seen) ≡ vacuuming before))
   DidVacuum (vacuums.Memory span) = Told m v w span [] ⊎ ((rows : List RowAt) × Told m v w span (swept_then rows (Leave v.number)))
+
+module _ {O Recon Cond : Type 0} (m : Meaning Point Recon Cond) (v w : View (Event O Point Recon Cond)) where
+  -- nothing was done, and the rows are the nearest after the events that the pass has seen then
+  abbrev pub DidNear : Point → ℕ → NearAnswer → Type 0
+  DidNear target limit (nears.Near rows span) = Told m v w span [] × (span ≡ span_at (length w.seen) (length w.seen)) × AreNearest (reverse w.seen) target limit rows
+  DidNear target limit (nears.Memory span) = Told m v w span [] × (span ≡ span_at (length w.seen) (length w.seen))

@@ -1,4 +1,5 @@
-use spg_base::{Rows, SeatNo, Span};
+use spg_base::{List, Rows, SeatNo, Span};
+use spg_near::NearRow;
 
 /// What came of an insert. Each answer tells its span: from its first event to one past its last, or
 /// twice where it looked, where it did nothing.
@@ -35,6 +36,16 @@ pub enum FindAnswer {
     /// These rows were found, by block, then offset.
     Found { rows: Rows, span: Span },
     /// Want of memory. If the scan was opened it was given up.
+    Memory(Span),
+}
+
+/// What came of a search for the nearest rows. Its span is the length of the journal, twice, in the turn
+/// in which it was done.
+#[derive(Debug, Drop)]
+pub enum NearAnswer {
+    /// These rows are the nearest, each with the square of its distance, by distance, then row.
+    Near { rows: List<NearRow>, span: Span },
+    /// Want of memory. Nothing was done.
     Memory(Span),
 }
 

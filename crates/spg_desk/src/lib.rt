@@ -8,6 +8,7 @@ mod find;
 mod give_up;
 mod insert;
 mod kill;
+mod near;
 mod pass;
 mod put;
 mod scan;
@@ -15,6 +16,6 @@ mod span;
 mod turns;
 mod vacuum;
 
-pub use answer::{FindAnswer, InsertAnswer, KillAnswer, VacuumAnswer};
+pub use answer::{FindAnswer, InsertAnswer, KillAnswer, NearAnswer, VacuumAnswer};
 pub use desk::Desk;
 pub use pass::Pass;

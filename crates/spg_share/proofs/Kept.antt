@@ -1,7 +1,8 @@
 -- What a call of the desk leaves of a seat.
-use Rattle.std.proofs.Common.{◌≡◌, ◌+◌, inl, inr, ℕ, List, ◌++◌, Option, Some, sym, ap, ◌∙◌, subst, arith}
+use Rattle.std.proofs.Common.{◌≡◌, ◌+◌, inl, inr, ℕ, List, [], ◌++◌, Option, Some, sym, ap, ◌∙◌, subst, arith}
 use Rattle.std.proofs.lemmas.List.{append_assoc}
 use Rattle.spg_base.specs.Row.{RowAt}
+use Rattle.spg_base.specs.declared.point.Point.{Point}
 use Rattle.spg_base.specs.declared.names.Span.{Span}
 use Rattle.spg_opclass.specs.Meaning.{Meaning}
 use Rattle.spg_opclass.specs.declared.query.Query.{Query}
@@ -10,20 +11,22 @@ use Rattle.spg_turn.specs.declared.rule.View.{View}
 use Rattle.spg_core.specs.Seen.{Seen, past_of}
 use Rattle.spg_whole.specs.Calls.{AllClosed}
 use Rattle.spg_desk.specs.Told.{Told}
-use Rattle.spg_desk.specs.Answers.{DidInsert, DidKill, DidFind, DidVacuum}
+use Rattle.spg_desk.specs.Answers.{DidInsert, DidKill, DidFind, DidNear, DidVacuum}
 use Rattle.spg_desk.specs.declared.answer.InsertAnswer.{InsertAnswer}
 use Rattle.spg_desk.specs.declared.answer.InsertAnswer.TheVariants as inserts
 use Rattle.spg_desk.specs.declared.answer.KillAnswer.{KillAnswer}
 use Rattle.spg_desk.specs.declared.answer.KillAnswer.TheVariants as kills
 use Rattle.spg_desk.specs.declared.answer.FindAnswer.{FindAnswer}
 use Rattle.spg_desk.specs.declared.answer.FindAnswer.TheVariants as finds
+use Rattle.spg_desk.specs.declared.answer.NearAnswer.{NearAnswer}
+use Rattle.spg_desk.specs.declared.answer.NearAnswer.TheVariants as nears
 use Rattle.spg_desk.specs.declared.answer.VacuumAnswer.{VacuumAnswer}
 use Rattle.spg_desk.specs.declared.answer.VacuumAnswer.TheVariants as vacuums
 use Rattle.spg_opclass.specs.declared.class.OpClass.{Ghosts}
 use Rattle.spg_turn.specs.Views.{StartsWith, first_view, after_join}
 use Rattle.spg_desk.specs.declared.pass.Pass.{Pass}
 use Rattle.spg_desk.specs.Passes.{desk_of, view_of}
-use Rattle.spg_share.specs.Seats.{GoesOn, Takes, IsFirst, Grew, DoesInsert, DoesKill, DoesFind, DoesVacuum}
+use Rattle.spg_share.specs.Seats.{GoesOn, Takes, IsFirst, Grew, DoesInsert, DoesKill, DoesFind, DoesNear, DoesVacuum}
 
 module _ {O Key Recon Cond : Type 0} (m : Meaning Key Recon Cond) (v w : View (Event O Key Recon Cond)) where
   abbrev IsOn : Type 0
@@ -73,6 +76,16 @@ module _ {O Key Recon Cond : Type 0} {laws : Ghosts O Key Recon Cond} (m : Meani
   pub seat_vacuums : (answer : VacuumAnswer) → DidVacuum m (view_of p) (view_of q) answer → DoesVacuum m old (Some q) answer
   seat_vacuums answer did = let (number, seen) = vacuum_kept m (view_of p) (view_of q) answer did in
       subst (λ (x : Option (Pass O Key Recon Cond laws)). DoesVacuum m x (Some q) answer) (sym had) ((own, number, seen), (own, did))
+
+module _ {O Recon Cond : Type 0} {laws : Ghosts O Point Recon Cond} (m : Meaning Point Recon Cond) (old : Option (Pass O Point Recon Cond laws)) (p q : Pass O Point Recon Cond laws) (had : old ≡ Some p) (own : desk_of q ≡ desk_of p) where
+  near_told : (target : Point) (limit : ℕ) (answer : NearAnswer) → DidNear m (view_of p) (view_of q) target limit answer → (span : Span) × Told m (view_of p) (view_of q) span []
+  near_told target limit (nears.Near rows span) did = (span, did.0)
+  near_told target limit (nears.Memory span) did = (span, did.0)
+
+  pub seat_nears : (target : Point) (limit : ℕ) (answer : NearAnswer) → DidNear m (view_of p) (view_of q) target limit answer → DoesNear m old (Some q) target limit answer
+  seat_nears target limit answer did =
+      let (span, told) = near_told target limit answer did in
+      subst (λ (x : Option (Pass O Point Recon Cond laws)). DoesNear m x (Some q) target limit answer) (sym had) ((own, ap (λ (z : View (Event O Point Recon Cond)). z.number) told.same, told.called.grew), (own, did))
 
 pub starts_then : {E : Type 0} (a b c : List E) → StartsWith a b → StartsWith b c → StartsWith a c
 starts_then {E} a b c (m, e) (n, d) = (n ++ m, e ∙ ap (λ (l : List E). l ++ m) d ∙ append_assoc c n m)

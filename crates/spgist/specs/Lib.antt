@@ -1,4 +1,3 @@
-pub mod Nearest
 pub mod Builds
 pub use Rattle.spg_base.specs.Row
 pub use Rattle.spg_opclass.specs.Meaning
@@ -16,6 +15,7 @@ pub use Rattle.spg_core.specs.Counts
 pub use Rattle.spg_whole.specs.Answers
 pub use Rattle.spg_whole.specs.Calls
 pub use Rattle.spg_near.specs.Laws as NearLaws
+pub use Rattle.spg_near.specs.Nearest
 pub use Rattle.spg_build.specs.Built
 pub use Rattle.spg_build.specs.Journal
 pub use Rattle.spg_image.specs.Image

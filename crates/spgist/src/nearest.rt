@@ -3,7 +3,7 @@ ghost use Rattle.std.specs.Prelude.{◌≡◌, IfOk, Some as Just};
 ghost use Rattle.spg_tree.specs.Table.{latch_at};
 ghost use Rattle.spg_core.specs.Seen.{past_of};
 ghost use Rattle.spg_whole.specs.Calls.{AllClosed};
-ghost use Rattle.spgist.specs.Nearest.{AreNearest};
+ghost use Rattle.spg_near.specs.Nearest.{AreNearest};
 
 use spg_base::{Block, List, Memory, Point, SeatNo};
 use spg_core::State;

@@ -3,8 +3,9 @@ use Rattle.std.proofs.lemmas.List.{length-reverse}
 use Rattle.spg_core.specs.Seen.{Seen, past_of}
 use Rattle.spg_near.specs.Moment.{IsSought}
 use Rattle.spg_tree.specs.Table.{Table, latch_at}
-use Rattle.spgist.specs.Nearest.{AreNearest}
-use Rattle.spgist.proofs.Nears.{begins, none_nearest, exact}
+use Rattle.spg_near.specs.Nearest.{AreNearest}
+use Rattle.spg_near.proofs.Exact.{none_nearest, exact}
+use Rattle.spgist.proofs.Nears.{begins}
 use Rattle.spgist.proofs.nearest.near.Goals as goal
 
 pub returns-then-limit-eq0 : goal.returns-then-limit-eq0
