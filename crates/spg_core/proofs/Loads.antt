@@ -1,8 +1,11 @@
 -- A state that is made of the pages of an image.
 use Rattle.std.proofs.Common.{◌≡◌, ℕ, ◌+◌, List, [], ◌∷◌, ◌++◌, Option, None, length, get_or, map, take, reverse, replicate, inl, inr, add-one, zero, suc, ◌<◌, ◌≤◌, refl, sym, ap, ◌∙◌, subst, append_assoc, append-nil, arith}
 use Rattle.std.specs.BTreeSet.{IsEmpty}
+use Rattle.std.specs.Borrow.{Bor}
+use Rattle.std.specs.List.Sorted.{IsPermutation}
 use Rattle.std.proofs.Math.Seq.{take-suc}
-use Rattle.std.proofs.lemmas.List.{map-append, reverse-append}
+use Rattle.std.proofs.lemmas.List.{map-append, reverse-append, get_or-map}
+use Rattle.std.proofs.lemmas.List.Sorted.{IsPermutation-sym, IsPermutation-map}
 use Rattle.spg_base.specs.Row.{RowAt}
 use Rattle.spg_base.specs.declared.recorded.Origin.{Origin}
 use Rattle.spg_opclass.specs.Meaning.{Meaning}
@@ -21,13 +24,14 @@ use Rattle.spg_bounds.specs.Bounds.{DropsAreLate, IsBounded}
 use Rattle.spg_bounds.proofs.Beginning.{loaded_bounded}
 use Rattle.spg_keys.specs.declared.listing.Listed.{Listed}
 use Rattle.spg_verdict.specs.Entries.{entries_of, AreEntries}
-use Rattle.spg_adopt.proofs.Loading.{adopted_kept, events_more, rows_more, free_yet}
+use Rattle.spg_verdict.proofs.Listed.{apart_permuted, listed_permuted}
+use Rattle.spg_adopt.proofs.Loading.{adopted_kept, events_more, rows_more, rows_alike, free_yet}
 use Rattle.spg_core.specs.declared.bare.Bare.TheInside.{Inside}
 use Rattle.spg_core.specs.declared.slot.Slot.{Slot}
 use Rattle.spg_core.specs.declared.slot.Slot.TheVariants.{Free}
 use Rattle.spg_core.specs.Slot.{stage_of}
 use Rattle.spg_core.specs.Kept.{IsState, fields_of}
-use Rattle.spg_core.specs.Loading.{LoadsEntry, origin_of}
+use Rattle.spg_core.specs.Loading.{LoadsRow, origin_of}
 use Rattle.spg_core.proofs.Slots.{stages_new, all_stages_free}
 use Rattle.spg_core.proofs.Steps.{rows_in}
 
@@ -73,6 +77,25 @@ take_whole [] (suc i) h = refl
 take_whole (x ∷ xs) zero h = absurd (omega arith)
 take_whole (x ∷ xs) (suc i) h = ap (λ ys. x ∷ ys) (take_whole xs i (omega arith))
 
+-- ---- references
+
+-- to what they lead
+abbrev pub nows : {X : Type 0} → List (Bor X) → List X
+nows refs = map (λ b. b.now) refs
+
+nows_long : {X : Type 0} (refs : List (Bor X)) → length (nows refs) ≡ length refs
+nows_long [] = refl
+nows_long (r ∷ refs) = ap suc (nows_long refs)
+
+now_at : {X : Type 0} (refs : List (Bor X)) (i : ℕ) (r : Bor X) → i < length refs → r ≡ get_or refs i r → r.now ≡ get_or (nows refs) i r.now
+now_at {X} refs i r l e = ap (λ (b : Bor X). b.now) e ∙ sym (get_or-map (λ (b : Bor X). b.now) refs i r r.now l)
+
+pub nows_moved : {X : Type 0} (xs : List X) (old new : List (Bor X)) → nows old ≡ xs → IsPermutation old new → IsPermutation xs (nows new)
+nows_moved {X} xs old new e p = subst (λ (ys : List X). IsPermutation ys (nows new)) e (IsPermutation-map (λ (b : Bor X). b.now) old new p)
+
+refs_apart : {Key : Type 0} (listed : List (Listed Key)) (leaves refs : List (Bor (Listed Key))) → refs ≡ leaves → IsPermutation listed (nows leaves) → AreApart (entries_of listed) → AreApart (entries_of (nows refs))
+refs_apart {Key} listed leaves refs e p a = apart_permuted listed (nows refs) (subst (λ (ls : List (Bor (Listed Key))). IsPermutation listed (nows ls)) (sym e) p) a
+
 -- ---- the journal and the rows of a load
 
 module _ {O Key Recon Cond : Type 0} (m : Meaning Key Recon Cond) where
@@ -84,14 +107,37 @@ module _ {O Key Recon Cond : Type 0} (m : Meaning Key Recon Cond) where
       let b = first_apart xs i x a l e in
       R.states x.entry.row ∙ free_yet O m (entries_of (take i xs)) x.entry.row (apart_front (entries_of (take i xs)) x.entry b) (λ key h. not_yet (entries_of (take i xs)) x.entry key b h)
 
-  pub next_events : (xs : List (Listed Key)) (i : ℕ) (x : Listed Key) (events events2 : List (Event O Key Recon Cond)) (old new : rows.Table O Key Recon Cond) → i < length xs → x ≡ get_or xs i x → events ≡ journal_of (take i xs) → LoadsEntry old new events events2 x.entry → events2 ≡ journal_of (take (i + 1) xs)
-  next_events xs i x events events2 old new l e q L =
-      L.events ∙ ap (λ (es : List (Event O Key Recon Cond)). es ++ OpenInsert 0 x.entry.row x.entry.key ∷ Put 0 x.entry.row ∷ []) q ∙ sym (events_more m (entries_of (take i xs)) x.entry) ∙ ap (λ (es : List (Entry Key)). load_events es) (sym (first_more xs i x l e))
+  pub next_events : (xs : List (Listed Key)) (i : ℕ) (x : Listed Key) (events : List (Event O Key Recon Cond)) → i < length xs → x ≡ get_or xs i x → events ≡ journal_of (take i xs) → (events ++ OpenInsert 0 x.entry.row x.entry.key ∷ []) ++ Put 0 x.entry.row ∷ [] ≡ journal_of (take (i + 1) xs)
+  next_events xs i x events l e q =
+      append_assoc events (OpenInsert 0 x.entry.row x.entry.key ∷ []) (Put 0 x.entry.row ∷ [])
+      ∙ ap (λ (es : List (Event O Key Recon Cond)). es ++ OpenInsert 0 x.entry.row x.entry.key ∷ Put 0 x.entry.row ∷ []) q ∙ sym (events_more m (entries_of (take i xs)) x.entry) ∙ ap (λ (es : List (Entry Key)). load_events es) (sym (first_more xs i x l e))
 
-  pub next_rows : (xs : List (Listed Key)) (i : ℕ) (x : Listed Key) (events events2 : List (Event O Key Recon Cond)) (old new : rows.Table O Key Recon Cond) → AreApart (entries_of xs) → i < length xs → x ≡ get_or xs i x → RowsTell old (reverse (journal_of (take i xs))) → LoadsEntry old new events events2 x.entry → RowsTell new (reverse (journal_of (take (i + 1) xs)))
-  next_rows xs i x events events2 old new a l e R L =
+  pub next_rows : (xs : List (Listed Key)) (i : ℕ) (x : Listed Key) (old new : rows.Table O Key Recon Cond) → AreApart (entries_of xs) → i < length xs → x ≡ get_or xs i x → RowsTell old (reverse (journal_of (take i xs))) → LoadsRow old new x.entry → RowsTell new (reverse (journal_of (take (i + 1) xs)))
+  next_rows xs i x old new a l e R L =
       subst (λ (es : List (Entry Key)). RowsTell new (reverse (load_events {O = O} {Recon = Recon} {Cond = Cond} es))) (sym (first_more xs i x l e))
       (rows_more m (entries_of (take i xs)) x.entry old L.middle new (first_apart xs i x a l e) R L.claimed L.key L.put L.keys)
+
+  -- the rows are put in another order than the entries are listed
+  pub rows_moved : (xs ys : List (Listed Key)) (table : rows.Table O Key Recon Cond) → IsPermutation xs ys → AreApart (entries_of xs) → RowsTell table (reverse (journal_of ys)) → RowsTell table (reverse (journal_of xs))
+  rows_moved xs ys table p a R = rows_alike m (entries_of ys) (entries_of xs) table (apart_permuted xs ys p a) a
+      (λ row key h. listed_permuted ys xs row key (IsPermutation-sym xs ys p) h)
+      (λ row key h. listed_permuted xs ys row key p h) R
+
+  -- ---- the leaves in the order of their rows, by references
+
+  pub refs_free : (listed : List (Listed Key)) (leaves refs : List (Bor (Listed Key))) (i : ℕ) (r : Bor (Listed Key)) (table : rows.Table O Key Recon Cond) → refs ≡ leaves → IsPermutation listed (nows leaves) → AreApart (entries_of listed) → i < length refs → r ≡ get_or refs i r →
+      RowsTell table (reverse (journal_of (take i (nows refs)))) → rows.state_in table r.now.entry.row ≡ row_state.Free
+  refs_free listed leaves refs i r table e p a l q R = next_free (nows refs) i r.now table (refs_apart listed leaves refs e p a) (omega (arith, l, nows_long refs)) (now_at refs i r l q) R
+
+  pub refs_next : (listed : List (Listed Key)) (leaves refs : List (Bor (Listed Key))) (i : ℕ) (r : Bor (Listed Key)) (old new : rows.Table O Key Recon Cond) → refs ≡ leaves → IsPermutation listed (nows leaves) → AreApart (entries_of listed) → i < length refs → r ≡ get_or refs i r →
+      RowsTell old (reverse (journal_of (take i (nows refs)))) → LoadsRow old new r.now.entry → RowsTell new (reverse (journal_of (take (i + 1) (nows refs))))
+  refs_next listed leaves refs i r old new e p a l q R L = next_rows (nows refs) i r.now old new (refs_apart listed leaves refs e p a) (omega (arith, l, nows_long refs)) (now_at refs i r l q) R L
+
+  pub refs_all : (listed : List (Listed Key)) (leaves refs : List (Bor (Listed Key))) (i : ℕ) (table : rows.Table O Key Recon Cond) → refs ≡ leaves → IsPermutation listed (nows leaves) → AreApart (entries_of listed) → length refs ≤ i →
+      RowsTell table (reverse (journal_of (take i (nows refs)))) → RowsTell table (reverse (journal_of listed))
+  refs_all listed leaves refs i table e p a l R =
+      rows_moved listed (nows refs) table (subst (λ (ls : List (Bor (Listed Key))). IsPermutation listed (nows ls)) (sym e) p) a
+      (subst (λ (xs : List (Listed Key)). RowsTell table (reverse (journal_of xs))) (take_whole (nows refs) i (omega (arith, l, nows_long refs))) R)
 
   -- the fields of the state
   pub loaded_state : (s : Inside O Key Recon Cond) (es : List (Listed Key)) → Shape m (sheets_of s.table) → AreEntries m (sheets_of s.table) es → ((b : ℕ) → latch_at s.table b ≡ None) → s.journal.events ≡ journal_of es → s.slots.items ≡ replicate 64 Free → RowsTell s.rows (reverse (journal_of es)) →

@@ -15,14 +15,13 @@ use Rattle.spg_keys.specs.declared.listing.Listed.{Listed}
 use Rattle.spg_verdict.specs.Entries.{entries_of, AreEntries}
 use Rattle.spg_core.specs.Seen.{Seen}
 
--- an entry is opened and put, by seat 0
-pub record LoadsEntry {O Key Recon Cond : Type 0} (old new : rows.Table O Key Recon Cond) (journal journal2 : List (Event O Key Recon Cond)) (e : Entry Key) : Type 0 where
+-- an entry's row is claimed with its key, and put
+pub record LoadsRow {O Key Recon Cond : Type 0} (old new : rows.Table O Key Recon Cond) (e : Entry Key) : Type 0 where
   pub middle : rows.Table O Key Recon Cond
   pub claimed : rows.SetsState old middle e.row row_state.Claimed
   pub key : rows.SetsKey old middle e.row (Some e.key)
   pub put : rows.SetsState middle new e.row row_state.Live
   pub keys : rows.SameKeys middle new
-  pub events : journal2 ≡ journal ++ OpenInsert 0 e.row e.key ∷ Put 0 e.row ∷ []
 
 -- with what the state of a table is made
 abbrev pub origin_of : Table → Origin

@@ -4,18 +4,21 @@ ghost use Rattle.spg_io.specs.Files.{FolderLook, FolderChange};
 
 use crate::images::{Images, PAGE};
 use crate::name::is_name;
+use crate::opened::Opened;
 use crate::sink::IoRefused;
 use spg_base::Failed;
 use std::fs::{self, OpenFile, OpenOptions};
-use std::io::{self, ErrorKind, Read, Seek, SeekFrom, Write};
+use std::io::{self, ErrorKind, Write};
 use std::rt::Files;
 
 /// Images as files of the current folder. Each refusal is a fault. So are a write that takes nothing, a
 /// text that is not the name of an image, and a name that is not a file's. No call answers `Memory`.
+/// Between reads of one name its file stays open, so that all blocks are of one file.
 #[derive(Drop)]
 pub struct FolderImages<'a, R: Files> {
     rt: &'a R,
     faults: u64,
+    opened: Option<Opened<R::File>>,
 }
 
 impl<'a, R: Files> FolderImages<'a, R> {
@@ -23,7 +26,11 @@ impl<'a, R: Files> FolderImages<'a, R> {
     pub fn new(rt: &'a R) -> FolderImages<'a, R>
         ensures { result.faults ≡ 0 }
     {
-        FolderImages { rt, faults: 0 }
+        FolderImages {
+            rt,
+            faults: 0,
+            opened: None,
+        }
     }
 
     /// Counts a fault.
@@ -45,17 +52,26 @@ fn file_length<R: Files>(rt: &R, name: &str) -> io::Result<Option<u64>> {
     }
 }
 
-/// Reads a block of a file. False where it does not lie wholly inside.
-fn read_block<R: Files>(rt: &R, name: &str, block: u32, page: &mut [u8; 8192]) -> io::Result<bool> {
-    let from = PAGE as u64 * block as u64;
-    match file_length(rt, name)? {
-        Some(length) if length >= from + PAGE as u64 => {}
-        _ => return Ok(false),
+/// Reads a block of a file. False where it does not lie wholly inside. Else the file stays open.
+fn read_block<R: Files>(
+    rt: &R,
+    opened: &mut Option<Opened<R::File>>,
+    name: &str,
+    block: u32,
+    page: &mut [u8; 8192],
+) -> io::Result<bool> {
+    let mut file = match opened.take() {
+        Some(file) if file.is_of(name) => file,
+        _ => match file_length(rt, name)? {
+            Some(_) => Opened::new(name, fs::open(rt, name)?),
+            None => return Ok(false),
+        },
+    };
+    let inside = file.read(block, page)?;
+    if inside {
+        *opened = Some(file);
     }
-    let mut file = fs::open(rt, name)?;
-    file.seek(SeekFrom::Start(from))?;
-    file.read_exact(page)?;
-    Ok(true)
+    Ok(inside)
 }
 
 /// Adds a page at the end of a file.
@@ -84,6 +100,7 @@ impl<'a, R: Files> Images for FolderImages<'a, R> {
     ghost put_gives = { λ old name _ result new. FolderChange old.faults name result new.faults };
 
     fn len(&mut self, name: &str) -> Result<Option<u64>, Failed> {
+        self.opened = None;
         if is_name(name)
             && let Ok(length) = file_length(self.rt, name)
         {
@@ -94,6 +111,7 @@ impl<'a, R: Files> Images for FolderImages<'a, R> {
     }
 
     fn clear(&mut self, name: &str) -> Result<(), IoRefused> {
+        self.opened = None;
         if is_name(name) && empty_file(self.rt, name).is_ok() {
             return Ok(());
         }
@@ -103,7 +121,7 @@ impl<'a, R: Files> Images for FolderImages<'a, R> {
 
     fn get(&mut self, name: &str, block: u32, page: &mut [u8; 8192]) -> Result<bool, Failed> {
         if is_name(name)
-            && let Ok(inside) = read_block(self.rt, name, block, page)
+            && let Ok(inside) = read_block(self.rt, &mut self.opened, name, block, page)
         {
             return Ok(inside);
         }
@@ -112,6 +130,7 @@ impl<'a, R: Files> Images for FolderImages<'a, R> {
     }
 
     fn put(&mut self, name: &str, page: &[u8; 8192]) -> Result<(), IoRefused> {
+        self.opened = None;
         if is_name(name) && add_page(self.rt, name, page).is_ok() {
             return Ok(());
         }

@@ -3,7 +3,7 @@ ghost use Rattle.std.specs.List.{list_all};
 ghost use Rattle.spg_io.specs.Names.{is_name, is_first_byte, is_name_byte};
 
 /// The greatest length of a name.
-const LONGEST_NAME: usize = 64;
+pub(crate) const LONGEST_NAME: usize = 64;
 
 /// Whether the text is the name of an image: 1 to 64 of `a` to `z`, `0` to `9`, `_`, `-` and `.`, the
 /// first a letter, a digit or `_`.
