@@ -1,0 +1,158 @@
+#!/usr/bin/env python3
+"""Runs scripts whose lanes come to a limit, and has a judge look at what the program prints.
+
+    limits.py --program PATH --judge 'PATH judge' [--count N] [--jobs N]
+
+In the first script the index is full in a lane: it has few pages, and the lane inserts long texts. In the second the clock
+is at its end: the script begins with an image whose clock is set to its last moment, so that a chain that must move finds
+it there. Beside that lane others delete, find and vacuum. Each script is run N times. A run must end with status 0; the
+lane that inserts must come to the limit and be refused, and go on to its last command; each command of the other lanes must
+be done; and the judge must find the text a legal history: it is called with the names of the script and of the text, with
+`--limit P` where the words have it, and with `--from-image FILE` where the run begins with an image.
+"""
+
+import argparse
+import collections
+import pathlib
+import random
+import shlex
+import subprocess
+import sys
+import tempfile
+from concurrent.futures import ThreadPoolExecutor
+
+LONGEST = 600
+# Where an image has its clock, and the last moment.
+CLOCK = slice(32, 40)
+LAST = ((1 << 48) - 1).to_bytes(8, "little")
+FULL_PAGES = 5
+
+
+def insert(block, offset, text):
+    return 'insert %d.%d "%s"' % (block, offset, text)
+
+
+def others(lines, blocks):
+    """Lanes beside: one deletes and finds, one vacuums and finds."""
+    lines += ["lane"] + [line for at in range(20) for line in (f"delete {blocks}.{at + 1}", "find all")]
+    lines += ["lane"] + ["vacuum", 'find where starts "a"'] * 8 + ["end", "vacuum", "stat", "find all"]
+    return "\n".join(lines) + "\n"
+
+
+def texts(rng, count, size):
+    return ["".join(rng.choice("abcd") for _ in range(size)) for _ in range(count)]
+
+
+def full_script():
+    """50 short texts, then a lane that inserts more long ones than five pages hold."""
+    rng = random.Random(1)
+    lines = ["class radix"] + [insert(0, at + 1, text) for at, text in enumerate(texts(rng, 50, 20))]
+    return others(lines + ["together", "lane"] + [insert(1, at + 1, text) for at, text in enumerate(texts(rng, 60, 600))] + ["find all"], 0)
+
+
+def first_script():
+    """What the image of the second script holds: chains on several pages."""
+    rng = random.Random(2)
+    lines = ["class radix"] + [insert(0, at + 1, text) for at, text in enumerate(texts(rng, 300, 60))]
+    return "\n".join(lines + ["save moved"]) + "\n"
+
+
+def clock_script():
+    """A lane that inserts until chains must move."""
+    rng = random.Random(3)
+    lines = ["class radix", "together", "lane"] + [insert(1, at + 1, text) for at, text in enumerate(texts(rng, 300, 60))]
+    return others(lines + ["find all"], 0)
+
+
+Case = collections.namedtuple("Case", "name words script image refusal")
+
+
+def outcomes(script, text):
+    """Each command's outcome, lane by lane: the lanes' commands are numbered one lane after another."""
+    lines = [line.split(b" ", 3) for line in text.split(b"\njournal ")[0].split(b"\n")]
+    answers = [line[3] for line in lines if len(line) == 4]
+    commands = [line for line in script.encode().split(b"\n")[1:] if line and line not in (b"together", b"end")]
+    lanes, at = [[]], 0
+    for command in commands:
+        if command == b"lane":
+            lanes.append([])
+            continue
+        lanes[-1].append((command, answers[at]))
+        at += 1
+    return lanes
+
+
+def what_is_wrong(case, done):
+    if done.returncode != 0:
+        return f"status {done.returncode}"
+    lanes = outcomes(case.script, done.stdout)
+    busy, rest = lanes[-3], lanes[-2:]
+    if not any(answer == case.refusal for _, answer in busy):
+        return f"no {case.refusal.decode()}"
+    if not busy[-1][1].startswith(b"found"):
+        return "the lane did not go on to its last command"
+    ends = {b"delete": (b"killed", b"not live"), b"find": (b"found",), b"vacuum": (b"vacuumed", b"open by"), b"stat": (b"stat",)}
+    for command, answer in (pair for lane in rest for pair in lane):
+        if not answer.startswith(ends[command.split()[0]]):
+            return f"{command.decode()}: {answer.decode()[:40]}"
+    return None
+
+
+class Runner:
+    def __init__(self, options, folder):
+        self.program, self.judge = shlex.split(options.program), shlex.split(options.judge)
+        self.folder = pathlib.Path(folder)
+
+    def room(self, image):
+        room = pathlib.Path(tempfile.mkdtemp(dir=self.folder))
+        if image:
+            (room / "moved").write_bytes(image)
+        return room
+
+    def ran(self, words, script, room):
+        return subprocess.run(self.program + words, input=script.encode(), cwd=room, capture_output=True, check=False, timeout=LONGEST)
+
+    def late_image(self):
+        """An image at the end of its clock."""
+        room = self.room(None)
+        self.ran(["run"], first_script(), room)
+        image = bytearray((room / "moved").read_bytes())
+        image[CLOCK] = LAST
+        return bytes(image)
+
+    def one(self, case):
+        room = self.room(case.image)
+        done = self.ran(case.words, case.script, room)
+        wrong = what_is_wrong(case, done)
+        script, text, image = (room / it for it in ("script", "text", "moved"))
+        script.write_text(case.script)
+        text.write_bytes(done.stdout)
+        words = [*self.judge, str(script), str(text)]
+        words += ["--from-image", str(image)] if case.image else ["--limit", str(FULL_PAGES)]
+        judged = subprocess.run(words, capture_output=True, check=False, timeout=LONGEST)
+        return wrong or (None if judged.returncode == 0 else judged.stdout.decode(errors="replace").strip())
+
+
+def main():
+    parser = argparse.ArgumentParser(description=__doc__, formatter_class=argparse.RawDescriptionHelpFormatter)
+    parser.add_argument("--program", required=True)
+    parser.add_argument("--judge", required=True)
+    parser.add_argument("--count", type=int, default=20)
+    parser.add_argument("--jobs", type=int, default=2)
+    options = parser.parse_args()
+    wrong = 0
+    with tempfile.TemporaryDirectory() as folder, ThreadPoolExecutor(options.jobs) as pool:
+        runner = Runner(options, folder)
+        cases = [
+            Case("full", ["run", "--limit", str(FULL_PAGES)], full_script(), None, b"full"),
+            Case("clock", ["run", "--from", "moved"], clock_script(), runner.late_image(), b"clock full"),
+        ]
+        for case in cases:
+            found = [it for it in pool.map(runner.one, [case] * options.count) if it]
+            print(f"{case.name}: {options.count} runs, {len(found)} wrong {found[:3] if found else ''}", flush=True)
+            wrong += len(found)
+    return 1 if wrong else 0
+
+
+if __name__ == "__main__":
+    sys.exit(main())
