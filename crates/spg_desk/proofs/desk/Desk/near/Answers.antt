@@ -23,7 +23,7 @@ loop-preserved g c =
 pub returns-in-Ok-Some-clause-did : goal.returns-in-Ok-Some-clause-did
 returns-in-Ok-Some-clause-did g c =
     let e = c.near_once-next.ensures in
-    did_near g.O.OpClass.meaning (view_of c.args.pass) (pass_view c.loop.going.pass) (pass_view c.near_once-next.result.0.pass) c.near_once-next.result.1 c.args.target c.args.limit c.near_once-next.result.2 c.in-Ok-Some.rows c.loop.invariant.on e.told e.moment e.found c.in-Ok-Some.is
+    did_near g.O.OpClass.meaning (view_of c.args.pass) (pass_view c.loop.going.pass) (pass_view c.near_once-next.result.0.pass) c.near_once-next.result.1 c.args.target c.args.limit c.near_once-next.result.2 c.in-Ok-Some.rows c.loop.invariant.on e.told e.moment e.found (rw c.in-Ok-Some.field-0-is at c.in-Ok-Some.is)
 
 pub returns-in-Ok-Some-clause-free : goal.returns-in-Ok-Some-clause-free
 returns-in-Ok-Some-clause-free g c =
