@@ -9,5 +9,6 @@ pub mod Builds
 pub mod Standbys
 pub mod Lines
 pub mod RunEnds
+pub mod Bounded
 pub mod LoadRows
 pub mod LoadEnds

@@ -1,5 +1,6 @@
 -- How the commands of a script end.
 use Rattle.std.specs.Prelude.{◌≡◌, ℕ, List, Option, Some, None, Result, Ok, Err}
+use Rattle.std.specs.List.{AllByRecursion, AllZip}
 use Rattle.spg_base.specs.declared.recorded.Origin.{Origin}
 use Rattle.spg_io.specs.Held.{Holding}
 use Rattle.spg_io.specs.Causes.{Rose}
@@ -17,6 +18,7 @@ use Rattle.spg_histories.specs.Ending.{Writing, all_taken, write_failed, memory_
 use Rattle.spg_histories.specs.Answer.{Wrote}
 use Rattle.spg_histories.specs.Exact.{RunFits}
 use Rattle.spg_histories.specs.declared.status.Status.{Status}
+use Rattle.spg_loads.specs.Late.{IsLateIn, IsSureIn}
 use Rattle.spg_perform.specs.Session.{Outside, Session}
 use Rattle.spg_app.specs.Beginning.{Begins, IsUnbegun, IsLeft, outside}
 
@@ -58,6 +60,9 @@ pub record RanCommands {O Key Recon Cond : Type 0} (m : Meaning Key Recon Cond) 
   pub fits : writing ≡ all_taken → RunFits seen.journal records
   pub cause : writing ≡ write_failed → Rose out.write_faults out.write_faults_after
   pub status_is : status ≡ status_after writing records
+  -- an insert found the index full, or its clock at its end, only where so many were opened by then that it could be; where fewer were, one of a free row was added or had no memory
+  pub late : AllByRecursion (IsLateIn origin seen.journal) records
+  pub sure : AllZip (IsSureIn origin seen.journal) (tasks_of script) records
 
 -- the sink took nothing, and the images are as they were
 pub record LeftAlone (out : Outlets) : Type 0 where

@@ -1,5 +1,5 @@
 -- What is said of `gen`: which script was made and run, and what was written of it.
-use Rattle.std.specs.Prelude.{◌≡◌, ◌<◌, ◌≤◌, ◌+◌, ◌++◌, ℕ, List, [], ◌∷◌, Option, Some, None, count_by, codes}
+use Rattle.std.specs.Prelude.{◌≡◌, ◌<◌, ◌≤◌, ◌+◌, ◌++◌, ℕ, Bool, List, [], ◌∷◌, Option, Some, None, count_by, codes}
 use Rattle.std.specs.Fmt.{decimal}
 use Rattle.std.specs.List.{AllZip, range_with_len}
 use Rattle.spg_io.specs.Causes.{Rose}
@@ -11,12 +11,13 @@ use Rattle.spg_radix.specs.Radix.{radix_meaning}
 use Rattle.spg_rows.specs.declared.event.Event.{Event}
 use Rattle.spg_bounds.specs.Bounds.{DropsAreLate}
 use Rattle.spg_core.specs.Seen.{Seen, past_of}
+use Rattle.spg_script.specs.declared.class_name.ClassName.{ClassName}
 use Rattle.spg_script.specs.declared.class_name.ClassName.TheVariants as class
 use Rattle.spg_script.specs.Blocks.{Script}
 use Rattle.spg_script.specs.declared.any_query.AnyQuery.{AnyQuery}
 use Rattle.spg_script.specs.declared.any_query.AnyQuery.TheVariants.{All}
 use Rattle.spg_script.specs.Speech.{Speech, query_in, point_speech, text_speech}
-use Rattle.spg_script.specs.Generated.{first_query, second_query, generated}
+use Rattle.spg_script.specs.Generated.{load_row, first_query, second_query, generated}
 use Rattle.spg_report.specs.declared.record.Record.{Record}
 use Rattle.spg_report.specs.Text.{ended}
 use Rattle.spg_histories.specs.Tasks.{tasks_of}
@@ -25,7 +26,7 @@ use Rattle.spg_histories.specs.Answer.{Wrote}
 use Rattle.spg_histories.specs.declared.status.Status.{Status}
 use Rattle.spg_histories.specs.declared.status.Status.TheVariants as answer
 use Rattle.spg_loads.specs.Loads.{added_count, IsAddedOrFull}
-use Rattle.spg_loads.specs.Finds.{is_third, is_kept}
+use Rattle.spg_loads.specs.Finds.{is_third, is_kept, is_standing, was_killed}
 use Rattle.spg_perform.specs.Session.{Session}
 use Rattle.spg_app.specs.declared.end_state.EndState.{EndState}
 use Rattle.spg_app.specs.declared.end_state.EndState.TheVariants.{Quad, Kd, Radix}
@@ -57,33 +58,45 @@ script_of load = generated load.count load.seed load.lanes load.class
 
 -- ---- what came of the rows
 
--- how many rows of a load are not deleted and match this query, where the class has it
-abbrev pub kept_by : {O Key Recon Cond : Type 0} → Meaning Key Recon Cond → Speech Key Cond → Load → Option (Query O Key Recon Cond) → ℕ
-kept_by m speech load None = 0
-kept_by m speech load (Some query) = count_by (is_kept m speech load.class load.seed query) (range_with_len 0 load.count)
+-- of how many numbers of a load a query wants the row, where the class has the query
+abbrev pub wanted_by : {O Key Recon Cond : Type 0} → (Query O Key Recon Cond → ℕ → Bool) → ℕ → Option (Query O Key Recon Cond) → ℕ
+wanted_by wants count None = 0
+wanted_by wants count (Some query) = count_by (wants query) (range_with_len 0 count)
 
--- how many a find should give
+-- how many rows are not deleted and match; how many were added and not killed, by their records, and match
 abbrev pub kept_count : (O : Type 0) → {Key Recon Cond : Type 0} → Meaning Key Recon Cond → Speech Key Cond → Load → AnyQuery → ℕ
-kept_count O m speech load asked = kept_by {O = O} m speech load (query_in speech asked)
+kept_count O m speech load asked = wanted_by {O = O} (is_kept m speech load.class load.seed) load.count (query_in speech asked)
 
--- the summary of a load of which each row was added: the numbers are counted from its keys alone
-abbrev pub load_lines : (O : Type 0) → {Key Recon Cond : Type 0} → Meaning Key Recon Cond → Speech Key Cond → Load → List (List ℕ)
-load_lines O m speech load =
-    (codes "added " ++ decimal load.count)
-    ∷ (codes "live " ++ decimal (kept_count O m speech load All))
-    ∷ (codes "first " ++ decimal (kept_count O m speech load (first_query load.class)))
-    ∷ (codes "second " ++ decimal (kept_count O m speech load (second_query load.class)))
-    ∷ (codes "swept " ++ decimal (count_by is_third (range_with_len 0 load.count)))
+abbrev pub standing_count : (O : Type 0) → {Key Recon Cond : Type 0} → Meaning Key Recon Cond → Speech Key Cond → Load → List Record → AnyQuery → ℕ
+standing_count O m speech load records asked = wanted_by {O = O} (is_standing m speech load.class load.seed (tasks_of (script_of load)) records) load.count (query_in speech asked)
+
+-- how many rows were killed, by the records
+abbrev pub killed_count : Load → List Record → ℕ
+killed_count load records = count_by (λ i. was_killed (load_row i) (tasks_of (script_of load)) records) (range_with_len 0 load.count)
+
+-- five lines: how many rows were added, how many each of the three finds gave, how many were swept
+abbrev pub lines_of : ClassName → ℕ → (AnyQuery → ℕ) → ℕ → List (List ℕ)
+lines_of name added gave swept =
+    (codes "added " ++ decimal added)
+    ∷ (codes "live " ++ decimal (gave All))
+    ∷ (codes "first " ++ decimal (gave (first_query name)))
+    ∷ (codes "second " ++ decimal (gave (second_query name)))
+    ∷ (codes "swept " ++ decimal swept)
     ∷ []
 
-abbrev pub load_summary : (O : Type 0) → {Key Recon Cond : Type 0} → Meaning Key Recon Cond → Speech Key Cond → Load → List ℕ
-load_summary O m speech load = ended (load_lines O m speech load)
+-- the summary of a load, counted from its records and keys; and that of one of which each row was added, from its keys alone
+abbrev pub rows_summary : (O : Type 0) → {Key Recon Cond : Type 0} → Meaning Key Recon Cond → Speech Key Cond → Load → List Record → List ℕ
+rows_summary O m speech load records = ended (lines_of load.class (added_count records) (standing_count O m speech load records) (killed_count load records))
 
--- Up to 8,191 rows are all added. Of more than that at least 8,192 are, but for one that each lane may have under way; the others found the index full. Where all were added, the summary is that of the load
+abbrev pub load_summary : (O : Type 0) → {Key Recon Cond : Type 0} → Meaning Key Recon Cond → Speech Key Cond → Load → List ℕ
+load_summary O m speech load = ended (lines_of load.class load.count (kept_count O m speech load) (count_by is_third (range_with_len 0 load.count)))
+
+-- Up to 8,191 rows are all added. Of more than that at least 8,192 are, but for one that each lane may have under way; the others found the index full. The summary tells the rows that were added, those that stand and match, and those that were killed; where all were added, it is that of the load
 pub record RowsAre {O Key Recon Cond : Type 0} (m : Meaning Key Recon Cond) (speech : Speech Key Cond) (load : Load) (journal : List (Event O Key Recon Cond)) (records : List Record) : Type 0 where
   pub few : load.count ≤ 8191 → added_count records ≡ load.count
   pub many : 8191 < load.count → 8192 ≤ added_count records + load.lanes
   pub others : AllZip IsAddedOrFull (tasks_of (script_of load)) records
+  pub stand : summary journal records ≡ rows_summary O m speech load records
   pub all : added_count records ≡ load.count → summary journal records ≡ load_summary O m speech load
 
 -- the generated script of a load was run; with `Done` its rows are so

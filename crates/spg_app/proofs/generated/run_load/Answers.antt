@@ -3,7 +3,7 @@ use Rattle.spg_histories.specs.Ending.{status_after}
 use Rattle.spg_app.specs.Ending.{writing_of}
 use Rattle.spg_app.proofs.Outcomes.{wrote_as, cause_of, of_origin}
 use Rattle.spg_app.proofs.LoadEnds.{summary_same}
-use Rattle.spg_app.proofs.LoadRows.{late_of}
+use Rattle.spg_app.proofs.Bounded.{late_of}
 use Rattle.spg_app.proofs.generated.run_load.Goals as goal
 
 pub returns-in-Ok-perform : goal.returns-in-Ok-perform

@@ -3,6 +3,7 @@ use Rattle.spg_histories.specs.Ending.{status_after}
 use Rattle.spg_words.specs.Reading.{word_in}
 use Rattle.spg_app.specs.Beginning.{outside, IsLeft}
 use Rattle.spg_app.specs.Ending.{writing_of}
+use Rattle.spg_app.proofs.Bounded.{late_records, sure_records}
 use Rattle.spg_app.proofs.Begins.{left_read, memory_unbegun, unbegun_as}
 use Rattle.spg_app.proofs.Earlier.{from_earlier}
 use Rattle.spg_app.proofs.Outcomes.{wrote_as, cause_of, fits_as, text_same}
@@ -31,4 +32,6 @@ returns-in-Ok-perform g c =
       fits = fits_as c.write_text-written.result _ _ _ _ (c.as_slice-events.ensures ∙ c.journal.ensures.events) c.as_slice.ensures c.write_text-written.ensures.fits;
       cause = cause_of c.write_text-written.result _ _ c.write_text-written.ensures.cause;
       status_is = c.status_after.ensures ∙ ap (λ rs. status_after (writing_of c.write_text-written.result) rs) c.as_slice-in-Ok-perform.ensures;
+      late = late_records _ _ _ _ _ _ _ _ _ _ c.journal.ensures.whole done;
+      sure = sure_records _ _ _ _ _ _ _ _ _ _ c.journal.ensures.whole done;
     }
