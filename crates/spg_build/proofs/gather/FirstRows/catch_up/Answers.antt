@@ -1,4 +1,4 @@
-use Rattle.std.proofs.Common.{◌≡◌, refl, subst}
+use Rattle.std.proofs.Common.{refl, subst}
 use Rattle.spg_build.specs.Gathered.{AreFirst}
 use Rattle.spg_build.proofs.Gathering.{first_more}
 use Rattle.spg_build.proofs.gather.FirstRows.catch_up.Goals as goal
