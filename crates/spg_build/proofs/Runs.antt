@@ -90,9 +90,10 @@ module _ {Key Recon Cond : Type 0} (m : Meaning Key Recon Cond) where
   all_posted [] (q ∷ qs) a l = let e = a.count in absurd (omega arith)
   all_posted (p ∷ ps) [] a l = let e = a.count in absurd (omega arith)
   all_posted (p ∷ ps) (q ∷ qs) a (l, ls) =
-      let (f, piece) = a.each 0 p (omega arith) in
-      ((ap (λ (g : Group Recon). length g.lot.rests) f ∙ l.each ∙ ap (λ (g : Group Recon). length g.lot.rows) (sym f), piece),
-       all_posted ps qs (record { count = let e = a.count in omega arith; each = λ i d k. a.each (suc i) d (omega arith) }) ls)
+      let (f, piece) = a.each 0 p (omega arith) in (
+        (ap (λ (g : Group Recon). length g.lot.rests) f ∙ l.each ∙ ap (λ (g : Group Recon). length g.lot.rows) (sym f), piece),
+        all_posted ps qs (record { count = let e = a.count in omega arith; each = λ i d k. a.each (suc i) d (omega arith) }) ls,
+      )
 
   -- when each run is divided the groups are the same, and each has its piece
   pub runs_parted : (rs ss : List (Run Recon)) → length ss ≡ length rs → ((i : ℕ) (d : Run Recon) → i < length rs → AreParted m (get_or rs i d).posts.items (get_or ss i d).posts.items) → AllByRecursion (λ (g : Group Recon). IsLot m g.lot) (groups_at (posts_in rs)) →
@@ -102,9 +103,10 @@ module _ {Key Recon Cond : Type 0} (m : Meaning Key Recon Cond) where
   runs_parted (r ∷ rs) [] e h a = absurd (omega arith)
   runs_parted (r ∷ rs) (s ∷ ss) e h a =
       let (f, p) = runs_parted rs ss (omega arith) (λ i d k. h (suc i) d (omega arith)) (back r.posts.items (posts_in rs) a) in
-      let b = h 0 r (omega arith) in
-      (groups_append s.posts.items (posts_in ss) ∙ ap (λ zs. zs ++ groups_at (posts_in ss)) (groups_stay r.posts.items s.posts.items b) ∙ ap (λ zs. groups_at r.posts.items ++ zs) f ∙ sym (groups_append r.posts.items (posts_in rs)),
-       all_append (IsPosted m) s.posts.items (posts_in ss) (all_posted r.posts.items s.posts.items b (front r.posts.items (posts_in rs) a)) p)
+      let b = h 0 r (omega arith) in (
+        groups_append s.posts.items (posts_in ss) ∙ ap (λ zs. zs ++ groups_at (posts_in ss)) (groups_stay r.posts.items s.posts.items b) ∙ ap (λ zs. groups_at r.posts.items ++ zs) f ∙ sym (groups_append r.posts.items (posts_in rs)),
+        all_append (IsPosted m) s.posts.items (posts_in ss) (all_posted r.posts.items s.posts.items b (front r.posts.items (posts_in rs) a)) p,
+      )
 
   -- one post more of a run is divided
   pub parted_turn : (ps qs us : List (Post Recon)) (k : ℕ) → ((j : ℕ) (d : Post Recon) → j < k → IsParted m (get_or ps j d) (get_or qs j d)) → ((j : ℕ) (d : Post Recon) → k ≤ j → get_or qs j d ≡ get_or ps j d) → PartsOne m qs us k →

@@ -47,7 +47,9 @@ fn runs_for<R: Drop>(
     ensures groups { IfOk result (λ runs. groups_at (posts_in runs.items) ≡ round) }
     ensures few { IfOk result (λ runs. vec_len runs ≤ workers) }
 {
-    let share = values_in(round.as_slice()).div_ceil(workers as usize).max(1);
+    let share = values_in(round.as_slice())
+        .div_ceil(workers as usize)
+        .max(1);
     let last = workers as usize - 1;
     let mut runs = Vec::with_capacity(alloc, workers as usize)?;
     let mut posts = Vec::new(alloc);
@@ -78,12 +80,7 @@ fn part_post<O: OpClass>(alloc: Global, class: &O, post: &mut Post<O::Recon>)
 }
 
 /// Divides the group of one of several posts.
-fn part_at<O: OpClass>(
-    alloc: Global,
-    class: &O,
-    posts: &mut Vec<Post<O::Recon>>,
-    index: usize,
-)
+fn part_at<O: OpClass>(alloc: Global, class: &O, posts: &mut Vec<Post<O::Recon>>, index: usize)
     requires there { index < vec_len posts.old }
     requires lot { (d : _) → IsLot O.meaning (get_or posts.old.items index d).group.lot }
     ensures count { vec_len posts.new ≡ vec_len posts.old }
