@@ -83,11 +83,10 @@ fn each_thread_finds_what_is_nearest(rt: HostRuntime) -> Result<(), Fail> {
             distance,
         };
         assert_eq!(rt; *added, true);
-        assert_eq!(rt;
-            rows_of(three),
-            Some([row(2, 9), row(4, 9), row(1, 81)].as_slice())
-        );
-        assert_eq!(rt; rows_of(none), Some([].as_slice()));
+        let nearest = [row(2, 9), row(4, 9), row(1, 81)];
+        let nearest = nearest.as_slice();
+        assert_eq!(rt; rows_of(three), Some(nearest));
+        assert_eq!(rt; rows_of(none), Some(&nearest[..0]));
     }
     Ok(())
 }
