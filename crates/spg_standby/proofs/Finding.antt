@@ -15,11 +15,15 @@ use Rattle.spg_core.specs.Seen.{Seen}
 use Rattle.spg_follow.specs.Step.{Step}
 use Rattle.spg_standby.specs.declared.follower.ApplyOut.TheVariants.{Applied}
 use Rattle.spg_standby.specs.Slots.{SlotReads}
-use Rattle.spg_standby.specs.Standing.{Standing, StandsAt, SlotCloses, StillStands, AppliesOut, ReadsAt, IsReadIn, scan_at, with_scan, held_in}
+use Rattle.spg_standby.specs.Standing.{Standing, StandsAt, SlotCloses, SlotHolds, IsHolder, StillStands, AppliesOut, ReadsAt, IsReadIn, scan_at, with_scan, held_in}
 use Rattle.spg_standby.specs.Pair.{IsPaired}
 use Rattle.spg_standby.specs.Finding.{IsIdle, IsBehind, ScansFrom, IsOpenIn, ReadsOn}
 use Rattle.spg_standby.proofs.Standings.{set_cases}
 use Rattle.spg_standby.proofs.Pairs.{pair_applies, pair_scans, pair_lags}
+
+-- where no scan is open, none holds a step back
+pub none_holds : {O Key Recon Cond : Type 0} (journal : List (Event O Key Recon Cond)) (standby : Standing O Key Recon Cond) (step : Step) → IsIdle standby → IsHolder journal standby step None
+none_holds journal standby step idle = λ seat holds. subst (λ (s : Option (Scanning _ _ _ _)). SlotHolds journal standby.table standby.applied step s) (idle seat) holds
 
 none_held : {A : Type 0} (items : List A) → length items ≡ 0 → items ≡ []
 none_held [] h = refl

@@ -17,7 +17,7 @@ use Rattle.spg_forest.proofs.Ranks.{each_is_ranked}
 use Rattle.spg_forest.proofs.Sections.{shape_tree}
 use Rattle.spg_rows.specs.Table as rows
 use Rattle.spg_tree.specs.Table.{Table, sheets_of}
-use Rattle.spg_scan.specs.Items.{Item, held, inner, leaves, IsItem, hold_all}
+use Rattle.spg_scan.specs.Items.{Item, held, inner, leaves, hold_all}
 use Rattle.spg_scan.specs.Scanning.{Scanning, replaced}
 use Rattle.spg_scan.specs.Reading.{ReadsSpot, Reads, IsHeld, followed_at, met_of}
 use Rattle.spg_scan.specs.Reading as read

@@ -6,18 +6,17 @@ ghost use Rattle.spg_core.specs.Sections.{GivesUp};
 ghost use Rattle.spg_standby.specs.Noting.{KeepsPaired};
 
 use crate::others::tells;
-use crate::queue::note;
+use crate::queue::{Queue, note};
 use crate::record::Record;
 use spg_base::SeatNo;
 use spg_core::State;
 use spg_opclass::OpClass;
 use spg_rows::Why;
-use std::collections::VecDeque;
 
 /// Gives up what the seat has open, with a record that was kept for this.
 pub(crate) fn give_up<O: OpClass>(
     state: &mut State<O>,
-    queue: &mut VecDeque<Record>,
+    queue: &mut Queue,
     seat: SeatNo,
     why: Why,
     last: Record,
@@ -25,8 +24,8 @@ pub(crate) fn give_up<O: OpClass>(
     requires open { stage_at state.old seat ≢ free }
     requires why { MayGiveUp state.old.table (stage_at state.old seat) why }
     requires room { length last.pages ≡ 8 }
-    requires place { deque_len queue.old < deque_capacity queue.old }
-    ensures pairs { KeepsPaired O.meaning state.old state.new queue.old.items queue.new.items }
+    requires place { deque_len queue.old.records < deque_capacity queue.old.records }
+    ensures pairs { KeepsPaired O.meaning state.old state.new queue.old.records.items queue.new.records.items }
     ensures up { GivesUp state.old state.new seat why }
 {
     tells(state, seat);

@@ -20,7 +20,7 @@ ghost use Rattle.spg_standby.specs.Writes.{Inserted, why_of, came_of};
 
 use crate::giving_up::give_up;
 use crate::others::{none_open, none_waits, only_own, tells};
-use crate::queue::{note, ready};
+use crate::queue::{Queue, keep, note, ready};
 use crate::record::Record;
 use crate::standby::{Standby, follow};
 use crate::wrote::Wrote;
@@ -29,28 +29,27 @@ use spg_core::{InsertOut, OpenRefused, State, StepRefused};
 use spg_opclass::OpClass;
 use spg_rows::Why;
 use std::alloc::Global;
-use std::collections::VecDeque;
 
 /// Opens an insert, and gives the record for its end.
 fn open<O: OpClass>(
     alloc: Global,
     state: &mut State<O>,
-    queue: &mut VecDeque<Record>,
+    queue: &mut Queue,
     seat: SeatNo,
     row: Row,
     key: Option<O::Key>,
 ) -> Result<Record, OpenRefused>
     requires free { stage_at state.old seat ≡ free }
-    ensures pairs { KeepsPaired O.meaning state.old state.new queue.old.items queue.new.items }
+    ensures pairs { KeepsPaired O.meaning state.old state.new queue.old.records.items queue.new.records.items }
     ensures ok { OnOk result (OpensInsert O.meaning state.old state.new seat row key) }
     ensures room { IfOk result (λ last. length last.pages ≡ 8) }
-    ensures place { OnOk result (deque_len queue.new < deque_capacity queue.new) }
+    ensures place { OnOk result (deque_len queue.new.records < deque_capacity queue.new.records) }
     ensures row_used { IsErrOf result OpenRefused.RowUsed → IsUsed (past_of state.old) row }
     ensures used { IsUsed (past_of state.old) row → IsErrOf result OpenRefused.RowUsed ⊎ IsErrOf result OpenRefused.Memory }
     ensures row_held { (by : ℕ) → IsErrOf result (OpenRefused.RowHeld by) → (held_by row (past_of state.old) ≡ Some by) }
     ensures err { OnErr result (state.new ≡ state.old) }
 {
-    let last = Record::room(alloc)?;
+    let last = queue.pool.room(alloc)?;
     let room = ready(alloc, queue)?;
     tells(state, seat);
     if let Err(refused) = state.open_insert(seat, row, key) {
@@ -69,14 +68,14 @@ fn put<O: OpClass>(
     standby: &mut Standby<O>,
     seat: SeatNo,
 ) -> Result<(), StepRefused>
-    requires paired { IsPaired O.meaning state.old standby.old.follower standby.old.queue.items }
+    requires paired { IsPaired O.meaning state.old standby.old.follower standby.old.queue.records.items }
     requires idle { IsIdle standby.old.follower }
     requires alone { (other : ℕ) → other ≢ seat → open_of other (past_of state.old) ≡ nothing }
     requires inserting { IsInserting (stage_at state.old seat) }
-    requires place { deque_len standby.old.queue < deque_capacity standby.old.queue }
-    ensures paired { IsPaired O.meaning state.new standby.new.follower standby.new.queue.items }
+    requires place { deque_len standby.old.queue.records < deque_capacity standby.old.queue.records }
+    ensures paired { IsPaired O.meaning state.new standby.new.follower standby.new.queue.records.items }
     ensures idle { IsIdle standby.new.follower }
-    ensures place { deque_len standby.new.queue < deque_capacity standby.new.queue }
+    ensures place { deque_len standby.new.queue.records < deque_capacity standby.new.queue.records }
     ensures lag { standby.new.lag ≡ standby.old.lag }
     ensures ok { OnOk result (PutsRow state.old state.new seat) }
     ensures full { IsErrOf result IndexFull → HasOutgrown O.meaning state.old seat × IsNearLimit state.new.table }
@@ -142,10 +141,10 @@ pub(crate) fn insert<O: OpClass>(
     row: Row,
     key: Option<O::Key>,
 ) -> Wrote
-    requires paired { IsPaired O.meaning state.old standby.old.follower standby.old.queue.items }
+    requires paired { IsPaired O.meaning state.old standby.old.follower standby.old.queue.records.items }
     requires idle { IsIdle standby.old.follower }
     requires closed { AllClosed (past_of state.old) }
-    ensures paired { IsPaired O.meaning state.new standby.new.follower standby.new.queue.items }
+    ensures paired { IsPaired O.meaning state.new standby.new.follower standby.new.queue.records.items }
     ensures idle { IsIdle standby.new.follower }
     ensures closed { AllClosed (past_of state.new) }
     ensures lag { standby.new.lag ≡ standby.old.lag }
@@ -158,7 +157,10 @@ pub(crate) fn insert<O: OpClass>(
         Err(refused) => return unopened(state, row, &refused),
     };
     match put(state, standby, seat) {
-        Ok(()) => Wrote::Added,
+        Ok(()) => {
+            keep(&mut standby.queue, last);
+            Wrote::Added
+        }
         Err(refused) => {
             let (why, wrote) = cause_of(&refused);
             give_up(state, &mut standby.queue, seat, why, last);

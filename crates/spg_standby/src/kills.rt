@@ -1,5 +1,4 @@
 ghost use Rattle.std.specs.Prelude.{◌≡◌, IfOk, OnErr};
-ghost use Rattle.std.specs.VecDeque.{deque_len, deque_capacity};
 ghost use Rattle.spg_core.specs.Seen.{past_of};
 ghost use Rattle.spg_whole.specs.Calls.{AllClosed, Deletes};
 ghost use Rattle.spg_standby.specs.Pair.{IsPaired};
@@ -8,26 +7,24 @@ ghost use Rattle.spg_standby.specs.Finding.{IsIdle};
 ghost use Rattle.spg_standby.specs.Writes.{Deleted};
 
 use crate::others::{none_open, right, tells};
-use crate::queue::{note, ready};
-use crate::record::Record;
+use crate::queue::{Queue, keep, note, ready};
 use crate::standby::Standby;
 use crate::wrote::Wrote;
 use spg_base::{Memory, Row, SeatNo};
 use spg_core::State;
 use spg_opclass::OpClass;
 use std::alloc::Global;
-use std::collections::VecDeque;
 
 /// Deletes a row, where it is live, and queues the record of it.
 fn take_off<O: OpClass>(
     alloc: Global,
     state: &mut State<O>,
-    queue: &mut VecDeque<Record>,
+    queue: &mut Queue,
     seat: SeatNo,
     row: Row,
 ) -> Result<bool, Memory>
     requires closed { AllClosed (past_of state.old) }
-    ensures pairs { KeepsPaired O.meaning state.old state.new queue.old.items queue.new.items }
+    ensures pairs { KeepsPaired O.meaning state.old state.new queue.old.records.items queue.new.records.items }
     ensures ok { IfOk result (λ killed. Deletes state.old state.new seat row killed) }
     ensures err { OnErr result (state.new ≡ state.old) }
 {
@@ -39,6 +36,8 @@ fn take_off<O: OpClass>(
     if killed {
         tells(state, seat);
         note(queue, state, room);
+    } else {
+        keep(queue, room);
     }
     Ok(killed)
 }
@@ -50,10 +49,10 @@ pub(crate) fn kill<O: OpClass>(
     seat: SeatNo,
     row: Row,
 ) -> Wrote
-    requires paired { IsPaired O.meaning state.old standby.old.follower standby.old.queue.items }
+    requires paired { IsPaired O.meaning state.old standby.old.follower standby.old.queue.records.items }
     requires idle { IsIdle standby.old.follower }
     requires closed { AllClosed (past_of state.old) }
-    ensures paired { IsPaired O.meaning state.new standby.new.follower standby.new.queue.items }
+    ensures paired { IsPaired O.meaning state.new standby.new.follower standby.new.queue.records.items }
     ensures idle { IsIdle standby.new.follower }
     ensures closed { AllClosed (past_of state.new) }
     ensures lag { standby.new.lag ≡ standby.old.lag }

@@ -1,5 +1,5 @@
 // A primary that takes the writes, and a standby that answers the searches.
-ghost use Rattle.std.specs.Prelude.{◌≡◌, ◌≢◌, ◌≤◌, ◌⊎◌, [], ℕ, length, IfOk};
+ghost use Rattle.std.specs.Prelude.{◌≡◌, ◌≢◌, ◌≤◌, ◌⊎◌, [], length, IfOk};
 ghost use Rattle.spg_rows.specs.Told.{IsUsed};
 ghost use Rattle.spg_core.specs.Seen.{past_of};
 ghost use Rattle.spg_core.specs.Sections.{IsNew};
@@ -13,6 +13,8 @@ use crate::catching::find;
 use crate::follower::Follower;
 use crate::inserts::insert;
 use crate::kills::kill;
+use crate::pool::Pool;
+use crate::queue::Queue;
 use crate::standby::{Standby, settle};
 use crate::vacuums::vacuum;
 use crate::wrote::Wrote;
@@ -56,7 +58,10 @@ impl<O: OpClass> Pair<O> {
         let standby = Standby {
             alloc,
             follower,
-            queue: VecDeque::new(alloc),
+            queue: Queue {
+                records: VecDeque::new(alloc),
+                pool: Pool::new(alloc),
+            },
             lag: lag as usize,
         };
         Ok(Pair { primary, standby })
@@ -140,7 +145,7 @@ impl<O: OpClass> Pair<O> {
     pub fn queued(&self) -> usize
         ensures { result ≡ length self.now.queue }
     {
-        self.standby.queue.len()
+        self.standby.queue.records.len()
     }
 
     /// The primary alone. It takes no memory.

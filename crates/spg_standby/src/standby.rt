@@ -7,20 +7,19 @@ ghost use Rattle.spg_standby.specs.Finding.{IsIdle};
 
 use crate::catching::catch_up;
 use crate::follower::Follower;
-use crate::record::Record;
+use crate::queue::Queue;
 use crate::wrote::Wrote;
 use spg_base::Memory;
 use spg_core::State;
 use spg_opclass::OpClass;
 use std::alloc::Global;
-use std::collections::VecDeque;
 
 /// The index that follows, and the records that it has not applied yet.
 #[derive(Drop)]
 pub(crate) struct Standby<O: OpClass> {
     pub(crate) alloc: Global,
     pub(crate) follower: Follower<O>,
-    pub(crate) queue: VecDeque<Record>,
+    pub(crate) queue: Queue,
     /// How many records may be queued after a write.
     pub(crate) lag: usize,
 }
@@ -28,12 +27,12 @@ pub(crate) struct Standby<O: OpClass> {
 /// Applies the oldest records until at most so many are queued as may be. Where it finds no memory it
 /// does so after a later section.
 pub(crate) fn follow<O: OpClass>(state: &State<O>, standby: &mut Standby<O>)
-    requires paired { IsPaired O.meaning state.now standby.old.follower standby.old.queue.items }
+    requires paired { IsPaired O.meaning state.now standby.old.follower standby.old.queue.records.items }
     requires idle { IsIdle standby.old.follower }
-    ensures paired { IsPaired O.meaning state.now standby.new.follower standby.new.queue.items }
+    ensures paired { IsPaired O.meaning state.now standby.new.follower standby.new.queue.records.items }
     ensures idle { IsIdle standby.new.follower }
-    ensures len { deque_len standby.new.queue ≤ deque_len standby.old.queue }
-    ensures capacity { deque_capacity standby.new.queue ≡ deque_capacity standby.old.queue }
+    ensures len { deque_len standby.new.queue.records ≤ deque_len standby.old.queue.records }
+    ensures capacity { deque_capacity standby.new.queue.records ≡ deque_capacity standby.old.queue.records }
     ensures lag { standby.new.lag ≡ standby.old.lag }
 {
     let _ = catch_up(
@@ -47,11 +46,11 @@ pub(crate) fn follow<O: OpClass>(state: &State<O>, standby: &mut Standby<O>)
 /// Applies the oldest records until at most so many are queued as may be, and gives what is answered
 /// then: what came of the write, or `Memory`.
 pub(crate) fn settle<O: OpClass>(state: &State<O>, standby: &mut Standby<O>, wrote: Wrote) -> Wrote
-    requires paired { IsPaired O.meaning state.now standby.old.follower standby.old.queue.items }
+    requires paired { IsPaired O.meaning state.now standby.old.follower standby.old.queue.records.items }
     requires idle { IsIdle standby.old.follower }
-    ensures paired { IsPaired O.meaning state.now standby.new.follower standby.new.queue.items }
+    ensures paired { IsPaired O.meaning state.now standby.new.follower standby.new.queue.records.items }
     ensures idle { IsIdle standby.new.follower }
-    ensures queued { result ≢ came.Memory → length standby.new.queue.items ≤ standby.new.lag }
+    ensures queued { result ≢ came.Memory → length standby.new.queue.records.items ≤ standby.new.lag }
     ensures lag { standby.new.lag ≡ standby.old.lag }
     ensures wrote { (result ≡ wrote) ⊎ (result ≡ came.Memory) }
 {

@@ -2,7 +2,7 @@
 ghost use Rattle.std.specs.Prelude.{◌≡◌, ◌≢◌, ◌<◌, ℕ, length, IfOk, OnOk, OnErr};
 ghost use Rattle.std.specs.VecDeque.{deque_len, deque_capacity};
 ghost use Rattle.spg_rows.specs.History.{nothing, open_of};
-ghost use Rattle.spg_core.specs.Stage.{free, IsSweeping};
+ghost use Rattle.spg_core.specs.Stage.{IsSweeping};
 ghost use Rattle.spg_core.specs.Seen.{stage_at, past_of};
 ghost use Rattle.spg_core.specs.Sections.{OpensVacuum};
 ghost use Rattle.spg_whole.specs.Underway.{IsAlone, SweepsOn, SweepsToEnd};
@@ -14,7 +14,7 @@ ghost use Rattle.spg_standby.specs.Writes.{Vacuumed};
 
 use crate::giving_up::give_up;
 use crate::others::{none_open, only_own, right, tells};
-use crate::queue::{note, ready};
+use crate::queue::{Queue, keep, note, ready};
 use crate::record::Record;
 use crate::standby::{Standby, follow};
 use crate::wrote::Wrote;
@@ -23,23 +23,22 @@ use spg_core::{State, VacuumOut, VacuumRefused};
 use spg_opclass::OpClass;
 use spg_rows::Why;
 use std::alloc::Global;
-use std::collections::VecDeque;
 
 /// Opens a vacuum, and gives the record for its end.
 fn open_sweep<O: OpClass>(
     alloc: Global,
     state: &mut State<O>,
-    queue: &mut VecDeque<Record>,
+    queue: &mut Queue,
     seat: SeatNo,
 ) -> Result<Record, Memory>
     requires closed { AllClosed (past_of state.old) }
-    ensures pairs { KeepsPaired O.meaning state.old state.new queue.old.items queue.new.items }
+    ensures pairs { KeepsPaired O.meaning state.old state.new queue.old.records.items queue.new.records.items }
     ensures ok { OnOk result (OpensVacuum state.old state.new seat) }
     ensures room { IfOk result (λ last. length last.pages ≡ 8) }
-    ensures place { OnOk result (deque_len queue.new < deque_capacity queue.new) }
+    ensures place { OnOk result (deque_len queue.new.records < deque_capacity queue.new.records) }
     ensures err { OnErr result (state.new ≡ state.old) }
 {
-    let last = Record::room(alloc)?;
+    let last = queue.pool.room(alloc)?;
     let room = ready(alloc, queue)?;
     none_open(state, seat);
     tells(state, seat);
@@ -64,15 +63,15 @@ fn sweep<O: OpClass>(
     standby: &mut Standby<O>,
     seat: SeatNo,
 ) -> Result<u64, Memory>
-    requires paired { IsPaired O.meaning state.old standby.old.follower standby.old.queue.items }
+    requires paired { IsPaired O.meaning state.old standby.old.follower standby.old.queue.records.items }
     requires idle { IsIdle standby.old.follower }
     requires alone { (other : ℕ) → other ≢ seat → open_of other (past_of state.old) ≡ nothing }
     requires sweeping { IsSweeping (stage_at state.old seat) }
     requires alone_too { IsAlone state.old.table (stage_at state.old seat) }
-    requires place { deque_len standby.old.queue < deque_capacity standby.old.queue }
-    ensures paired { IsPaired O.meaning state.new standby.new.follower standby.new.queue.items }
+    requires place { deque_len standby.old.queue.records < deque_capacity standby.old.queue.records }
+    ensures paired { IsPaired O.meaning state.new standby.new.follower standby.new.queue.records.items }
     ensures idle { IsIdle standby.new.follower }
-    ensures place { deque_len standby.new.queue < deque_capacity standby.new.queue }
+    ensures place { deque_len standby.new.queue.records < deque_capacity standby.new.queue.records }
     ensures lag { standby.new.lag ≡ standby.old.lag }
     ensures ok { IfOk result (λ swept. SweepsToEnd state.old state.new seat swept) }
     ensures err { OnErr result (SweepsOn state.old state.new seat) }
@@ -101,10 +100,10 @@ pub(crate) fn vacuum<O: OpClass>(
     standby: &mut Standby<O>,
     seat: SeatNo,
 ) -> Wrote
-    requires paired { IsPaired O.meaning state.old standby.old.follower standby.old.queue.items }
+    requires paired { IsPaired O.meaning state.old standby.old.follower standby.old.queue.records.items }
     requires idle { IsIdle standby.old.follower }
     requires closed { AllClosed (past_of state.old) }
-    ensures paired { IsPaired O.meaning state.new standby.new.follower standby.new.queue.items }
+    ensures paired { IsPaired O.meaning state.new standby.new.follower standby.new.queue.records.items }
     ensures idle { IsIdle standby.new.follower }
     ensures closed { AllClosed (past_of state.new) }
     ensures lag { standby.new.lag ≡ standby.old.lag }
@@ -116,6 +115,7 @@ pub(crate) fn vacuum<O: OpClass>(
     match sweep(state, standby, seat) {
         Ok(swept) => {
             right(state);
+            keep(&mut standby.queue, last);
             Wrote::Vacuumed(swept)
         }
         Err(Memory) => {

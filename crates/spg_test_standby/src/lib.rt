@@ -2,4 +2,10 @@
 #![tactic(auto)]
 
 #[cfg(test)]
+mod holding;
+#[cfg(test)]
+mod pages;
+#[cfg(test)]
 mod pairs;
+#[cfg(test)]
+mod writes;

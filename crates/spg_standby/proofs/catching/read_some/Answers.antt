@@ -31,7 +31,7 @@ returns-then-went-clause-paired g c =
     let m = g.O.OpClass.meaning in
     let f2 = c.apply_oldest.new.follower in let f3 = c.read.new.self in
     let (slot, reads, is) = c.in_ok-read.ensures.ok in
-    scanned m c.args.state.now f2 c.apply_oldest.new.queue.items c.apply_oldest.ensures.paired c.args.seat slot f3 is c.in_ok-read.ensures.stands
+    scanned m c.args.state.now f2 c.apply_oldest.new.queue.records.items c.apply_oldest.ensures.paired c.args.seat slot f3 is c.in_ok-read.ensures.stands
 
 pub returns-then-went-clause-keeps : goal.returns-then-went-clause-keeps
 returns-then-went-clause-keeps g c =
@@ -47,7 +47,7 @@ loop-seat-preserved g c =
     let m = g.O.OpClass.meaning in
     let f = c.loop-seat.follower in let f2 = c.apply_oldest.new.follower in let f3 = c.read.new.self in
     let (slot, reads, is) = c.in_ok-read.ensures.ok in (
-      scanned m c.args.state.now f2 c.apply_oldest.new.queue.items c.apply_oldest.ensures.paired c.args.seat slot f3 is c.in_ok-read.ensures.stands,
+      scanned m c.args.state.now f2 c.apply_oldest.new.queue.records.items c.apply_oldest.ensures.paired c.args.seat slot f3 is c.in_ok-read.ensures.stands,
       reads_more c.args.follower.now f2 f3 c.args.seat (reads_more c.args.follower.now f f2 c.args.seat c.loop-seat.invariant.1 (same_scans f f2 c.args.seat c.apply_oldest.ensures.scans)) (read_once m f2 f3 c.args.seat 0 c.in_ok-read.ensures.ok),
       (let a = c.apply_oldest.ensures.len in let b = c.loop-seat.invariant.2 in omega arith),
     )

@@ -1,7 +1,4 @@
-use Rattle.std.proofs.Common.{◌≡◌, ◌≢◌, inl, inr, Result, Ok, Err, OnOk, OnErr, refl, sym, ap, subst, ◌∙◌}
-use Rattle.spg_core.specs.declared.answer.OpenRefused.TheVariants as open_refused
-use Rattle.spg_tree.specs.declared.stand.StepRefused.{StepRefused}
-use Rattle.spg_tree.specs.declared.stand.StepRefused.TheVariants as step
+use Rattle.std.proofs.Common.{◌≡◌, Result, Ok, Err, OnOk, OnErr, sym, ap, subst, ◌∙◌}
 use Rattle.spg_rows.specs.declared.event.Why.{Why}
 use Rattle.spg_core.specs.Seen.{stage_at}
 use Rattle.spg_core.specs.Stage.{MayGiveUp}

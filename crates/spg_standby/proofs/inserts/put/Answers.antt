@@ -1,8 +1,7 @@
-use Rattle.std.proofs.Common.{ℕ, ◌≡◌, ◌^◌, rules, refl, sym, subst, arith}
+use Rattle.std.proofs.Common.{ℕ, ◌≡◌, ◌^◌, rules, refl, subst, arith}
 use Rattle.spg_forest.proofs.Ranks.{each_is_ranked}
 use Rattle.spg_tree.specs.Table.{Table, IsSound}
 use Rattle.spg_core.specs.declared.answer.InsertOut.TheVariants.{Put, Restarted}
-use Rattle.spg_core.specs.Seen.{Seen}
 use Rattle.spg_core.specs.Sections.{IsHeavy}
 use Rattle.spg_core.specs.Ends.{SeatEnds}
 use Rattle.spg_core.specs.Through.{StillInserts}
@@ -31,7 +30,7 @@ loop-turn-init g c =
 
 pub returns-in-Put-clause-paired : goal.returns-in-Put-clause-paired
 returns-in-Put-clause-paired g c =
-    noted_insert g.O.OpClass.meaning c.loop-turn.state c.insert_step.new.self c.follow.new.standby.queue.items c.ready.new.queue.items c.note.new.queue.items c.ready.ensures.items c.note.ensures.items c.tells.ensures.tells c.tells-in-loop-turn.ensures.tells c.args.seat c.in_ok-out.out c.tells.ensures.fits c.in_ok-out.ensures.ok c.in_ok-out.ensures.told c.insert_step.ensures.grows c.follow.new.standby.follower c.follow.ensures.paired
+    noted_insert g.O.OpClass.meaning c.loop-turn.state c.insert_step.new.self c.follow.new.standby.queue.records.items c.ready.new.queue.records.items c.note.new.queue.records.items c.ready.ensures.items c.note.ensures.items c.tells.ensures.tells c.tells-in-loop-turn.ensures.tells c.args.seat c.in_ok-out.out c.tells.ensures.fits c.in_ok-out.ensures.ok c.in_ok-out.ensures.told c.insert_step.ensures.grows c.follow.new.standby.follower c.follow.ensures.paired
 
 pub returns-in-Put-clause-ok : goal.returns-in-Put-clause-ok
 returns-in-Put-clause-ok g c = puts c.args.state.now c.loop-turn.state c.insert_step.new.self c.args.seat c.in_ok-out.out c.loop-turn.invariant.goes c.in_ok-out.ensures.ok c.in-Put.is
@@ -64,7 +63,7 @@ loop-turn-preserved g c =
     let no_put : c.in_ok-out.out ≡ Put → ⊥ = search rules in
     let no_restart : (block by : ℕ) → c.in_ok-out.out ≡ Restarted block by → ⊥ = λ block by is. search rules in
     record {
-      paired = noted_insert g.O.OpClass.meaning c.loop-turn.state c.insert_step.new.self c.follow.new.standby.queue.items c.ready.new.queue.items c.note.new.queue.items c.ready.ensures.items c.note.ensures.items c.tells.ensures.tells c.tells-in-loop-turn.ensures.tells c.args.seat c.in_ok-out.out c.tells.ensures.fits c.in_ok-out.ensures.ok c.in_ok-out.ensures.told c.insert_step.ensures.grows c.follow.new.standby.follower c.follow.ensures.paired;
+      paired = noted_insert g.O.OpClass.meaning c.loop-turn.state c.insert_step.new.self c.follow.new.standby.queue.records.items c.ready.new.queue.records.items c.note.new.queue.records.items c.ready.ensures.items c.note.ensures.items c.tells.ensures.tells c.tells-in-loop-turn.ensures.tells c.args.seat c.in_ok-out.out c.tells.ensures.fits c.in_ok-out.ensures.ok c.in_ok-out.ensures.told c.insert_step.ensures.grows c.follow.new.standby.follower c.follow.ensures.paired;
       idle = c.follow.ensures.idle;
       place = (let a = c.note.ensures.len in let b = c.note.ensures.capacity in let d = c.in_ok-room.ensures.places in omega arith);
       lag = search rules;

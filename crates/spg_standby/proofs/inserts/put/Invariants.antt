@@ -11,9 +11,9 @@ use Rattle.spg_standby.proofs.inserts.put.Given as goal
 
 abbrev pub invariant-loop-turn : goal.invariant-loop-turn
 invariant-loop-turn g l = record {
-  paired : IsPaired g.O.OpClass.meaning l.state l.standby.follower l.standby.queue.items;
+  paired : IsPaired g.O.OpClass.meaning l.state l.standby.follower l.standby.queue.records.items;
   idle : IsIdle l.standby.follower;
-  place : deque_len l.standby.queue < deque_capacity l.standby.queue;
+  place : deque_len l.standby.queue.records < deque_capacity l.standby.queue.records;
   lag : l.standby.lag ≡ l.initial.standby.lag;
   goes : StillInserts l.initial.state l.state l.seat;
   inserting : IsInserting (stage_at l.state l.seat);

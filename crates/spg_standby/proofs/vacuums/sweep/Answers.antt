@@ -15,7 +15,7 @@ loop-room-init g c = record {
 
 pub returns-in-Finished-clause-paired : goal.returns-in-Finished-clause-paired
 returns-in-Finished-clause-paired g c =
-    noted_vacuum g.O.OpClass.meaning c.loop-room.state c.vacuum_step.new.self c.follow.new.standby.queue.items c.ready.new.queue.items c.note.new.queue.items c.ready.ensures.items c.note.ensures.items c.tells.ensures.tells c.tells-in-loop-room.ensures.tells c.args.seat c.in_ok-out.out c.tells.ensures.fits c.in_ok-out.ensures.ok c.vacuum_step.ensures.grows c.follow.new.standby.follower c.follow.ensures.paired
+    noted_vacuum g.O.OpClass.meaning c.loop-room.state c.vacuum_step.new.self c.follow.new.standby.queue.records.items c.ready.new.queue.records.items c.note.new.queue.records.items c.ready.ensures.items c.note.ensures.items c.tells.ensures.tells c.tells-in-loop-room.ensures.tells c.args.seat c.in_ok-out.out c.tells.ensures.fits c.in_ok-out.ensures.ok c.vacuum_step.ensures.grows c.follow.new.standby.follower c.follow.ensures.paired
 
 pub returns-in-Finished-clause-ok : goal.returns-in-Finished-clause-ok
 returns-in-Finished-clause-ok g c = sweeps_out c.args.state.now c.loop-room.state c.vacuum_step.new.self c.args.seat c.in_ok-out.out c.in-Finished.swept c.loop-room.invariant.sweeps.sweeps c.in_ok-out.ensures.ok c.vacuum_step.ensures.grows c.in-Finished.is
@@ -32,7 +32,7 @@ loop-room-preserved-in-Block-1 g c =
     let more : IsOpen c.in_ok-out.out = λ n is. search rules in
     let goes : GoesOn c.in_ok-out.out = (more, λ block by is. search rules) in
     record {
-      paired = noted_vacuum g.O.OpClass.meaning c.loop-room.state c.vacuum_step.new.self c.follow.new.standby.queue.items c.ready.new.queue.items c.note.new.queue.items c.ready.ensures.items c.note.ensures.items c.tells.ensures.tells c.tells-in-loop-room.ensures.tells c.args.seat c.in_ok-out.out c.tells.ensures.fits c.in_ok-out.ensures.ok c.vacuum_step.ensures.grows c.follow.new.standby.follower c.follow.ensures.paired;
+      paired = noted_vacuum g.O.OpClass.meaning c.loop-room.state c.vacuum_step.new.self c.follow.new.standby.queue.records.items c.ready.new.queue.records.items c.note.new.queue.records.items c.ready.ensures.items c.note.ensures.items c.tells.ensures.tells c.tells-in-loop-room.ensures.tells c.args.seat c.in_ok-out.out c.tells.ensures.fits c.in_ok-out.ensures.ok c.vacuum_step.ensures.grows c.follow.new.standby.follower c.follow.ensures.paired;
       idle = c.follow.ensures.idle;
       place = (let a = c.note.ensures.len in let b = c.note.ensures.capacity in let d = c.in_ok-room.ensures.places in omega arith);
       lag = search rules;

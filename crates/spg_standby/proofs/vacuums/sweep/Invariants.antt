@@ -8,9 +8,9 @@ use Rattle.spg_standby.proofs.vacuums.sweep.Given as goal
 
 abbrev pub invariant-loop-room : goal.invariant-loop-room
 invariant-loop-room g l = record {
-  paired : IsPaired g.O.OpClass.meaning l.state l.standby.follower l.standby.queue.items;
+  paired : IsPaired g.O.OpClass.meaning l.state l.standby.follower l.standby.queue.records.items;
   idle : IsIdle l.standby.follower;
-  place : deque_len l.standby.queue < deque_capacity l.standby.queue;
+  place : deque_len l.standby.queue.records < deque_capacity l.standby.queue.records;
   lag : l.standby.lag ≡ l.initial.standby.lag;
   sweeps : SweepsAlone l.initial.state l.state l.seat;
 }

@@ -1,4 +1,3 @@
-use Rattle.std.proofs.Common.{◌≡◌}
 use Rattle.spg_whole.proofs.Ending.{opens_alone}
 use Rattle.spg_whole.proofs.Cleaning.{others_idle, vacuumed, vacuumed_not, not_free}
 use Rattle.spg_standby.specs.declared.wrote.Wrote.TheVariants as came
