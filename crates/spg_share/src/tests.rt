@@ -58,6 +58,10 @@ fn rows_of(answer: &Option<NearAnswer>) -> Option<&[NearRow]> {
     }
 }
 
+fn near_row(row: Row, distance: u128) -> NearRow {
+    NearRow { row, distance }
+}
+
 #[test]
 fn each_thread_finds_what_is_nearest(rt: HostRuntime) -> Result<(), Fail> {
     let alloc = rt.alloc();
@@ -78,14 +82,13 @@ fn each_thread_finds_what_is_nearest(rt: HostRuntime) -> Result<(), Fail> {
             none,
             ..
         } = &lane.task;
-        let row = |offset: u16, distance: u128| NearRow {
-            row: Row::at(*block, offset),
-            distance,
-        };
         assert_eq!(rt; *added, true);
-        let nearest = [row(2, 9), row(4, 9), row(1, 81)];
-        let nearest = nearest.as_slice();
-        assert_eq!(rt; rows_of(three), Some(nearest));
+        let nearest = [
+            near_row(Row::at(*block, 2), 9),
+            near_row(Row::at(*block, 4), 9),
+            near_row(Row::at(*block, 1), 81),
+        ];
+        assert_eq!(rt; rows_of(three), Some(&nearest[..]));
         assert_eq!(rt; rows_of(none), Some(&nearest[..0]));
     }
     Ok(())
