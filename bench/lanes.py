@@ -1,8 +1,8 @@
 #!/usr/bin/env python3
 """Times lanes beside the same commands without lanes, outside the gate.
 
-Four tables, each by seconds of the clock and of the processor for a command, where the reading of the script and the
-printing of the text are in both: inserts in 1, 2, 4 and 16 lanes; nine finds of one key to an insert; four lanes of
+Five tables, each by seconds of the clock and of the processor for a command, where the reading of the script and the
+printing of the text are in both: inserts in 1, 2, 4 and 16 lanes; finds of one key alone; nine of them to an insert; four lanes of
 inserts with and without a lane of vacuums beside them, over an index of which a third of the rows are deleted; and the
 script of `gen COUNT 7` in 1, 2 and 4 lanes, beside the same commands without lanes. Each time is the least of several runs,
 less that of the script before the block.
@@ -121,6 +121,8 @@ def main():
         compare(options, f"{index_class}: inserts", lines[:1], lines[1:])
         half = len(values) // 2
         rng = random.Random(options.seed)
+        finds = [b"find where eq " + key for key in rng.choices(values[:half], k=half)]
+        compare(options, f"{index_class}: finds", lines[: 1 + half], finds)
         mixed = []
         for line in lines[1 + half : 1 + half + half // 10]:
             mixed += [line] + [b"find where eq " + key for key in rng.choices(values[:half], k=9)]

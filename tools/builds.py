@@ -1,7 +1,7 @@
 #!/usr/bin/env python3
 """Compares what `build` makes of random lists of inserts with another model of it.
 
-    builds.py --program PATH --model PATH [--count N] [--seed S] [--classes quad,kd,radix] [--jobs N]
+    builds.py --program PATH --model PATH [--count N] [--seed S] [--classes 'quad,kd value,range'] [--jobs N]
 
 N lists of each class. Both commands build each list in a folder of their own and check what they saved. They must write the same
 lines, end with the same status, and save images of the same pages, as compare.py says. The program builds each list twice, with
@@ -16,15 +16,14 @@ import shlex
 import sys
 from concurrent.futures import ThreadPoolExecutor
 
-from compare import Points, Texts, broken, insert, is_same, ran, show
+from compare import broken, insert, is_same, keys_of, ran, show
 
-SHAPES = ["equal", "few", "uniform", "clustered", "sorted", "ends"]
 COUNTS = [0, 1, 20, 291, 292, 293, 400, 900, 2000, 6000]
 
 
 def listed(rng, name):
     """A class line and inserts, in one of ten cases with another line among them."""
-    keys = (Texts if name == "radix" else Points)(rng, rng.choice(SHAPES), rng.choice([2, 5, 20, 10000, 1000000]))
+    name, keys = keys_of(rng, [name])
     nulls, again = rng.choice([0, 0, 0.1, 0.5, 1]), rng.choice([0, 0.01, 0.3])
     lines = [b"class " + name.encode()]
     for i in range(rng.choice(COUNTS)):

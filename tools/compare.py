@@ -1,7 +1,7 @@
 #!/usr/bin/env python3
 """Compares the program with another model of it on random scripts.
 
-    compare.py --program 'PATH run' --model 'PATH run' [--count N] [--seed S] [--large PART] [--classes quad,kd,radix]
+    compare.py --program 'PATH run' --model 'PATH run' [--count N] [--seed S] [--large PART] [--classes 'quad,kd value,range']
         [--trips N] [--no-vacuum] [--no-save] [--no-stat] [--no-blank] [--no-near]
 
 Both commands read a script from standard input, each in a folder of its own. They must write the same text, end with
@@ -112,6 +112,38 @@ class Texts:
         return kind + b" " + self.spelled(text[: self.rng.randint(0, len(text))])
 
 
+class Ranges:
+    """Keys and conditions of ranges."""
+
+    def __init__(self, rng, shape, wide):
+        self.rng, self.points = rng, Points(rng, shape, wide)
+
+    def key(self, i):
+        if self.rng.random() < 0.1:
+            return b"empty"
+        return b"[%d,%d]" % tuple(sorted(self.points.at(i)))
+
+    def condition(self):
+        kind = self.rng.choice([b"eq", b"overlap", b"contains", b"within", b"left", b"right"])
+        return kind + b" " + self.key(self.rng.randrange(4000))
+
+
+class Valued:
+    """Keys with values beside them, and the conditions of the keys."""
+
+    def __init__(self, rng, keys):
+        self.rng, self.keys = rng, keys
+        self.condition = keys.condition
+
+    def key(self, i):
+        rng = self.rng
+        value = rng.choice([i, i, rng.randrange(3), rng.randrange(2**64), 2**64 - 1])
+        return self.keys.key(i) + b" value %d" % value
+
+
+KEYS = {"quad": Points, "kd": Points, "radix": Texts, "range": Ranges}
+
+
 def query(rng, keys, kinds):
     if b"near" in kinds and isinstance(keys, Points) and rng.random() < 0.4:
         return keys.nearest()
@@ -131,7 +163,9 @@ def keys_of(rng, classes):
     name = rng.choice(classes)
     shape = rng.choice(["equal", "few", "uniform", "clustered", "sorted", "ends"])
     wide = rng.choice([2, 5, 20, 10000, 1000000])
-    return name, (Texts if name == "radix" else Points)(rng, shape, wide)
+    bare, _, value = name.partition(" ")
+    keys = KEYS[bare](rng, shape, wide)
+    return name, Valued(rng, keys) if value else keys
 
 
 def broken(rng, line):

@@ -1,7 +1,7 @@
 #!/usr/bin/env python3
 """Has a judge look at what the program prints of random scripts with lanes.
 
-    judge.py --program 'PATH run' --judge 'PATH judge' [--count N] [--seed S] [--classes quad,kd,radix] [--busy THREADS]
+    judge.py --program 'PATH run' --judge 'PATH judge' [--count N] [--seed S] [--classes 'quad,kd value,range'] [--busy THREADS]
 
 The judge is called with the names of two files, the script and the text printed. It must end with status 0 where the
 text is a legal history of the script. A script whose text is refused is left as NAME.refused with its text beside it.

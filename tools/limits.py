@@ -1,7 +1,7 @@
 #!/usr/bin/env python3
 """Runs scripts whose lanes come to a limit, and has a judge look at what the program prints.
 
-    limits.py --program PATH --judge 'PATH judge' [--count N] [--jobs N]
+    limits.py --program PATH --judge 'PATH judge' [--count N] [--jobs N] [--loads N]
 
 In the first script the index is full in a lane: it has few pages, and the lane inserts long texts. In the second the clock
 is at its end: the script begins with an image whose clock is set to its last moment, so that a chain that must move finds
@@ -9,6 +9,9 @@ it there. Beside that lane others delete, find and vacuum. Each script is run N 
 lane that inserts must come to the limit and be refused, and go on to its last command; each command of the other lanes must
 be done; and the judge must find the text a legal history: it is called with the names of the script and of the text, with
 `--limit P` where the words have it, and with `--from-image FILE` where the run begins with an image.
+
+With --loads a generated load of 48,000 texts in the usual lanes is run so often too, one run after another: it must print
+the numbers that were counted from its keys. How long each run took is printed.
 """
 
 import argparse
@@ -19,6 +22,7 @@ import shlex
 import subprocess
 import sys
 import tempfile
+import time
 from concurrent.futures import ThreadPoolExecutor
 
 LONGEST = 600
@@ -26,6 +30,8 @@ LONGEST = 600
 CLOCK = slice(32, 40)
 LAST = ((1 << 48) - 1).to_bytes(8, "little")
 FULL_PAGES = 5
+LOAD = ["gen", "48000", "7", "--class", "radix"]
+SUMMARY = b"added 48000\nlive 32000\nfirst 3200\nsecond 16000\nswept 16000\n"
 
 
 def insert(block, offset, text):
@@ -132,6 +138,16 @@ class Runner:
         judged = subprocess.run(words, capture_output=True, check=False, timeout=LONGEST)
         return wrong or (None if judged.returncode == 0 else judged.stdout.decode(errors="replace").strip())
 
+    def load(self):
+        """How many seconds the load took, and what is wrong with it."""
+        begun = time.monotonic()
+        try:
+            done = self.ran(LOAD, "", self.room(None))
+        except subprocess.TimeoutExpired:
+            return LONGEST, "no end"
+        wrong = None if (done.returncode, done.stdout) == (0, SUMMARY) else f"status {done.returncode}: {done.stdout.decode()}"
+        return time.monotonic() - begun, wrong
+
 
 def main():
     parser = argparse.ArgumentParser(description=__doc__, formatter_class=argparse.RawDescriptionHelpFormatter)
@@ -139,6 +155,7 @@ def main():
     parser.add_argument("--judge", required=True)
     parser.add_argument("--count", type=int, default=20)
     parser.add_argument("--jobs", type=int, default=2)
+    parser.add_argument("--loads", type=int, default=0)
     options = parser.parse_args()
     wrong = 0
     with tempfile.TemporaryDirectory() as folder, ThreadPoolExecutor(options.jobs) as pool:
@@ -151,6 +168,10 @@ def main():
             found = [it for it in pool.map(runner.one, [case] * options.count) if it]
             print(f"{case.name}: {options.count} runs, {len(found)} wrong {found[:3] if found else ''}", flush=True)
             wrong += len(found)
+        for _ in range(options.loads):
+            seconds, is_wrong = runner.load()
+            print(f"load: {seconds:.1f} s {is_wrong or ''}", flush=True)
+            wrong += bool(is_wrong)
     return 1 if wrong else 0
 
 

@@ -1,15 +1,15 @@
 #!/usr/bin/env python3
 """Compares the program with another model of it on images, most of them changed.
 
-    mutate.py --program PATH --model PATH [--scripts N] [--copies N] [--seed S] [--large PART] [--classes quad,kd,radix]
+    mutate.py --program PATH --model PATH [--scripts N] [--copies N] [--seed S] [--large PART] [--classes 'quad,kd value,range']
 
 PATH is a program with the words `run`, `run --from NAME` and `check NAME`, such as crates/spg_main/out/spg_main; the model
 is another one, beside which it is held. Random scripts, run by the model, save images. Of each image copies are made: as
 it is, cut off, longer, or with changes of any bytes, of the meta page, of headers, item pointers, tags, sizes, links,
-stamps, rows and keys. No copy says version 2, which a model may know. Both are asked to check each copy, and to go on
-from it by a script that saves again under two names. They must write the same text, end with the same status and the same
-line on standard error, and leave images of the same pages. A copy on which they differ, or on which one does not end within ten
-minutes, is left as NUMBER.image, the script as NUMBER-run.differs.
+stamps, rows and keys. Both are asked to check each copy, and to go on from it by a script that saves again under two names.
+They must write the same text, end with the same status and the same line on standard error, and leave images of the same
+pages. A copy on which they differ, or on which one does not end within ten minutes, is left as NUMBER.image, the script as
+NUMBER-run.differs.
 """
 
 import argparse

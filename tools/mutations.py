@@ -4,9 +4,6 @@ import struct
 
 from compare import PAGE
 
-# Where the meta page has the version.
-VERSION = slice(4, 6)
-
 
 def pointers(image, block):
     """Where the tuples of a page begin, and their sizes."""
@@ -28,7 +25,7 @@ def change_number(rng, image, at, size, blocks):
 
 
 META = [(0, 4), (4, 2), (6, 1), (7, 1), (8, 4), (12, 2), (14, 2), (16, 8), (24, 1), (25, 1), (28, 4), (32, 8), (72, 1)]
-HEADER = [(0, 4), (6, 1), (7, 1), (8, 4), (12, 2), (14, 2), (20, 1), (8184, 1)]
+HEADER = [(0, 4), (4, 2), (6, 1), (7, 1), (8, 4), (12, 2), (14, 2), (20, 1), (8184, 1)]
 LEAF = [(0, 1), (1, 1), (2, 2), (4, 2), (4, 2), (6, 2), (8, 4), (12, 2), (14, 1)]
 REDIRECT = [(0, 1), (2, 2), (4, 4), (8, 2), (10, 6), (10, 6)]
 
@@ -117,6 +114,4 @@ def changed(rng, image):
     copy = bytearray(image)
     for _ in range(rng.choice([1, 1, 1, 1, 2, 3])):
         change_once(rng, copy)
-    if copy[VERSION] == b"\2\0":
-        copy[VERSION] = b"\3\0"
     return bytes(copy)

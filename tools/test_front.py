@@ -234,11 +234,12 @@ def lines_of(text):
 
 
 def test_documents(copy):
-    """Each Rust block of docs/EMBEDDING.md stands in a program that embeds an index."""
-    programs = "".join(text_of(it) for it in glob.glob(f"{copy.top}/crates/spg_example_*/src/*.rt"))
-    whole = "\n".join(lines_of(programs))
-    for block in re.findall(r"^```rust\n(.*?)^```$", text_of(f"{copy.top}/docs/EMBEDDING.md"), re.M | re.S):
-        expect(f"that a program has {block}", "\n".join(lines_of(block)) in whole, True)
+    """Each block of docs/EMBEDDING.md and docs/CLASSES.md stands in a program that embeds an index, or in a class beside it."""
+    files = glob.glob(f"{copy.top}/crates/spg_example_*/src/*.rt") + glob.glob(f"{copy.top}/crates/spg_example_*/specs/*.antt")
+    whole = "\n".join(lines_of("\n".join(text_of(it) for it in files)))
+    for document in ("EMBEDDING", "CLASSES"):
+        for block in re.findall(r"^```(?:rust|antt)\n(.*?)^```$", text_of(f"{copy.top}/docs/{document}.md"), re.M | re.S):
+            expect(f"that {document} quotes {block}", "\n".join(lines_of(block)) in whole, True)
 
 
 def test_statuses(copy):

@@ -71,14 +71,14 @@ module _ {O Key Recon Cond : Type 0} where
 
     -- why an image was not loaded
     why : (name : List ℕ) (held now : Option Holding) (f g : ℕ) (e : ImageRefused)
-        → Holds held name (λ bytes. IfBad e (λ (x : Fault). FailsFirst m (λ c. c ≡ code) limit bytes x))
+        → Holds held name (λ bytes. IfBad e (λ (x : Fault). FailsFirst m code limit bytes x))
         → HasImageCause {T = Seen O Key Recon Cond} f g (Err e) → IsUnbegun m code limit (Some name) (outside held f) (outside now g) (status_of e)
     why name held now f g (refused.BadImage block reason) h cause = h
     why name held now f g refused.ImageFault h cause = cause.fault refl
     why name held now f g refused.Memory h cause = tt
 
     loaded_or_not : (name : List ℕ) (held now : Option Holding) (f g : ℕ) (result : Result (Seen O Key Recon Cond) ImageRefused)
-        → Holds held name (λ bytes. MatchResult result (λ seen. IsLoadOf m code limit bytes seen) (λ e. IfBad e (λ (x : Fault). FailsFirst m (λ c. c ≡ code) limit bytes x)))
+        → Holds held name (λ bytes. MatchResult result (λ seen. IsLoadOf m code limit bytes seen) (λ e. IfBad e (λ (x : Fault). FailsFirst m code limit bytes x)))
         → IfOk result (λ seen. IsMade m code limit held name seen) → Stays held now → HasImageCause f g result → IsBeginning m code limit (Some name) (outside held f) (outside now g) result
     loaded_or_not name held now f g (Ok seen) value made stays cause = record {
       state = begun_loaded name held seen made;
@@ -94,7 +94,7 @@ module _ {O Key Recon Cond : Type 0} where
     }
 
     pub loaded_begins : (from : Option (Bor (List ℕ))) (name : Bor (List ℕ)) (held now : Option Holding) (f g : ℕ) (result : Result (Seen O Key Recon Cond) ImageRefused) → from ≡ Some name
-        → Holds held name.now (λ bytes. MatchResult result (λ seen. IsLoadOf m code limit bytes seen) (λ e. IfBad e (λ (x : Fault). FailsFirst m (λ c. c ≡ code) limit bytes x)))
+        → Holds held name.now (λ bytes. MatchResult result (λ seen. IsLoadOf m code limit bytes seen) (λ e. IfBad e (λ (x : Fault). FailsFirst m code limit bytes x)))
         → IfOk result (λ seen. IsMade m code limit held name.now seen) → Stays held now → HasImageCause f g result → IsBeginning m code limit (word_in from) (outside held f) (outside now g) result
     loaded_begins from name held now f g result is value made stays cause =
         subst (λ (x : Option (Bor (List ℕ))). IsBeginning m code limit (word_in x) (outside held f) (outside now g) result) (sym is) (loaded_or_not name.now held now f g result value made stays cause)

@@ -3,22 +3,17 @@ use Rattle.std.proofs.Common.{◌≡◌, ◌⊎◌, ◌<◌, ◌≤◌, ◌+◌,
 use Rattle.std.proofs.lemmas.List.{append_assoc}
 use Rattle.std.proofs.Math.Seq.{take-add}
 use Rattle.std.proofs.lemmas.Bool.{cases_lt}
-use Rattle.spg_io.specs.Held.{Holding}
 use Rattle.spg_io.specs.Causes.{Rose}
-use Rattle.spg_script.specs.declared.class_name.ClassName.{ClassName}
-use Rattle.spg_script.specs.declared.class_name.ClassName.TheVariants as class
-use Rattle.spg_script.specs.declared.inserts.Insert.{Insert}
+use Rattle.spg_script.specs.declared.inserts.Inserts.{Inserts}
 use Rattle.spg_script.specs.Script.{lines_of}
 use Rattle.spg_script.specs.Inserts.{IsInserts, CanInsertOn, IsFirstOther}
 use Rattle.spg_script.proofs.InsertLines.{no_inserts}
-use Rattle.spg_create.specs.declared.whole.Created.{Created}
 use Rattle.spg_create.specs.declared.refused.CreateRefused.{CreateRefused}
 use Rattle.spg_create.specs.declared.refused.CreateRefused.TheVariants as refused
-use Rattle.spg_create.specs.Creates.{CreatesBy}
 use Rattle.spg_histories.specs.declared.status.Status.{Status}
 use Rattle.spg_histories.specs.declared.status.Status.TheVariants.{Done, Usage, BadScript, ReadFault, WriteFault, ImageFault, BadImage, Memory, Full}
 use Rattle.spg_app.specs.Ending.{Outlets}
-use Rattle.spg_app.specs.Builds.{GaveInserts, IsOtherScript, IsInsertRefusal, unbuilt_status, IsBuilt, IsUnbuilt, IsBuilding, IsBuildOf, HoldsInserts, HoldsNoInserts}
+use Rattle.spg_app.specs.Builds.{GaveInserts, IsOtherScript, IsInsertRefusal, Creation, unbuilt_status, IsBuilt, IsUnbuilt, IsBuilding, IsBuildOf, HoldsInserts, HoldsNoInserts}
 use Rattle.spg_app.proofs.Complete.{whole, no_shorter, done_or_memory}
 
 -- ---- inserts are built
@@ -39,21 +34,10 @@ inserts_refused left left_after f g ImageFault r holds no_fault = absurd r
 inserts_refused left left_after f g (BadImage block reason) r holds no_fault = absurd r
 inserts_refused left left_after f g Full r holds no_fault = absurd r
 
-module _ (rows : List Insert) (name : List ℕ) (old now : Option Holding) (f g : ℕ) where
-  later_by : (c : ClassName) (created : Created) → CreatesBy c rows name old now f g (Ok created) → f ≤ g
-  later_by class.Quad created creates = creates.later
-  later_by class.Kd created creates = creates.later
-  later_by class.Radix created creates = creates.later
-
-  fault_by : (c : ClassName) → CreatesBy c rows name old now f g (Err refused.ImageFault) → Rose f g
-  fault_by class.Quad creates = creates.1
-  fault_by class.Kd creates = creates.1
-  fault_by class.Radix creates = creates.1
-
-  unbuilt : (c : ClassName) (why : CreateRefused) → CreatesBy c rows name old now f g (Err why) → (Rose f g → ⊥) → (unbuilt_status why ≡ Full) ⊎ (unbuilt_status why ≡ Memory)
-  unbuilt c refused.IndexFull creates no_fault = inl refl
-  unbuilt c refused.ImageFault creates no_fault = absurd (no_fault (fault_by c creates))
-  unbuilt c refused.Memory creates no_fault = inr refl
+unbuilt : (name : List ℕ) (i : Inserts) (out : Outlets) (why : CreateRefused) → Creation name i out (Err why) → (Rose out.images.faults out.images_after.faults → ⊥) → (unbuilt_status why ≡ Full) ⊎ (unbuilt_status why ≡ Memory)
+unbuilt name i out refused.IndexFull creates no_fault = inl refl
+unbuilt name i out refused.ImageFault creates no_fault = absurd (no_fault creates.1)
+unbuilt name i out refused.Memory creates no_fault = inr refl
 
 abbrev Decided : Status → Type 0
 Decided status = (status ≡ Done) ⊎ ((status ≡ Full) ⊎ (status ≡ Memory))
@@ -68,13 +52,13 @@ module _ (name : List ℕ) (left left_after : Option (List ℕ)) (f g : ℕ) (ou
     where
       ends : (building : IsBuilding name left left_after out status) → IsBuilt name building.inserts out status ⊎ IsUnbuilt name building.inserts out status → Decided status
       ends building (inl built) =
-          let later : out.images.faults ≤ out.images_after.faults = later_by building.inserts.rows name out.images.held out.images_after.held out.images.faults out.images_after.faults building.inserts.class built.created built.creation in
+          let later : out.images.faults ≤ out.images_after.faults = omega (arith, built.creation.same) in
           built_decided status
           (subst (λ (s : Status). (s ≡ Done) ⊎ (s ≡ Memory)) (sym built.status_is)
           (done_or_memory built.writing [] out.write_faults out.write_faults_after out.images.faults out.images_after.faults built.cause (later, omega (arith, later)) no_write no_image))
       ends building (inr not_built) =
           subst (λ (s : Status). Decided s) (sym not_built.status_is)
-          (inr (unbuilt building.inserts.rows name out.images.held out.images_after.held out.images.faults out.images_after.faults building.inserts.class not_built.why not_built.creation no_image))
+          (inr (unbuilt name building.inserts out not_built.why not_built.creation no_image))
 
       by : IsBuildOf name left left_after f g out status → Decided status
       by (inl (refusal, alone)) = inr (inr (inserts_refused left left_after f g status refusal holds no_read))

@@ -15,7 +15,6 @@ use Rattle.spg_histories.specs.declared.status.Status.{Status}
 use Rattle.spg_histories.specs.declared.status.Status.TheVariants.{Done, Usage, BadScript, ReadFault, WriteFault, ImageFault, BadImage, Memory, Full}
 use Rattle.spg_perform.specs.Session.{is_image_fault, image_faults, RoseBy}
 use Rattle.spg_app.specs.declared.end_state.EndState.{EndState}
-use Rattle.spg_app.specs.declared.end_state.EndState.TheVariants as state
 use Rattle.spg_app.specs.Ending.{Outlets}
 use Rattle.spg_app.specs.Headline.{Streams, GaveScript, IsBadScript, IsRefusal, EndsRun, IsStopped, IsRun, HoldsScript, HoldsNoScript, HoldsImageFor, NoFault}
 use Rattle.spg_app.proofs.Images.{good_fails, refusal_complete}
@@ -70,11 +69,7 @@ done_or_memory all_taken records f f_after g g_after cause by no_write no_image 
     decide (any_outcome is_fault records) (any_outcome is_memory records) (λ is. no_image (rose (image_faults records) g g_after (fault_counts records is) by))
 
 ran_complete : (limit : ℕ) (from : Option (List ℕ)) (io : Streams) (out : Outlets) (status : Status) (end : EndState) → EndsRun limit from io out status end → NoFault io out → (status ≡ Done) ⊎ (status ≡ Memory)
-ran_complete limit from io out status (state.Quad seen) ran no_fault =
-    subst (λ s. (s ≡ Done) ⊎ (s ≡ Memory)) (sym ran.run.status_is) (done_or_memory ran.run.writing ran.run.records _ _ _ _ ran.run.cause ran.run.session.faults no_fault.writing no_fault.saving)
-ran_complete limit from io out status (state.Kd seen) ran no_fault =
-    subst (λ s. (s ≡ Done) ⊎ (s ≡ Memory)) (sym ran.run.status_is) (done_or_memory ran.run.writing ran.run.records _ _ _ _ ran.run.cause ran.run.session.faults no_fault.writing no_fault.saving)
-ran_complete limit from io out status (state.Radix seen) ran no_fault =
+ran_complete limit from io out status end ran no_fault =
     subst (λ s. (s ≡ Done) ⊎ (s ≡ Memory)) (sym ran.run.status_is) (done_or_memory ran.run.writing ran.run.records _ _ _ _ ran.run.cause ran.run.session.faults no_fault.writing no_fault.saving)
 
 -- where a script is held and no read fails, memory was wanting
@@ -125,9 +120,7 @@ no_script_given (Some all) left_after n script (inl bad) gave = exact.not_bad al
 no_script_given (Some all) left_after n script (inr long) gave = omega (arith, gave.short, long.0, ap length (whole all left_after gave.bytes gave.read.0 gave.read.1))
 
 no_run : (limit : ℕ) (from : Option (List ℕ)) (io : Streams) (out : Outlets) (status : Status) (n : ℕ) (end : EndState) → HoldsNoScript io.left n → EndsRun limit from io out status end → ⊥
-no_run limit from io out status n (state.Quad seen) holds ran = no_script_given io.left io.left_after n ran.script holds ran.gave
-no_run limit from io out status n (state.Kd seen) holds ran = no_script_given io.left io.left_after n ran.script holds ran.gave
-no_run limit from io out status n (state.Radix seen) holds ran = no_script_given io.left io.left_after n ran.script holds ran.gave
+no_run limit from io out status n end holds ran = no_script_given io.left io.left_after n ran.script holds ran.gave
 
 same_line : (left left_after : Option (List ℕ)) (m n : ℕ) → HoldsNoScript left n → IsBadScript left left_after m → m ≡ n
 same_line None left_after m n holds gave = absurd holds

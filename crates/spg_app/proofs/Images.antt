@@ -1,31 +1,24 @@
 -- What the answer on an image decides, where the images tell what they hold.
 use Rattle.std.proofs.Common.{◌≡◌, ◌⊎◌, inl, inr, ℕ, List, Option, Some, None, IsSomeAnd, refl, sym, ap, ◌∙◌, subst}
-use Rattle.spg_quad.specs.Quad.{quad_meaning}
-use Rattle.spg_kd.specs.Kd.{kd_meaning}
-use Rattle.spg_radix.specs.Radix.{radix_meaning}
 use Rattle.spg_io.specs.Causes.{Rose}
 use Rattle.spg_io.specs.Held.{Holding, Holds}
 use Rattle.spg_clauses.specs.declared.reason.Fault.{Fault}
 use Rattle.spg_verify.proofs.Apart.{one_fault, good_fails_none}
-use Rattle.spg_script.specs.declared.class_name.ClassName.{ClassName}
-use Rattle.spg_script.specs.declared.class_name.ClassName.TheVariants as class
+use Rattle.spg_script.specs.declared.class_line.ClassLine.{ClassLine}
 use Rattle.spg_histories.specs.declared.status.Status.{Status}
 use Rattle.spg_histories.specs.declared.status.Status.TheVariants.{Done, Usage, BadScript, ReadFault, WriteFault, ImageFault, BadImage, Memory, Full}
 use Rattle.spg_perform.specs.Session.{Outside}
+use Rattle.spg_app.specs.Classes.{class_at}
 use Rattle.spg_app.specs.Beginning.{IsImageRefusal}
 use Rattle.spg_app.specs.Headline.{FailsFor, IsGoodFor}
 
 -- ---- images of a class
 
-pub good_fails : (c : ClassName) (limit : ℕ) (bytes : Option (List ℕ)) (f : Fault) → FailsFor c limit bytes f → IsGoodFor c limit bytes → ⊥
-good_fails class.Quad limit bytes f F G = good_fails_none quad_meaning (λ n. n ≡ 1) limit bytes limit f G.0 F G.1
-good_fails class.Kd limit bytes f F G = good_fails_none kd_meaning (λ n. n ≡ 2) limit bytes limit f G.0 F G.1
-good_fails class.Radix limit bytes f F G = good_fails_none radix_meaning (λ n. n ≡ 3) limit bytes limit f G.0 F G.1
+pub good_fails : (c : ClassLine) (limit : ℕ) (bytes : Option (List ℕ)) (f : Fault) → FailsFor c limit bytes f → IsGoodFor c limit bytes → ⊥
+good_fails c limit bytes f F G = good_fails_none (class_at c).meaning (class_at c).code limit bytes limit f G.0 F G.1
 
-pub one_for : (c : ClassName) (limit : ℕ) (bytes : Option (List ℕ)) (f g : Fault) → FailsFor c limit bytes f → FailsFor c limit bytes g → f ≡ g
-one_for class.Quad limit bytes f g F G = one_fault quad_meaning (λ n. n ≡ 1) limit bytes f g F G
-one_for class.Kd limit bytes f g F G = one_fault kd_meaning (λ n. n ≡ 2) limit bytes f g F G
-one_for class.Radix limit bytes f g F G = one_fault radix_meaning (λ n. n ≡ 3) limit bytes f g F G
+pub one_for : (c : ClassLine) (limit : ℕ) (bytes : Option (List ℕ)) (f g : Fault) → FailsFor c limit bytes f → FailsFor c limit bytes g → f ≡ g
+one_for c limit bytes f g F G = one_fault (class_at c).meaning (class_at c).code limit bytes f g F G
 
 -- ---- refusals
 

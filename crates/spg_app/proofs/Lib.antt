@@ -12,3 +12,4 @@ pub mod RunEnds
 pub mod Bounded
 pub mod LoadRows
 pub mod LoadEnds
+pub mod Created

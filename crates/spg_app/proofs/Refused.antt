@@ -1,9 +1,6 @@
 -- What is no image is refused.
 use Rattle.std.proofs.Common.{◌≡◌, ◌⊎◌, inl, inr, ℕ, List, [], Option, Some, None, IsSomeAnd, refl, sym, ap, ◌∙◌, subst, arith}
 use Rattle.spg_opclass.specs.Meaning.{Meaning}
-use Rattle.spg_quad.specs.Quad.{quad_meaning}
-use Rattle.spg_kd.specs.Kd.{kd_meaning}
-use Rattle.spg_radix.specs.Radix.{radix_meaning}
 use Rattle.spg_io.specs.Held.{Holding}
 use Rattle.spg_clauses.specs.declared.reason.Fault.{Fault}
 use Rattle.spg_base.specs.declared.recorded.Origin.{Origin}
@@ -14,12 +11,12 @@ use Rattle.spg_verify.proofs.Apart.{good_fails_none}
 use Rattle.spg_image.specs.Verifying.{IsImageOf, IsBadImage}
 use Rattle.spg_image.proofs.Apart.{image_is_not_bad, one_bad_image}
 use Rattle.spg_script.specs.Blocks.{Script}
-use Rattle.spg_script.specs.declared.class_name.ClassName.{ClassName}
+use Rattle.spg_script.specs.declared.class_line.ClassLine.{ClassLine}
 use Rattle.spg_histories.specs.declared.status.Status.{Status}
 use Rattle.spg_histories.specs.declared.status.Status.TheVariants.{Done, BadImage, Memory}
 use Rattle.spg_perform.specs.Session.{Outside}
 use Rattle.spg_app.specs.declared.end_state.EndState.{EndState}
-use Rattle.spg_app.specs.declared.end_state.EndState.TheVariants as state
+use Rattle.spg_app.specs.Classes.{class_at, state_of}
 use Rattle.spg_app.specs.Beginning.{FailsAs, BeginsLoaded}
 use Rattle.spg_app.specs.Checks.{IsChecked, IsSoundImage, IsRefusedImage}
 use Rattle.spg_app.specs.Ending.{Outlets}
@@ -33,18 +30,12 @@ use Rattle.spg_app.proofs.Complete.{done_or_memory, same_script, script_refused}
 not_begun : {Key Recon Cond : Type 0} (m : Meaning Key Recon Cond) (code limit : ℕ) (held : Option Holding) (name : List ℕ) (loaded : List (Entry Key)) (origin : Origin) (f : Fault) → BeginsLoaded m code limit held name loaded origin
     → IsSomeAnd held (λ (h : Holding). FailsAs m code limit (h name) f) → ⊥
 not_begun m code limit held name loaded origin f begun fails =
-    clash (λ bytes. Spells m (λ n. n ≡ code) limit bytes begun.table) (λ bytes. FailsAs m code limit bytes f) held name (λ bytes s F. good_fails_none m (λ n. n ≡ code) limit bytes limit f begun.table F (s, begun.shape)) begun.spelled fails
+    clash (λ bytes. Spells m code limit bytes begun.table) (λ bytes. FailsAs m code limit bytes f) held name (λ bytes s F. good_fails_none m code limit bytes limit f begun.table F (s, begun.shape)) begun.spelled fails
 
 no_end : (limit : ℕ) (name : List ℕ) (io : Streams) (out : Outlets) (status : Status) (end : EndState) (f : Fault) → EndsRun limit (Some name) io out status end → HoldsScript io.left (HoldsNoImageFor limit name out.images.held f) → ⊥
-no_end limit name io out status (state.Quad seen) f ran holds =
-    let fails = subst (λ (c : ClassName). IsSomeAnd out.images.held (λ (h : Holding). FailsFor c limit (h name) f)) ran.of_class (same_script io.left io.left_after (HoldsNoImageFor limit name out.images.held f) ran.script holds ran.gave) in
-    not_begun quad_meaning 1 limit out.images.held name ran.run.loaded ran.run.origin f ran.run.begun fails
-no_end limit name io out status (state.Kd seen) f ran holds =
-    let fails = subst (λ (c : ClassName). IsSomeAnd out.images.held (λ (h : Holding). FailsFor c limit (h name) f)) ran.of_class (same_script io.left io.left_after (HoldsNoImageFor limit name out.images.held f) ran.script holds ran.gave) in
-    not_begun kd_meaning 2 limit out.images.held name ran.run.loaded ran.run.origin f ran.run.begun fails
-no_end limit name io out status (state.Radix seen) f ran holds =
-    let fails = subst (λ (c : ClassName). IsSomeAnd out.images.held (λ (h : Holding). FailsFor c limit (h name) f)) ran.of_class (same_script io.left io.left_after (HoldsNoImageFor limit name out.images.held f) ran.script holds ran.gave) in
-    not_begun radix_meaning 3 limit out.images.held name ran.run.loaded ran.run.origin f ran.run.begun fails
+no_end limit name io out status end f ran holds =
+    let fails = subst (λ (c : ClassLine). IsSomeAnd out.images.held (λ (h : Holding). FailsFor c limit (h name) f)) ran.of_class (same_script io.left io.left_after (HoldsNoImageFor limit name out.images.held f) ran.script holds ran.gave) in
+    not_begun (class_at (state_of end).line).meaning (class_at (state_of end).line).code limit out.images.held name ran.run.loaded ran.run.origin f ran.run.begun fails
 
 pub no_image : (limit : ℕ) (name : List ℕ) (io : Streams) (out : Outlets) (status : Status) (end : Option EndState) → IsRun limit (Some name) io out status end → (f : Fault) → HoldsScript io.left (HoldsNoImageFor limit name out.images.held f) → NoFault io out
     → (status ≡ BadImage f.block f.reason) ⊎ (status ≡ Memory)

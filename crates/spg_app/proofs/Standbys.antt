@@ -7,7 +7,6 @@ use Rattle.std.proofs.lemmas.Bool.{cases_lt}
 use Rattle.spg_io.specs.Causes.{Rose}
 use Rattle.spg_opclass.specs.Meaning.{Meaning}
 use Rattle.spg_core.specs.Seen.{Seen}
-use Rattle.spg_script.specs.declared.class_name.ClassName.{ClassName}
 use Rattle.spg_script.specs.declared.sequence.Sequence.{Sequence}
 use Rattle.spg_script.specs.Script.{lines_of, IsLaneCommand}
 use Rattle.spg_script.specs.Sequences.{IsSequence, CanRunOn, IsFirstForeign}
@@ -19,21 +18,20 @@ use Rattle.spg_histories.specs.declared.status.Status.{Status}
 use Rattle.spg_histories.specs.declared.status.Status.TheVariants.{Done, Usage, BadScript, ReadFault, WriteFault, ImageFault, BadImage, Memory, Full}
 use Rattle.spg_mirror.proofs.Faults.{no_faults}
 use Rattle.spg_app.specs.declared.end_state.EndState.{EndState}
-use Rattle.spg_app.specs.declared.end_state.EndState.TheVariants as state
-use Rattle.spg_app.specs.Headline.{ended}
-use Rattle.spg_app.specs.Standbys.{GaveSequence, IsForeignScript, IsSequenceRefusal, Sunk, RanMirrored, EndsMirrored, EndsByClass, IsMirroring, IsStandbyRun, HoldsSequence, HoldsNoSequence}
+use Rattle.spg_app.specs.Classes.{class_at, state_of}
+use Rattle.spg_app.specs.Standbys.{GaveSequence, IsForeignScript, IsSequenceRefusal, Sunk, RanMirrored, MirroredTo, EndsMirrored, IsMirroring, IsStandbyRun, HoldsSequence, HoldsNoSequence}
 use Rattle.spg_app.proofs.Complete.{whole, no_shorter}
 
--- ---- how a run ends, by its class
+-- ---- how a run ends
 
-module _ {O Key Recon Cond : Type 0} (m : Meaning Key Recon Cond) (speech : Speech Key Cond) (limit lag : ℕ) (left left_after : Option (List ℕ)) (f g : ℕ) (out : Sunk) (s : Sequence) (state : Seen O Key Recon Cond → EndState) where
-  pub mirrored_ended : GaveSequence left left_after s → ((status : Status) (seen : Seen O Key Recon Cond) → RanMirrored m speech limit lag s out status seen → EndsByClass limit lag s out status (state seen))
-      → (ending : Status × Option (Seen O Key Recon Cond)) (answer : Status × Option EndState) → answer ≡ ended state ending → EndsMirrored m speech limit lag s out ending.0 ending.1 → IsStandbyRun lag limit left left_after f g out answer.0 answer.1
-  mirrored_ended gave by (status, Some seen) answer is ends =
-      subst (λ (a : Status × Option EndState). IsStandbyRun lag limit left left_after f g out a.0 a.1) (sym is) (record { sequence = s; gave = gave; ends = by status seen ends })
-  mirrored_ended gave by (status, None) answer is ends =
-      subst (λ (a : Status × Option EndState). IsStandbyRun lag limit left left_after f g out a.0 a.1) (sym is)
-      (subst (λ (x : Status). IsSequenceRefusal left left_after f g x) (sym ends.0) tt, ends.1)
+-- the answer with a state
+pub mirrored_ends : (limit lag : ℕ) (s : Sequence) (out : Sunk) (status : Status) (end : EndState) (answer : Option EndState) → answer ≡ Some end → MirroredTo limit lag s out status (state_of end) → EndsMirrored limit lag s out status answer
+mirrored_ends limit lag s out status end answer is mirrored = subst (EndsMirrored limit lag s out status) (sym is) mirrored
+
+pub mirrored_ended : (limit lag : ℕ) (left left_after : Option (List ℕ)) (f g : ℕ) (out : Sunk) (s : Sequence) (status : Status) (answer : Option EndState) → GaveSequence left left_after s → EndsMirrored limit lag s out status answer
+    → IsStandbyRun lag limit left left_after f g out status answer
+mirrored_ended limit lag left left_after f g out s status (Some end) gave ends = record { sequence = s; gave = gave; ends = ends }
+mirrored_ended limit lag left left_after f g out s status None gave ends = (subst (λ (x : Status). IsSequenceRefusal left left_after f g x) (sym ends.0) tt, ends.1)
 
 -- ---- commands are done
 
@@ -70,10 +68,8 @@ ran_decided : {O Key Recon Cond : Type 0} (m : Meaning Key Recon Cond) (speech :
 ran_decided m speech limit lag s out status seen lane ran no_fault =
     subst Decided (sym ran.status_is) (decided ran.writing ran.records out.faults out.faults_after ran.cause (no_faults m speech limit lag s.commands seen ran.records lane ran.mirrored) no_fault)
 
-ends_decided : (limit lag : ℕ) (s : Sequence) (out : Sunk) (status : Status) (end : EndState) → AllByRecursion IsLaneCommand s.commands → EndsByClass limit lag s out status end → (Rose out.faults out.faults_after → ⊥) → Decided status
-ends_decided limit lag s out status (state.Quad seen) lane ends no_fault = ran_decided _ _ limit lag s out status seen lane ends.1 no_fault
-ends_decided limit lag s out status (state.Kd seen) lane ends no_fault = ran_decided _ _ limit lag s out status seen lane ends.1 no_fault
-ends_decided limit lag s out status (state.Radix seen) lane ends no_fault = ran_decided _ _ limit lag s out status seen lane ends.1 no_fault
+ends_decided : (limit lag : ℕ) (s : Sequence) (out : Sunk) (status : Status) (end : EndState) → AllByRecursion IsLaneCommand s.commands → MirroredTo limit lag s out status (state_of end) → (Rose out.faults out.faults_after → ⊥) → Decided status
+ends_decided limit lag s out status end lane ends no_fault = ran_decided (class_at (state_of end).line).meaning (class_at (state_of end).line).speech limit lag s out status (state_of end).seen lane ends.1 no_fault
 
 pub standby_complete : (lag limit : ℕ) (left left_after : Option (List ℕ)) (f g : ℕ) (out : Sunk) (status : Status) (end : Option EndState) → IsStandbyRun lag limit left left_after f g out status end → HoldsSequence left → (Rose f g → ⊥) → (Rose out.faults out.faults_after → ⊥)
     → (status ≡ Done) ⊎ (status ≡ Memory)

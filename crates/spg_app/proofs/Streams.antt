@@ -11,7 +11,7 @@ use Rattle.spg_report.specs.declared.record.Record.{Record}
 use Rattle.spg_script.specs.Speech.{Speech}
 use Rattle.spg_report.specs.Told.{FitsRecord}
 use Rattle.spg_histories.specs.Exact.{FitsTypes, RunFits}
-use Rattle.spg_report.specs.Text.{text, ended, journal_text, result_text, result_lines, event_text, event_lines}
+use Rattle.spg_report.specs.Text.{text, ended, journal_text, plain_text, plain_lines, result_text, result_lines, event_text, event_lines}
 
 pub ended-append : (xs ys : List (List ℕ)) → ended (xs ++ ys) ≡ ended xs ++ ended ys
 ended-append [] ys = refl
@@ -42,12 +42,18 @@ put_on_clear clear line text is put = put ∙ ap (λ l. l ++ text) is
 
 -- ---- the lines of a run
 
-pub result_lines-more : (number : ℕ) (records : List Record) (i : ℕ) (one : Record) → i < length records → one ≡ get_or records i one
-    → ended (result_lines number (drop i records)) ≡ (result_text number one ++ 10 ∷ []) ++ ended (result_lines (number + 1) (drop (i + 1) records))
-result_lines-more number records i one within is =
-    at_drop_more (λ rs. ended (result_lines number rs)) records i one within ∙ ap (λ (r : Record). (result_text number r ++ 10 ∷ []) ++ ended (result_lines (number + 1) (drop (i + 1) records))) (sym is)
+pub plain_lines-more : (number : ℕ) (records : List Record) (i : ℕ) (one : Record) → i < length records → one ≡ get_or records i one
+    → ended (plain_lines number (drop i records)) ≡ (plain_text number one ++ 10 ∷ []) ++ ended (plain_lines (number + 1) (drop (i + 1) records))
+plain_lines-more number records i one within is =
+    at_drop_more (λ rs. ended (plain_lines number rs)) records i one within ∙ ap (λ (r : Record). (plain_text number r ++ 10 ∷ []) ++ ended (plain_lines (number + 1) (drop (i + 1) records))) (sym is)
 
 module _ {O Key Recon Cond : Type 0} (speech : Speech Key Cond) where
+  pub result_lines-more : (journal : List (Event O Key Recon Cond)) (number : ℕ) (records : List Record) (i : ℕ) (one : Record) → i < length records → one ≡ get_or records i one
+      → ended (result_lines speech journal number (drop i records)) ≡ (result_text speech journal number one ++ 10 ∷ []) ++ ended (result_lines speech journal (number + 1) (drop (i + 1) records))
+  result_lines-more journal number records i one within is =
+      at_drop_more (λ rs. ended (result_lines speech journal number rs)) records i one within
+      ∙ ap (λ (r : Record). (result_text speech journal number r ++ 10 ∷ []) ++ ended (result_lines speech journal (number + 1) (drop (i + 1) records))) (sym is)
+
   pub event_lines-more : (at : ℕ) (events : List (Event O Key Recon Cond)) (i : ℕ) (one : Event O Key Recon Cond) → i < length events → one ≡ get_or events i one
       → ended (event_lines speech at (drop i events)) ≡ (event_text speech at one ++ 10 ∷ []) ++ ended (event_lines speech (at + 1) (drop (i + 1) events))
   event_lines-more at events i one within is =
@@ -55,7 +61,7 @@ module _ {O Key Recon Cond : Type 0} (speech : Speech Key Cond) where
 
   -- ---- the three parts of a text, one after another
 
-  module _ (journal : List (Event O Key Recon Cond)) (records : List Record) (a b c d : Option (List ℕ)) (results : Appends a b (ended (result_lines 1 records))) where
+  module _ (journal : List (Event O Key Recon Cond)) (records : List Record) (a b c d : Option (List ℕ)) (results : Appends a b (ended (result_lines speech journal 1 records))) where
     abbrev whole : List ℕ
     whole = text speech journal records
 
@@ -65,11 +71,11 @@ module _ {O Key Recon Cond : Type 0} (speech : Speech Key Cond) where
     abbrev events : List ℕ
     events = ended (event_lines speech 0 journal)
 
-    split : whole ≡ ended (result_lines 1 records) ++ (line ++ events)
-    split = ended-append (result_lines 1 records) (journal_text (length journal) ∷ event_lines speech 0 journal)
+    split : whole ≡ ended (result_lines speech journal 1 records) ++ (line ++ events)
+    split = ended-append (result_lines speech journal 1 records) (journal_text (length journal) ∷ event_lines speech 0 journal)
 
     pub wrote_results : Wrote a b whole (line ++ events)
-    wrote_results = Wrote-more a a b whole whole (line ++ events) (ended (result_lines 1 records)) (Wrote-none a whole) results split
+    wrote_results = Wrote-more a a b whole whole (line ++ events) (ended (result_lines speech journal 1 records)) (Wrote-none a whole) results split
 
     pub wrote_line : Appends b c line → Wrote a c whole events
     wrote_line next = Wrote-more a b c whole (line ++ events) events line wrote_results next refl

@@ -30,7 +30,7 @@ made_with limit = record { limit = limit; pages = 3; clock = 0; loaded = false }
 -- The entries and the numbers of well formed pages, the entries in order of block and offset. Where the images tell what the name holds, its bytes spell these pages; the limit is then the greater of this one and their number
 pub record BeginsLoaded {Key Recon Cond : Type 0} (m : Meaning Key Recon Cond) (code limit : ℕ) (held : Option Holding) (name : List ℕ) (loaded : List (Entry Key)) (origin : Origin) : Type 0 where
   pub table : Table
-  pub spelled : Holds held name (λ bytes. Spells m (λ c. c ≡ code) limit bytes table)
+  pub spelled : Holds held name (λ bytes. Spells m code limit bytes table)
   pub shape : Shape m (sheets_of table)
   pub listed : List (Listed Key)
   pub exact : AreEntries m (sheets_of table) listed
@@ -70,7 +70,7 @@ IsImageRefusal fails name old now Full = ⊥
 
 -- this is the first clause that an image of the class fails
 abbrev pub FailsAs : {Key Recon Cond : Type 0} → Meaning Key Recon Cond → ℕ → ℕ → Option (List ℕ) → Fault → Type 0
-FailsAs m code limit bytes f = FailsFirst m (λ c. c ≡ code) limit bytes f
+FailsAs m code limit bytes f = FailsFirst m code limit bytes f
 
 -- without a name memory was wanting
 abbrev pub IsUnbegun : {Key Recon Cond : Type 0} → Meaning Key Recon Cond → ℕ → ℕ → Option (List ℕ) → Outside → Outside → Status → Type 0

@@ -8,11 +8,12 @@ use Rattle.spg_script.specs.Inserts.{IsInserts, IsFirstOther}
 use Rattle.spg_create.specs.declared.whole.Created.{Created}
 use Rattle.spg_create.specs.declared.refused.CreateRefused.{CreateRefused}
 use Rattle.spg_create.specs.declared.refused.CreateRefused.TheVariants as refused
-use Rattle.spg_create.specs.Creates.{CreatesBy}
+use Rattle.spg_create.specs.Creates.{Creates}
 use Rattle.spg_histories.specs.Ending.{Writing, write_failed, status_after}
 use Rattle.spg_histories.specs.Answer.{Wrote}
 use Rattle.spg_histories.specs.declared.status.Status.{Status}
 use Rattle.spg_histories.specs.declared.status.Status.TheVariants.{Done, Usage, BadScript, ReadFault, WriteFault, ImageFault, BadImage, Memory, Full}
+use Rattle.spg_app.specs.Classes.{class_at}
 use Rattle.spg_app.specs.Ending.{Outlets, LeftAlone}
 use Rattle.spg_app.specs.Io.{longest_script, ReadWhole, ReadMore}
 
@@ -54,7 +55,8 @@ IsInsertRefusal left left_after f f_after Full = ⊥
 
 -- what creating an index of the inserts left under the name
 abbrev pub Creation : List ℕ → Inserts → Outlets → Result Created CreateRefused → Type 0
-Creation name i out result = CreatesBy i.class i.rows name out.images.held out.images_after.held out.images.faults out.images_after.faults result
+Creation name i out result =
+    Creates (class_at i.class).meaning (class_at i.class).speech (class_at i.class).code i.rows name out.images.held out.images_after.held out.images.faults out.images_after.faults result
 
 -- the line that tells how large an index is that was built
 abbrev pub built_text : Created → List ℕ

@@ -20,6 +20,8 @@ use Rattle.spg_histories.specs.Exact.{RunFits}
 use Rattle.spg_histories.specs.declared.status.Status.{Status}
 use Rattle.spg_loads.specs.Late.{IsLateIn, IsSureIn}
 use Rattle.spg_perform.specs.Session.{Outside, Session}
+use Rattle.spg_app.specs.declared.end_state.EndState.{EndState}
+use Rattle.spg_app.specs.Classes.{class_at, StateOf, state_of}
 use Rattle.spg_app.specs.Beginning.{Begins, IsUnbegun, IsLeft, outside}
 
 -- what writing the text met
@@ -74,7 +76,11 @@ pub record Unwritten (from : Option (List ℕ)) (out : Outlets) : Type 0 where
   pub sink : out.taken_after ≡ out.taken
   pub images : IsLeft from out.images out.images_after
 
+-- the same of a state handed back: of the class that the script's line names
+abbrev pub RanScript : ℕ → Option (List ℕ) → Script → Outlets → Status → StateOf → Type 0
+RanScript limit from script out status end = (script.class ≡ end.line) × RanCommands (class_at end.line).meaning (class_at end.line).speech (class_at end.line).code limit from script out status end.seen
+
 -- no state is handed back where the commands did not begin
-abbrev pub Ends : {O Key Recon Cond : Type 0} → Meaning Key Recon Cond → Speech Key Cond → ℕ → ℕ → Option (List ℕ) → Script → Outlets → Status → Option (Seen O Key Recon Cond) → Type 0
-Ends m speech code limit from script out status (Some seen) = RanCommands m speech code limit from script out status seen
-Ends m speech code limit from script out status None = IsUnbegun m code limit from out.images out.images_after status × Unwritten from out
+abbrev pub Ends : ℕ → Option (List ℕ) → Script → Outlets → Status → Option EndState → Type 0
+Ends limit from script out status (Some end) = RanScript limit from script out status (state_of end)
+Ends limit from script out status None = IsUnbegun (class_at script.class).meaning (class_at script.class).code limit from out.images out.images_after status × Unwritten from out

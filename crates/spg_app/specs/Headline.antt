@@ -1,9 +1,6 @@
 -- What each answer of the program says of what was read, done and written.
 use Rattle.std.specs.Prelude.{◌≡◌, ◌⊎◌, ◌<◌, ◌≤◌, List, ℕ, length, true, Option, Some, None, IsSomeAnd, ⊤}
 use Rattle.spg_opclass.specs.Meaning.{Meaning}
-use Rattle.spg_quad.specs.Quad.{quad_meaning}
-use Rattle.spg_kd.specs.Kd.{kd_meaning}
-use Rattle.spg_radix.specs.Radix.{radix_meaning}
 use Rattle.spg_radix.specs.Texts.{is_bytes}
 use Rattle.spg_core.specs.Seen.{Seen}
 use Rattle.spg_io.specs.Causes.{Rose}
@@ -13,17 +10,16 @@ use Rattle.spg_tree.specs.Table.{Table}
 use Rattle.spg_verify.specs.Verdict.{IsGood}
 use Rattle.spg_verify.specs.declared.reading.Verified.{Verified}
 use Rattle.spg_image.specs.Verifying.{IsImageOf, IsBadImage}
-use Rattle.spg_script.specs.declared.class_name.ClassName.{ClassName}
-use Rattle.spg_script.specs.declared.class_name.ClassName.TheVariants as class
+use Rattle.spg_script.specs.declared.class_line.ClassLine.{ClassLine}
 use Rattle.spg_script.specs.Blocks.{Script}
-use Rattle.spg_script.specs.Speech.{Speech, point_speech, text_speech}
+use Rattle.spg_script.specs.Speech.{Speech}
 use Rattle.spg_script.specs.Script.{IsScript, IsFirstBad}
 use Rattle.spg_words.specs.declared.load.Load.{Load}
 use Rattle.spg_words.specs.Lines.{IsRunLine, IsCheckLine, IsLoadLine, IsBuildLine, IsStandbyLine}
 use Rattle.spg_histories.specs.declared.status.Status.{Status}
 use Rattle.spg_histories.specs.declared.status.Status.TheVariants.{Done, Usage, BadScript, ReadFault, WriteFault, ImageFault, BadImage, Memory, Full}
 use Rattle.spg_app.specs.declared.end_state.EndState.{EndState}
-use Rattle.spg_app.specs.declared.end_state.EndState.TheVariants.{Quad, Kd, Radix}
+use Rattle.spg_app.specs.Classes.{class_at, StateOf, state_of}
 use Rattle.spg_app.specs.Beginning.{IsImageRefusal, FailsAs}
 use Rattle.spg_app.specs.Checks.{IsChecked}
 use Rattle.spg_app.specs.Ending.{Outlets, LeftAlone, Unwritten, RanCommands}
@@ -51,17 +47,18 @@ pub record GaveScript (left left_after : Option (List ℕ)) (script : Script) : 
   pub are_bytes : is_bytes bytes ≡ true
 
 -- the source gave a script of this class, and its commands were done
-pub record Ran {O Key Recon Cond : Type 0} (m : Meaning Key Recon Cond) (speech : Speech Key Cond) (code limit : ℕ) (from : Option (List ℕ)) (class : ClassName) (io : Streams) (out : Outlets) (status : Status) (seen : Seen O Key Recon Cond) : Type 0 where
+pub record Ran {O Key Recon Cond : Type 0} (m : Meaning Key Recon Cond) (speech : Speech Key Cond) (code limit : ℕ) (from : Option (List ℕ)) (class : ClassLine) (io : Streams) (out : Outlets) (status : Status) (seen : Seen O Key Recon Cond) : Type 0 where
   pub script : Script
   pub gave : GaveScript io.left io.left_after script
   pub of_class : script.class ≡ class
   pub run : RanCommands m speech code limit from script out status seen
 
--- the same of a state handed back, by its class; the numbers are those of the classes in an image
+-- the same of a state handed back: of the class that the script's line names
+abbrev pub RanTo : ℕ → Option (List ℕ) → Streams → Outlets → Status → StateOf → Type 0
+RanTo limit from io out status end = Ran (class_at end.line).meaning (class_at end.line).speech (class_at end.line).code limit from end.line io out status end.seen
+
 abbrev pub EndsRun : ℕ → Option (List ℕ) → Streams → Outlets → Status → EndState → Type 0
-EndsRun limit from io out status (Quad seen) = Ran quad_meaning point_speech 1 limit from class.Quad io out status seen
-EndsRun limit from io out status (Kd seen) = Ran kd_meaning point_speech 2 limit from class.Kd io out status seen
-EndsRun limit from io out status (Radix seen) = Ran radix_meaning text_speech 3 limit from class.Radix io out status seen
+EndsRun limit from io out status end = RanTo limit from io out status (state_of end)
 
 -- the bytes that the source gave are no script, and line `n` is the first bad one
 pub record GaveNoScript (left left_after : Option (List ℕ)) (n : ℕ) : Type 0 where
@@ -88,10 +85,8 @@ IsRefusal left left_after f f_after Full = ⊥
 IsRefusal left left_after f f_after (BadImage block reason) = ⊥
 
 -- this is the first clause that an image of the class fails
-abbrev pub FailsFor : ClassName → ℕ → Option (List ℕ) → Fault → Type 0
-FailsFor class.Quad limit bytes f = FailsAs quad_meaning 1 limit bytes f
-FailsFor class.Kd limit bytes f = FailsAs kd_meaning 2 limit bytes f
-FailsFor class.Radix limit bytes f = FailsAs radix_meaning 3 limit bytes f
+abbrev pub FailsFor : ClassLine → ℕ → Option (List ℕ) → Fault → Type 0
+FailsFor line limit bytes f = FailsAs (class_at line).meaning (class_at line).code limit bytes f
 
 -- the source gave a script, and its commands did not begin: the image of the name was refused, or memory was wanting; nothing was written
 pub record IsStopped (limit : ℕ) (name : List ℕ) (io : Streams) (out : Outlets) (status : Status) : Type 0 where
@@ -160,20 +155,13 @@ IsRunOf words io out status end = (limit : ℕ) × (from : Option (List ℕ)) ×
 abbrev pub IsAnswer : List (List ℕ) → Streams → Outlets → Status → Option EndState → Type 0
 IsAnswer words io out status end = ((IsUsage words io out status end ⊎ IsRunOf words io out status end) ⊎ (IsLoaded words io out status end ⊎ IsCheck words io out status end)) ⊎ (IsBuild words io out status end ⊎ IsStandby words io out status end)
 
--- the answer of a run that ended so, by its class
-abbrev pub ended : {O Key Recon Cond : Type 0} → (Seen O Key Recon Cond → EndState) → Status × Option (Seen O Key Recon Cond) → Status × Option EndState
-ended state (status, Some seen) = (status, Some (state seen))
-ended state (status, None) = (status, None)
-
 -- the source holds a script that is not too long, of which this is true
 abbrev pub HoldsScript : Option (List ℕ) → (Script → Type 0) → Type 0
 HoldsScript left P = IsSomeAnd left (λ bytes. ((script : Script) × IsScript bytes script × P script) × (length bytes ≤ longest_script))
 
 -- the bytes are an image of the class that fails no clause
-abbrev pub IsGoodFor : ClassName → ℕ → Option (List ℕ) → Type 0
-IsGoodFor class.Quad limit bytes = (t : Table) × IsGood quad_meaning (λ c. c ≡ 1) limit bytes t
-IsGoodFor class.Kd limit bytes = (t : Table) × IsGood kd_meaning (λ c. c ≡ 2) limit bytes t
-IsGoodFor class.Radix limit bytes = (t : Table) × IsGood radix_meaning (λ c. c ≡ 3) limit bytes t
+abbrev pub IsGoodFor : ClassLine → ℕ → Option (List ℕ) → Type 0
+IsGoodFor line limit bytes = (t : Table) × IsGood (class_at line).meaning (class_at line).code limit bytes t
 
 -- where the run begins with an image, the images tell that it is one of the script's class
 abbrev pub HoldsImageFor : ℕ → Option (List ℕ) → Option Holding → Script → Type 0

@@ -1,5 +1,6 @@
 pub mod Io
 pub mod Reasons
+pub mod Classes
 pub mod Beginning
 pub mod Ending
 pub mod Checks
@@ -8,5 +9,6 @@ pub mod Loads
 pub mod Builds
 pub mod Standbys
 pub mod Headline
+pub mod Named
 pub mod Farewell
 pub mod Alike

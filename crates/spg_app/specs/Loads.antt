@@ -5,19 +5,15 @@ use Rattle.std.specs.List.{AllZip, range_with_len}
 use Rattle.spg_io.specs.Causes.{Rose}
 use Rattle.spg_opclass.specs.Meaning.{Meaning}
 use Rattle.spg_opclass.specs.declared.query.Query.{Query}
-use Rattle.spg_quad.specs.Quad.{quad_meaning}
-use Rattle.spg_kd.specs.Kd.{kd_meaning}
-use Rattle.spg_radix.specs.Radix.{radix_meaning}
 use Rattle.spg_rows.specs.declared.event.Event.{Event}
 use Rattle.spg_bounds.specs.Bounds.{DropsAreLate}
 use Rattle.spg_core.specs.Seen.{Seen, past_of}
 use Rattle.spg_script.specs.declared.class_name.ClassName.{ClassName}
-use Rattle.spg_script.specs.declared.class_name.ClassName.TheVariants as class
 use Rattle.spg_script.specs.Blocks.{Script}
 use Rattle.spg_script.specs.declared.any_query.AnyQuery.{AnyQuery}
 use Rattle.spg_script.specs.declared.any_query.AnyQuery.TheVariants.{All}
-use Rattle.spg_script.specs.Speech.{Speech, query_in, point_speech, text_speech}
-use Rattle.spg_script.specs.Generated.{load_row, first_query, second_query, generated}
+use Rattle.spg_script.specs.Speech.{Speech, query_in}
+use Rattle.spg_script.specs.Generated.{load_row, first_query, second_query, load_class, generated}
 use Rattle.spg_report.specs.declared.record.Record.{Record}
 use Rattle.spg_report.specs.Text.{ended}
 use Rattle.spg_histories.specs.Tasks.{tasks_of}
@@ -29,7 +25,7 @@ use Rattle.spg_loads.specs.Loads.{added_count, IsAddedOrFull}
 use Rattle.spg_loads.specs.Finds.{is_third, is_kept, is_standing, was_killed}
 use Rattle.spg_perform.specs.Session.{Session}
 use Rattle.spg_app.specs.declared.end_state.EndState.{EndState}
-use Rattle.spg_app.specs.declared.end_state.EndState.TheVariants.{Quad, Kd, Radix}
+use Rattle.spg_app.specs.Classes.{class_at, StateOf, state_of}
 use Rattle.spg_words.specs.declared.load.Load.{Load}
 use Rattle.spg_words.specs.Numbers.{usual_pages}
 use Rattle.spg_app.specs.Beginning.{made_with}
@@ -47,10 +43,14 @@ pub record RanLoad {O Key Recon Cond : Type 0} (m : Meaning Key Recon Cond) (spe
   -- an insert was given up as the index was full only where so many were opened that it could be
   pub late : DropsAreLate seen.origin (past_of seen)
 
+-- the same of a state handed back: of the class that the script's line names
+abbrev pub LoadedTo : Script → Outlets → Status → StateOf → Type 0
+LoadedTo script out status end = (script.class ≡ end.line) × RanLoad (class_at end.line).meaning (class_at end.line).speech (class_at end.line).code script out status end.seen
+
 -- no state is handed back where memory was wanting before the first command
-abbrev pub EndsLoad : {O Key Recon Cond : Type 0} → Meaning Key Recon Cond → Speech Key Cond → ℕ → Script → Outlets → Status → Option (Seen O Key Recon Cond) → Type 0
-EndsLoad m speech code script out status (Some seen) = RanLoad m speech code script out status seen
-EndsLoad m speech code script out status None = (status ≡ answer.Memory) × LeftAlone out
+abbrev pub EndsLoad : Script → Outlets → Status → Option EndState → Type 0
+EndsLoad script out status (Some end) = LoadedTo script out status (state_of end)
+EndsLoad script out status None = (status ≡ answer.Memory) × LeftAlone out
 
 -- the generated script
 abbrev pub script_of : Load → Script
@@ -105,10 +105,11 @@ pub record GenRan {O Key Recon Cond : Type 0} (m : Meaning Key Recon Cond) (spee
   pub rows : status ≡ answer.Done → RowsAre m speech load seen.journal ran.records
 
 -- the generated script was run, on a state of its class
+abbrev pub GenTo : Load → Outlets → Status → StateOf → Type 0
+GenTo load out status end = (load_class load.class ≡ end.line) × GenRan (class_at end.line).meaning (class_at end.line).speech (class_at end.line).code load out status end.seen
+
 abbrev pub EndsGen : Load → Outlets → Status → EndState → Type 0
-EndsGen load out status (Quad seen) = (load.class ≡ class.Quad) × GenRan quad_meaning point_speech 1 load out status seen
-EndsGen load out status (Kd seen) = (load.class ≡ class.Kd) × GenRan kd_meaning point_speech 2 load out status seen
-EndsGen load out status (Radix seen) = (load.class ≡ class.Radix) × GenRan radix_meaning text_speech 3 load out status seen
+EndsGen load out status end = GenTo load out status (state_of end)
 
 -- what is said of a load
 abbrev pub IsGen : Load → Outlets → Status → Option EndState → Type 0

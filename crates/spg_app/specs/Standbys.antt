@@ -2,16 +2,11 @@
 use Rattle.std.specs.Prelude.{◌≡◌, ◌⊎◌, ◌<◌, ◌≤◌, List, ℕ, length, true, Option, Some, None, IsSomeAnd, ⊤}
 use Rattle.spg_io.specs.Causes.{Rose}
 use Rattle.spg_opclass.specs.Meaning.{Meaning}
-use Rattle.spg_quad.specs.Quad.{quad_meaning}
-use Rattle.spg_kd.specs.Kd.{kd_meaning}
-use Rattle.spg_radix.specs.Radix.{radix_meaning}
 use Rattle.spg_radix.specs.Texts.{is_bytes}
 use Rattle.spg_core.specs.Seen.{Seen}
-use Rattle.spg_script.specs.declared.class_name.ClassName.{ClassName}
-use Rattle.spg_script.specs.declared.class_name.ClassName.TheVariants as class
 use Rattle.spg_script.specs.declared.sequence.Sequence.{Sequence}
 use Rattle.spg_script.specs.Sequences.{IsSequence, IsFirstForeign}
-use Rattle.spg_script.specs.Speech.{Speech, point_speech, text_speech}
+use Rattle.spg_script.specs.Speech.{Speech}
 use Rattle.spg_report.specs.declared.record.Record.{Record}
 use Rattle.spg_report.specs.Text.{text}
 use Rattle.spg_histories.specs.Ending.{Writing, all_taken, write_failed, status_after}
@@ -21,7 +16,7 @@ use Rattle.spg_histories.specs.declared.status.Status.{Status}
 use Rattle.spg_histories.specs.declared.status.Status.TheVariants.{Done, Usage, BadScript, ReadFault, WriteFault, ImageFault, BadImage, Memory, Full}
 use Rattle.spg_mirror.specs.Mirrored.{commands_tasks, Mirrored}
 use Rattle.spg_app.specs.declared.end_state.EndState.{EndState}
-use Rattle.spg_app.specs.declared.end_state.EndState.TheVariants.{Quad, Kd, Radix}
+use Rattle.spg_app.specs.Classes.{class_at, StateOf, state_of}
 use Rattle.spg_app.specs.Ending.{Outlets}
 use Rattle.spg_app.specs.Io.{longest_script, ReadWhole, ReadMore}
 
@@ -83,22 +78,20 @@ pub record RanMirrored {O Key Recon Cond : Type 0} (m : Meaning Key Recon Cond) 
   pub cause : writing ≡ write_failed → Rose out.faults out.faults_after
   pub status_is : status ≡ status_after writing records
 
--- no state is handed back where memory was wanting before the first command; nothing was written then
-abbrev pub EndsMirrored : {O Key Recon Cond : Type 0} → Meaning Key Recon Cond → Speech Key Cond → ℕ → ℕ → Sequence → Sunk → Status → Option (Seen O Key Recon Cond) → Type 0
-EndsMirrored m speech limit lag s out status (Some seen) = RanMirrored m speech limit lag s out status seen
-EndsMirrored m speech limit lag s out status None = (status ≡ Memory) × (out.taken_after ≡ out.taken)
+-- the same of a state handed back: of the class that the script's line names
+abbrev pub MirroredTo : ℕ → ℕ → Sequence → Sunk → Status → StateOf → Type 0
+MirroredTo limit lag s out status end = (s.class ≡ end.line) × RanMirrored (class_at end.line).meaning (class_at end.line).speech limit lag s out status end.seen
 
--- a state handed back, by its class
-abbrev pub EndsByClass : ℕ → ℕ → Sequence → Sunk → Status → EndState → Type 0
-EndsByClass limit lag s out status (Quad seen) = (s.class ≡ class.Quad) × RanMirrored quad_meaning point_speech limit lag s out status seen
-EndsByClass limit lag s out status (Kd seen) = (s.class ≡ class.Kd) × RanMirrored kd_meaning point_speech limit lag s out status seen
-EndsByClass limit lag s out status (Radix seen) = (s.class ≡ class.Radix) × RanMirrored radix_meaning text_speech limit lag s out status seen
+-- no state is handed back where memory was wanting before the first command; nothing was written then
+abbrev pub EndsMirrored : ℕ → ℕ → Sequence → Sunk → Status → Option EndState → Type 0
+EndsMirrored limit lag s out status (Some end) = MirroredTo limit lag s out status (state_of end)
+EndsMirrored limit lag s out status None = (status ≡ Memory) × (out.taken_after ≡ out.taken)
 
 -- the source gave these commands, and they were done
 pub record IsMirroring (limit lag : ℕ) (left left_after : Option (List ℕ)) (out : Sunk) (status : Status) (end : EndState) : Type 0 where
   pub sequence : Sequence
   pub gave : GaveSequence left left_after sequence
-  pub ends : EndsByClass limit lag sequence out status end
+  pub ends : MirroredTo limit lag sequence out status (state_of end)
 
 -- what is said of a run with a standby: of its commands where a state is handed back, else why there were none; nothing was written then
 abbrev pub IsStandbyRun : (lag limit : ℕ) (left left_after : Option (List ℕ)) (read_faults read_faults_after : ℕ) → Sunk → Status → Option EndState → Type 0

@@ -4,14 +4,18 @@ ghost use Rattle.spg_io.specs.Causes.{HasCauseIfFailed};
 ghost use Rattle.spg_radix.specs.Texts.{is_bytes};
 ghost use Rattle.spg_script.specs.Script.{IsWritten};
 ghost use Rattle.spg_script.specs.Inserts.{script_of, IsInserts, IsInsertCause};
+ghost use Rattle.spg_create.specs.Creates.{Creates};
+ghost use Rattle.spg_app.specs.Classes.{class_at};
 ghost use Rattle.spg_app.specs.Io.{WroteSome};
 ghost use Rattle.spg_app.specs.Ending.{outlets};
 ghost use Rattle.spg_app.specs.Builds.{GaveInserts, IsInsertRefusal, built_text, unbuilt_status, IsBuildOf};
 
+use crate::by_class::create_by_class;
+use crate::classes::Ended;
 use crate::session::status_after;
 use crate::stream::{ReadRefused, read_all};
 use crate::writing::write_line;
-use spg_create::{CreateRefused, Created, create_by_class};
+use spg_create::{CreateRefused, Created, create};
 use spg_histories::Status;
 use spg_io::{Images, IoRefused, Sink, Source};
 use spg_perform::Gate;
@@ -80,6 +84,25 @@ fn unbuilt_status(refused: CreateRefused) -> Status
         CreateRefused::ImageFault => Status::ImageFault,
         CreateRefused::Memory => Status::Memory,
     }
+}
+
+/// Builds an index of this class and of the rows of a script of inserts, as `create` does, and saves it
+/// under a name.
+pub(crate) fn create_of<R: AllocGlobal + Threads + Sync, O: Ended, M: Images>(
+    rt: &R,
+    class: &O,
+    inserts: &Inserts,
+    workers: u8,
+    images: &mut M,
+    name: &str,
+) -> Result<Created, CreateRefused>
+    requires of_class { inserts.now.class ≡ O.line }
+    requires some { 0 < workers }
+    requires written { IsWritten (script_of inserts.now) }
+    ensures { Creates (class_at inserts.now.class).meaning (class_at inserts.now.class).speech (class_at inserts.now.class).code inserts.now.rows name.now
+        (M.held images.old) (M.held images.new) (M.faults images.old) (M.faults images.new) result }
+{
+    create(rt, class, inserts.rows.as_slice(), workers, images, name)
 }
 
 /// Reads inserts, builds an index of them by so many workers, saves it under the name and writes how

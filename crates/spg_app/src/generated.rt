@@ -1,30 +1,27 @@
 ghost use Rattle.std.specs.Prelude.{◌≡◌};
-ghost use Rattle.spg_perform.specs.Session.{IsOfClass};
 ghost use Rattle.spg_app.specs.Ending.{outlets};
 ghost use Rattle.spg_words.specs.Lines.{IsLoad};
 ghost use Rattle.spg_app.specs.Loads.{EndsLoad, IsGen};
 
-use crate::end_state::{EndState, kd_ended, quad_ended, radix_ended};
+use crate::by_class::load_by_class;
+use crate::classes::Ended;
+use crate::end_state::EndState;
 use crate::session::status_after;
 use crate::summary::write_summary;
 use spg_core::State;
 use spg_histories::Status;
 use spg_io::{Images, Sink};
-use spg_kd::Kd;
-use spg_opclass::SharedClass;
-use spg_perform::{Gate, Served, perform};
-use spg_quad::Quad;
-use spg_radix::Radix;
-use spg_script::{ClassName, Script, generate};
+use spg_perform::{Gate, perform};
+use spg_script::{Script, generate};
 use spg_words::{Load, USUAL_PAGES};
 use std::sync::Wait;
 use std::thread::Threads;
 
 /// Does the commands of a generated script on a new state of the usual limit, then writes the summary
 /// of the run. There is no state where memory was wanting before the first command.
-fn run_load<
+pub(crate) fn run_load<
     R: AllocGlobal + Threads + Wait + Sync,
-    O: Served + SharedClass,
+    O: Ended,
     K: Sink,
     M: Images,
     G: Gate,
@@ -35,9 +32,9 @@ fn run_load<
     out: &mut K,
     images: &mut M,
     gate: &G,
-) -> (Status, Option<State<O>>)
-    requires of_class { IsOfClass O.speech script.now.class }
-    ensures { EndsLoad O.meaning O.speech O.code_number script.now
+) -> (Status, Option<EndState>)
+    requires { script.now.class ≡ O.line }
+    ensures { EndsLoad script.now
         (outlets (K.contents out.old) (K.contents out.new) (K.faults out.old) (K.faults out.new)
         (M.held images.old) (M.held images.new) (M.faults images.old) (M.faults images.new)) result.0 result.1 }
 {
@@ -49,7 +46,8 @@ fn run_load<
         Ok((state, records)) => {
             let events = state.journal().as_slice();
             let written = write_summary(alloc, events, records.as_slice(), out);
-            (status_after(written, records.as_slice()), Some(state))
+            let status = status_after(written, records.as_slice());
+            (status, O::ended(&mut Some(state)))
         }
         Err(_) => (Status::Memory, None),
     }
@@ -77,9 +75,5 @@ pub fn run_generated<R: AllocGlobal + Threads + Wait + Sync, K: Sink, M: Images,
     ) else {
         return (Status::Memory, None);
     };
-    match load.class {
-        ClassName::Quad => quad_ended(run_load(rt, Quad, &script, out, images, gate)),
-        ClassName::Kd => kd_ended(run_load(rt, Kd, &script, out, images, gate)),
-        ClassName::Radix => radix_ended(run_load(rt, Radix, &script, out, images, gate)),
-    }
+    load_by_class(rt, &script, out, images, gate)
 }

@@ -3,7 +3,9 @@
 
 mod beginning;
 mod build;
+mod by_class;
 mod check;
+mod classes;
 mod end_state;
 mod farewell;
 mod generated;

@@ -13,19 +13,16 @@ ghost use Rattle.spg_app.specs.Standbys.{HoldsSequence, HoldsNoSequence};
 ghost use Rattle.spg_app.specs.Headline.{GaveScript, IsRefusal, IsRun, IsAnswer, HoldsScript, HoldsNoScript, HoldsImageFor, HoldsNoImageFor, HoldsImage, HoldsNoImage, NoFault, streams};
 
 use crate::build::build_image;
+use crate::by_class::run_by_class;
 use crate::check::check_image;
-use crate::end_state::{EndState, kd_ended, quad_ended, radix_ended};
+use crate::end_state::EndState;
 use crate::generated::run_generated;
-use crate::session::run_commands;
 use crate::standby::run_standby;
 use crate::stream::{ReadRefused, read_all};
 use spg_histories::Status;
 use spg_io::{Images, Sink, Source};
-use spg_kd::Kd;
 use spg_perform::Gate;
-use spg_quad::Quad;
-use spg_radix::Radix;
-use spg_script::{BadLine, ClassName, Script, ScriptRefused, parse};
+use spg_script::{BadLine, Script, ScriptRefused, parse};
 use spg_words::{RunLine, build_of, check_of, load_of, run_of, standby_of};
 use std::alloc::Global;
 use std::sync::Wait;
@@ -85,11 +82,7 @@ fn run_script<R: AllocGlobal + Threads + Wait + Sync, S: Source, K: Sink, M: Ima
         Ok(script) => script,
         Err(status) => return (status, None),
     };
-    match script.class() {
-        ClassName::Quad => quad_ended(run_commands(rt, Quad, line, &script, out, images, gate)),
-        ClassName::Kd => kd_ended(run_commands(rt, Kd, line, &script, out, images, gate)),
-        ClassName::Radix => radix_ended(run_commands(rt, Radix, line, &script, out, images, gate)),
-    }
+    run_by_class(rt, line, &script, out, images, gate)
 }
 
 /// The program: reads a script from the source, does its commands and writes the text of the run

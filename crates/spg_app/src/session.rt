@@ -1,16 +1,15 @@
 ghost use Rattle.std.specs.Prelude.{◌≡◌, ◌≤◌};
 ghost use Rattle.spg_histories.specs.Ending.{any_outcome, is_fault, is_memory, status_after};
-ghost use Rattle.spg_perform.specs.Session.{IsOfClass};
 ghost use Rattle.spg_words.specs.Reading.{word_in};
 ghost use Rattle.spg_app.specs.Ending.{writing_of, outlets, Ends};
 
 use crate::beginning::{begin, status_of};
+use crate::classes::Ended;
+use crate::end_state::EndState;
 use crate::writing::write_text;
-use spg_core::State;
 use spg_histories::Status;
 use spg_io::{Images, IoRefused, Sink};
-use spg_opclass::SharedClass;
-use spg_perform::{Gate, Served, perform};
+use spg_perform::{Gate, perform};
 use spg_report::{Outcome, Record};
 use spg_script::Script;
 use spg_words::RunLine;
@@ -75,9 +74,9 @@ pub fn status_after(written: Result<(), IoRefused>, records: &[Record]) -> Statu
 /// Does the commands of a script on a new state or on that of an image, then writes the text of the run.
 /// The state after the last command is handed back; there is none where the image was refused or memory
 /// was wanting before the first one.
-pub fn run_commands<
+pub(crate) fn run_commands<
     R: AllocGlobal + Threads + Wait + Sync,
-    O: Served + SharedClass,
+    O: Ended,
     K: Sink,
     M: Images,
     G: Gate,
@@ -89,11 +88,11 @@ pub fn run_commands<
     out: &mut K,
     images: &mut M,
     gate: &G,
-) -> (Status, Option<State<O>>)
-    requires of_class { IsOfClass O.speech script.now.class }
+) -> (Status, Option<EndState>)
+    requires of_class { script.now.class ≡ O.line }
     requires from { 4 ≤ line.limit }
     requires to { line.limit ≤ 131072 }
-    ensures { Ends O.meaning O.speech O.code_number line.entry.limit (word_in line.entry.from) script.now
+    ensures { Ends line.entry.limit (word_in line.entry.from) script.now
         (outlets (K.contents out.old) (K.contents out.new) (K.faults out.old) (K.faults out.new)
         (M.held images.old) (M.held images.new) (M.faults images.old) (M.faults images.new)) result.0 result.1 }
 {
@@ -106,7 +105,8 @@ pub fn run_commands<
         Ok((state, records)) => {
             let events = state.journal().as_slice();
             let written = write_text(alloc, state.class(), events, records.as_slice(), out);
-            (status_after(written, records.as_slice()), Some(state))
+            let status = status_after(written, records.as_slice());
+            (status, O::ended(&mut Some(state)))
         }
         Err(_) => (Status::Memory, None),
     }

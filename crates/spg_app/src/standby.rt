@@ -3,22 +3,19 @@ ghost use Rattle.std.specs.List.{AllByRecursion};
 ghost use Rattle.spg_radix.specs.Texts.{is_bytes};
 ghost use Rattle.spg_script.specs.Script.{IsWritten, IsLaneCommand};
 ghost use Rattle.spg_script.specs.Sequences.{script_of, IsSequence, IsSequenceCause};
-ghost use Rattle.spg_perform.specs.Session.{IsOfClass};
 ghost use Rattle.spg_app.specs.Standbys.{GaveSequence, IsSequenceRefusal, sunk, EndsMirrored, IsStandbyRun};
 
-use crate::end_state::{EndState, kd_ended, quad_ended, radix_ended};
+use crate::by_class::mirror_by_class;
+use crate::classes::Ended;
+use crate::end_state::EndState;
 use crate::session::status_after;
 use crate::stream::{ReadRefused, read_all};
 use crate::writing::write_text;
-use spg_core::State;
 use spg_histories::Status;
 use spg_io::{Sink, Source};
-use spg_kd::Kd;
 use spg_mirror::perform_on;
 use spg_perform::Gate;
-use spg_quad::Quad;
-use spg_radix::Radix;
-use spg_script::{BadLine, ClassName, ScriptRefused, Sequence, Spoken, parse_sequence};
+use spg_script::{BadLine, ScriptRefused, Sequence, parse_sequence};
 use spg_words::StandbyLine;
 use std::alloc::Global;
 
@@ -61,20 +58,20 @@ fn read_sequence<S: Source, G: Gate>(
 
 /// Does the commands on a new index with a standby, then writes the text of the run. The state of the
 /// primary is handed back; there is none where memory was wanting before the first command.
-fn run_mirrored<O: Spoken, K: Sink, G: Gate>(
+pub(crate) fn run_mirrored<O: Ended, K: Sink, G: Gate>(
     alloc: Global,
     class: O,
     line: StandbyLine,
     sequence: &Sequence,
     out: &mut K,
     gate: &G,
-) -> (Status, Option<State<O>>)
-    requires of_class { IsOfClass O.speech sequence.now.class }
+) -> (Status, Option<EndState>)
+    requires of_class { sequence.now.class ≡ O.line }
     requires written { IsWritten (script_of sequence.now) }
     requires lane { AllByRecursion IsLaneCommand sequence.now.commands }
     requires from { 4 ≤ line.limit }
     requires to { line.limit ≤ 131072 }
-    ensures { EndsMirrored O.meaning O.speech line.limit line.lag sequence.now (sunk (K.contents out.old) (K.contents out.new) (K.faults out.old) (K.faults out.new)) result.0 result.1 }
+    ensures { EndsMirrored line.limit line.lag sequence.now (sunk (K.contents out.old) (K.contents out.new) (K.faults out.old) (K.faults out.new)) result.0 result.1 }
 {
     let done = perform_on(alloc, class, line.limit, line.lag, sequence, gate);
     let Ok((state, records)) = done else {
@@ -82,7 +79,8 @@ fn run_mirrored<O: Spoken, K: Sink, G: Gate>(
     };
     let events = state.journal().as_slice();
     let written = write_text(alloc, state.class(), events, records.as_slice(), out);
-    (status_after(written, records.as_slice()), Some(state))
+    let status = status_after(written, records.as_slice());
+    (status, O::ended(&mut Some(state)))
 }
 
 /// Reads commands that stand outside lanes, does them on an index whose searches a standby answers, and
@@ -103,9 +101,5 @@ pub fn run_standby<S: Source, K: Sink, G: Gate>(
         Ok(sequence) => sequence,
         Err(status) => return (status, None),
     };
-    match sequence.class {
-        ClassName::Quad => quad_ended(run_mirrored(alloc, Quad, line, &sequence, out, gate)),
-        ClassName::Kd => kd_ended(run_mirrored(alloc, Kd, line, &sequence, out, gate)),
-        ClassName::Radix => radix_ended(run_mirrored(alloc, Radix, line, &sequence, out, gate)),
-    }
+    mirror_by_class(alloc, line, &sequence, out, gate)
 }

@@ -1,17 +1,17 @@
 // A reference as its pointer.
-ghost use Rattle.std.specs.Prelude.{◌≡◌, Option, Some, None, IsSome};
+ghost use Rattle.std.specs.Prelude.{◌≡◌, Option, Some as Just, None, IsSome};
 ghost use Rattle.std.specs.Borrow.{MutBor};
 ghost use Rattle.spg_c.specs.declared.shell.Kept.{Kept as Inside};
+ghost use Rattle.spg_c.specs.Behind.{behind};
 
-use spg_quad::Quad;
-use spg_whole::Index;
+use crate::any::AnyIndex;
 use std::marker::Model;
 use std::ptr;
 
 /// What is kept between calls.
 #[derive(Drop)]
 pub struct Kept {
-    pub(crate) index: Option<Index<Quad>>,
+    pub(crate) index: AnyIndex,
 }
 
 /// The pointer of a reference that never ends, or none.
@@ -41,7 +41,7 @@ impl Shell {
 
     /// This reference as its pointer.
     pub(crate) fn of(kept: &'static mut Kept) -> Shell
-        ensures { IsSome result.value }
+        ensures { behind result.value ≡ Just kept.old }
     {
         let at = kept as *mut Kept;
         Shell { at: at as *mut u8 }
@@ -50,6 +50,7 @@ impl Shell {
     /// The reference that its pointer was made of.
     pub(crate) fn into_ref(self) -> &'static mut Kept
         requires some { IsSome self.value }
+        ensures { behind self.value ≡ Just result.now }
     {
         let Shell { at } = self;
         unsafe { &mut *(at as *mut Kept) }

@@ -100,8 +100,7 @@ module _ {O Key Recon Cond : Type 0} (m : Meaning Key Recon Cond) (speech : Spee
   pub found : (query : AnyQuery) (q : Query O Key Recon Cond) → query_in speech query ≡ Some q → (r : Record) (result : Result Closed NoMemory) → IfOk result (λ closed. Finds m s0 s1 seat q closed) → OnErr result (FindsNone s0 s1 seat q)
       → Spans r (find_outcome result) (length s0.journal) (length s1.journal) → Acts m speech s0 s1 seat true (Find query) r
   found query q asked r (Ok closed) F e spans =
-      let (k, w, met) = F.walk in
       did m speech s0 s1 seat true idle idle_then right (Find query) (outcome.Found closed.rows (Some closed.met)) r spans (OpenScan seat q ∷ CloseScan seat closed.rows ∷ []) F.rows.did (refl, (refl, tt)) (λ block. ((q, asked, refl), refl)) tt tt (λ z. F.rows.pages.0)
-      (λ z. (q, k, asked, w, ap (λ (n : ℕ). Some n) met)) tt tt
+      (λ z. (q, closed.met, asked, F.walk, refl)) tt tt
   found query q asked r (Err n) F (inl same) spans = rests m speech s0 s1 seat true (Find query) outcome.Memory r spans same idle (λ block. inl refl) tt tt (λ z. tt) tt tt
   found query q asked r (Err n) F (inr (D, pages)) spans = did m speech s0 s1 seat true idle idle_then right (Find query) outcome.Memory r spans (OpenScan seat q ∷ Leave seat ∷ []) D (refl, (refl, tt)) (λ block. inr (q, asked, refl)) tt tt (λ z. pages.0) (λ z. tt) tt tt

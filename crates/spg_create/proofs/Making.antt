@@ -45,10 +45,10 @@ module _ {Key Recon Cond : Type 0} (m : Meaning Key Recon Cond) (code : ℕ) (en
   abbrev numbers : Verified
   numbers = record { pages = pages; entries = n }
 
-  held_verified : (held : Option (List ℕ)) → pages ≡ length image.pages → HoldsImage image held → IsVerified m (λ k. k ≡ code) held numbers
+  held_verified : (held : Option (List ℕ)) → pages ≡ length image.pages → HoldsImage image held → IsVerified m code held numbers
   held_verified held same (bytes, is, reads) =
       let (t, good, long, leaves) = saved_verified m code image bytes reads refl made.represents.shape in
-      (t, subst (λ (h : Option (List ℕ)). IsGood m (λ k. k ≡ code) 4 h t) (sym is) good, same ∙ long, count ∙ as_many_leaves m (sheets_in image) entries made.represents once ∙ leaves)
+      (t, subst (λ (h : Option (List ℕ)). IsGood m code 4 h t) (sym is) good, same ∙ long, count ∙ as_many_leaves m (sheets_in image) entries made.represents once ∙ leaves)
 
-  pub image_verified : (old now : Option Holding) (name : List ℕ) → Saves image old now name (Ok pages) → Changes old now name (λ was held. IsVerified m (λ k. k ≡ code) held numbers)
-  image_verified old now name (same, changes) = changes_more old now name (λ was held. HoldsImage image held) (λ was held. IsVerified m (λ k. k ≡ code) held numbers) (λ was held h. held_verified held same h) changes
+  pub image_verified : (old now : Option Holding) (name : List ℕ) → Saves image old now name (Ok pages) → Changes old now name (λ was held. IsVerified m code held numbers)
+  image_verified old now name (same, changes) = changes_more old now name (λ was held. HoldsImage image held) (λ was held. IsVerified m code held numbers) (λ was held h. held_verified held same h) changes

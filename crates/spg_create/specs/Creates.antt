@@ -5,9 +5,6 @@ use Rattle.spg_io.specs.Causes.{Rose}
 use Rattle.spg_opclass.specs.Meaning.{Meaning}
 use Rattle.spg_forest.specs.Shape.{Represents}
 use Rattle.spg_tree.specs.Table.{Table}
-use Rattle.spg_quad.specs.Quad.{quad_meaning}
-use Rattle.spg_kd.specs.Kd.{kd_meaning}
-use Rattle.spg_radix.specs.Radix.{radix_meaning}
 use Rattle.spg_verify.specs.declared.reading.Verified.{Verified}
 use Rattle.spg_verify.specs.Verdict.{IsVerified}
 use Rattle.spg_image.specs.Image.{image_of, sheets_in}
@@ -15,9 +12,7 @@ use Rattle.spg_image.specs.Saving.{Saves}
 use Rattle.spg_image.specs.declared.refused.SaveRefused.{SaveRefused}
 use Rattle.spg_image.specs.declared.refused.SaveRefused.TheVariants as saves
 use Rattle.spg_script.specs.declared.inserts.Insert.{Insert}
-use Rattle.spg_script.specs.declared.class_name.ClassName.{ClassName}
-use Rattle.spg_script.specs.declared.class_name.ClassName.TheVariants as class
-use Rattle.spg_script.specs.Speech.{Speech, point_speech, text_speech}
+use Rattle.spg_script.specs.Speech.{Speech}
 use Rattle.spg_build.specs.declared.entry.Entry.{Entry}
 use Rattle.spg_build.specs.Built.{HasIn, AreRowsOnce, IsAtRest}
 use Rattle.spg_create.specs.Keeps.{Keeps}
@@ -52,8 +47,8 @@ pub record IsCreated {Key Recon Cond : Type 0} (m : Meaning Key Recon Cond) (spe
   pub table : Table
   pub table_of : IsTableOf m code entries table
   pub saved : Saves (image_of code table) old now name (Ok c.pages)
-  pub verified : Changes old now name (λ was held. IsVerified m (λ n. n ≡ code) held (numbers_of c))
-  pub later : f ≤ f_after
+  pub verified : Changes old now name (λ was held. IsVerified m code held (numbers_of c))
+  pub same : f_after ≡ f
 
 -- the entries are too many for the greatest number of pages; the images are as they were
 pub record IsTooMuch {Key Cond : Type 0} (speech : Speech Key Cond) (inserts : List Insert) (old now : Option Holding) (f f_after : ℕ) : Type 0 where
@@ -78,10 +73,4 @@ abbrev pub Creates : {Key Recon Cond : Type 0} → Meaning Key Recon Cond → Sp
 Creates m speech code inserts name old now f f_after (Ok c) = IsCreated m speech code inserts name old now f f_after c
 Creates m speech code inserts name old now f f_after (Err IndexFull) = IsTooMuch speech inserts old now f f_after
 Creates m speech code inserts name old now f f_after (Err ImageFault) = IsUnsaved m speech code inserts name old now f f_after saves.ImageFault × Rose f f_after
-Creates m speech code inserts name old now f f_after (Err Memory) = ((now ≡ old) × (f_after ≡ f)) ⊎ IsUnsaved m speech code inserts name old now f f_after saves.Memory
-
--- the same by the class of a script; the numbers are those of the classes in an image
-abbrev pub CreatesBy : ClassName → List Insert → List ℕ → (old now : Option Holding) → (f f_after : ℕ) → Result Created CreateRefused → Type 0
-CreatesBy class.Quad inserts name old now f f_after result = Creates quad_meaning point_speech 1 inserts name old now f f_after result
-CreatesBy class.Kd inserts name old now f f_after result = Creates kd_meaning point_speech 2 inserts name old now f f_after result
-CreatesBy class.Radix inserts name old now f f_after result = Creates radix_meaning text_speech 3 inserts name old now f f_after result
+Creates m speech code inserts name old now f f_after (Err Memory) = ((now ≡ old) × (f_after ≡ f)) ⊎ (IsUnsaved m speech code inserts name old now f f_after saves.Memory × (f_after ≡ f))

@@ -7,3 +7,4 @@ pub mod Inserting
 pub mod Finding
 pub mod Nearing
 pub mod Sweeping
+pub mod Moments

@@ -1,5 +1,5 @@
 -- One section: what it does to the index that its turn lends, and what its pass is told.
-use Rattle.std.proofs.Common.{◌≡◌, ◌≢◌, ◌<◌, ◌≤◌, ◌+◌, ◌^◌, ℕ, true, false, Bool, List, [], ◌∷◌, ◌++◌, length, map, take, drop, reverse, Option, Some, None, Result, Ok, Err, IfOk, OnOk, OnErr, IsErrOf, ◌↔◌, refl, sym, ap, ◌∙◌, subst, arith}
+use Rattle.std.proofs.Common.{◌≡◌, ◌≢◌, ◌<◌, ◌≤◌, ◌+◌, ◌*◌, ◌^◌, ℕ, true, false, Bool, List, [], ◌∷◌, ◌++◌, length, map, take, drop, reverse, Option, Some, None, Result, Ok, Err, IfOk, OnOk, OnErr, IsErrOf, ◌↔◌, refl, sym, ap, ◌∙◌, subst, arith}
 use Rattle.std.specs.Prelude.{is_none}
 use Rattle.std.specs.List.{AllByRecursion}
 use Rattle.std.proofs.lemmas.List.{append-nil, drop_at, take_at, take_all, reverse-append}
@@ -27,6 +27,8 @@ use Rattle.spg_core.specs.declared.answer.InsertOut.TheVariants as outs
 use Rattle.spg_core.specs.declared.answer.OpenRefused.{OpenRefused}
 use Rattle.spg_core.specs.declared.answer.OpenRefused.TheVariants as open_refused
 use Rattle.spg_core.specs.declared.answer.VacuumRefused.{VacuumRefused}
+use Rattle.spg_bounds.specs.Bounds.{IsLate, DropsAreLate}
+use Rattle.spg_desk.specs.Full.{IsFullFor}
 use Rattle.spg_desk.specs.declared.ended.Read.{Read}
 use Rattle.spg_desk.specs.declared.ended.Read.TheVariants as read
 use Rattle.spg_desk.specs.declared.ended.Swept.{Swept}
@@ -274,12 +276,22 @@ module _ {O Key Recon Cond : Type 0} where
   pub keys_then : (w : View (Event O Key Recon Cond)) (old new : Seen O Key Recon Cond) (seat : ℕ) (row : RowAt) (end : Ended) → Adds old new (ending seat row end ∷ []) → w.seen ≡ new.journal → opened_keys (reverse w.seen) ≡ opened_keys (past_of old)
   keys_then w old new seat row end adds after = ap (λ l. opened_keys (reverse l)) (after ∙ adds.0) ∙ (ap opened_keys (reverse-append old.journal (ending seat row end ∷ [])) ∙ ended_keys seat row end (past_of old))
 
+  -- what an insert may be given up for is told by the inserts that were opened
+  full_then : (m : Meaning Key Recon Cond) (origin later : Origin) (key : Option Key) (past past2 : History O Key Recon Cond) (cause : Why) → origin ≡ later → opened_keys past2 ≡ opened_keys past → IsFullFor m origin key past cause → IsFullFor m later key past2 cause
+  full_then m origin later key past past2 cause same keys full = subst (λ (o : Origin). IsFullFor m o key past2 cause) same (record {
+    outgrown = λ fresh. subst (λ (l : List (Option Key)). 8160 < weight_of m (is_none key) l) (sym keys) (full.outgrown fresh);
+    late = record {
+      full = λ e. subst (λ (l : List (Option Key)). origin.limit < origin.pages + 8 * length l + 4) (sym keys) (full.late.full e);
+      clock = λ e. subst (λ (l : List (Option Key)). 2 ^ 48 ≤ origin.clock + 3 * length l + 1) (sym keys) (full.late.clock e);
+    };
+  })
+
   pub due_then : (m : Meaning Key Recon Cond) (h w : View (Event O Key Recon Cond)) (old new : Seen O Key Recon Cond) (seat : ℕ) (row : RowAt) (key : Option Key) (end : Option Ended) (span : Span) → Adds old new (endings seat row end) → w.seen ≡ new.journal → span ≡ span_at (length h.seen) (length w.seen)
       → (origin : Origin) → old.origin ≡ origin → IsDue m old.origin key (past_of old) end → IsDue m origin key (past_at span.to w.seen) end
   due_then m h w old new seat row key None span adds after is origin same due = tt
   due_then m h w old new seat row key (Some ended.Put) span adds after is origin same due = tt
-  due_then m h w old new seat row key (Some ended.Full) span adds after is origin same due = λ fresh. subst (λ (l : List (Option Key)). 8160 < weight_of m (is_none key) l) (sym (ap opened_keys (whole_past h w span is) ∙ keys_then w old new seat row ended.Full adds after)) (due (ap (λ (o : Origin). o.loaded) same ∙ fresh))
-  due_then m h w old new seat row key (Some ended.Clock) span adds after is origin same due = λ fresh. subst (λ (l : List (Option Key)). 8160 < weight_of m (is_none key) l) (sym (ap opened_keys (whole_past h w span is) ∙ keys_then w old new seat row ended.Clock adds after)) (due (ap (λ (o : Origin). o.loaded) same ∙ fresh))
+  due_then m h w old new seat row key (Some ended.Full) span adds after is origin same due = full_then m old.origin origin key (past_of old) (past_at span.to w.seen) why.Full same (ap opened_keys (whole_past h w span is) ∙ keys_then w old new seat row ended.Full adds after) due
+  due_then m h w old new seat row key (Some ended.Clock) span adds after is origin same due = full_then m old.origin origin key (past_of old) (past_at span.to w.seen) why.Clock same (ap opened_keys (whole_past h w span is) ∙ keys_then w old new seat row ended.Clock adds after) due
   due_then m h w old new seat row key (Some ended.Refused) span adds after is origin same due = tt
 
   -- an insert at the stage of its row
@@ -288,6 +300,17 @@ module _ {O Key Recon Cond : Type 0} where
   heavy_due m seen row key (descending k d) is heavy = λ fresh. subst (λ (x : Option Key). 8160 < weight_of m (is_none x) (opened_keys (past_of seen))) is.1 (heavy fresh)
   heavy_due m seen row key (reading s) is heavy = absurd is
   heavy_due m seen row key (sweeping v) is heavy = absurd is
+
+  -- one that was given up for this cause, of a state whose inserts were given up only where enough were opened
+  late_drop : (seat : ℕ) (old new : Seen O Key Recon Cond) (cause : Why) (stage : Stage O Key Recon Cond) → IsInserting stage → new.journal ≡ old.journal ++ given_up seat stage cause ∷ [] → DropsAreLate old.origin (past_of new) → IsLate old.origin (past_of old) cause
+  late_drop seat old new cause free is grew drops = absurd is
+  late_drop seat old new cause (descending k d) is grew drops = (subst (λ (p : History O Key Recon Cond). DropsAreLate old.origin p) (ap reverse grew ∙ reverse-append old.journal (Drop seat d.row cause ∷ [])) drops).0
+  late_drop seat old new cause (reading s) is grew drops = absurd is
+  late_drop seat old new cause (sweeping v) is grew drops = absurd is
+
+  pub gave_late : (old new : Seen O Key Recon Cond) (seat : ℕ) (cause : Why) → IsInserting (stage_at old seat) → GivesUp old new seat cause → DropsAreLate new.origin (past_of new) → IsLate old.origin (past_of old) cause
+  gave_late old new seat cause is gave drops =
+      late_drop seat old new cause (stage_at old seat) is (ap (λ (s : Seen O Key Recon Cond). s.journal) gave.is) (subst (λ (o : Origin). DropsAreLate o (past_of new)) (ap (λ (s : Seen O Key Recon Cond). s.origin) gave.is) drops)
 
   pub never_due : (m : Meaning Key Recon Cond) (origin : Origin) (key : Option Key) (past : History O Key Recon Cond) (out : InsertOut) → IsDue m origin key past (ended_of out)
   never_due m origin key past outs.Descended = tt

@@ -1,12 +1,11 @@
 -- What the sections of a call do to the index, and what its seat is doing between them.
-use Rattle.std.specs.Prelude.{◌≡◌, ◌<◌, ◌++◌, ℕ, Bool, true, false, List, [], ◌∷◌, length, map, is_none, Option, Some, None, Result, Ok, Err, ⊤}
+use Rattle.std.specs.Prelude.{◌≡◌, ◌<◌, ◌++◌, ℕ, Bool, true, false, List, [], ◌∷◌, length, map, Option, Some, None, Result, Ok, Err, ⊤}
 use Rattle.spg_base.specs.declared.recorded.Origin.{Origin}
 use Rattle.spg_base.specs.Row.{RowAt}
 use Rattle.spg_base.specs.declared.names.Span.{Span}
 use Rattle.spg_base.specs.declared.memory.Memory.{Memory}
 use Rattle.spg_opclass.specs.Meaning.{Meaning}
 use Rattle.spg_opclass.specs.declared.query.Query.{Query}
-use Rattle.spg_forest.specs.Walk.{weight_of}
 use Rattle.spg_rows.specs.declared.event.Event.{Event}
 use Rattle.spg_rows.specs.declared.event.Event.TheVariants.{OpenInsert, Put, Drop, Kill, OpenScan, CloseScan, OpenVacuum, Sweep, CloseVacuum, Leave}
 use Rattle.spg_rows.specs.declared.event.Why.TheVariants as cause
@@ -22,7 +21,6 @@ use Rattle.spg_core.specs.declared.answer.OpenRefused.{OpenRefused}
 use Rattle.spg_core.specs.declared.answer.OpenRefused.TheVariants as open_refused
 use Rattle.spg_core.specs.declared.answer.VacuumRefused.{VacuumRefused}
 use Rattle.spg_core.specs.declared.answer.VacuumRefused.TheVariants as vacuum_refused
-use Rattle.spg_core.specs.Weight.{opened_keys}
 use Rattle.spg_calls.specs.Calls.{Watched, past_at}
 use Rattle.spg_calls.specs.Doing.{Doing, idle, puts, scans, sweeps}
 use Rattle.spg_calls.specs.Swept.{swept_after}
@@ -34,6 +32,7 @@ use Rattle.spg_desk.specs.declared.ended.Read.{Read}
 use Rattle.spg_desk.specs.declared.ended.Read.TheVariants as read
 use Rattle.spg_desk.specs.declared.ended.Swept.{Swept}
 use Rattle.spg_desk.specs.declared.ended.Swept.TheVariants as swept
+use Rattle.spg_desk.specs.Full.{IsFullFor}
 use Rattle.spg_desk.specs.Knowing.{doing_at}
 use Rattle.spg_desk.specs.Told.{Told}
 use Rattle.spg_desk.specs.Answers.{swept_then}
@@ -169,12 +168,12 @@ module _ {O Key Recon Cond : Type 0} where
   StepsSweep old new n out = (rows : List RowAt) × Adds old new (sweepings n rows out)
 
 module _ {O Key Recon Cond : Type 0} (m : Meaning Key Recon Cond) where
-  -- for `Full` and `Clock` the keys of the insert's tree that were ever inserted take more than 8,160 bytes, where the state was not loaded
+  -- what ends an insert is due after this past
   abbrev pub IsDue : Origin → Option Key → History O Key Recon Cond → Option Ended → Type 0
   IsDue origin key past None = ⊤
   IsDue origin key past (Some ended.Put) = ⊤
-  IsDue origin key past (Some ended.Full) = origin.loaded ≡ false → 8160 < weight_of m (is_none key) (opened_keys past)
-  IsDue origin key past (Some ended.Clock) = origin.loaded ≡ false → 8160 < weight_of m (is_none key) (opened_keys past)
+  IsDue origin key past (Some ended.Full) = IsFullFor m origin key past cause.Full
+  IsDue origin key past (Some ended.Clock) = IsFullFor m origin key past cause.Clock
   IsDue origin key past (Some ended.Refused) = ⊤
 
   -- a section of the insert of a row ended it so, or did not end it

@@ -1,7 +1,6 @@
 -- What a call of the desk answers, and what it has done then.
-use Rattle.std.specs.Prelude.{◌≡◌, ◌<◌, ◌⊎◌, ◌++◌, ℕ, Bool, true, false, List, [], ◌∷◌, length, map, reverse, is_none, Option, Some, Result, Ok, Err}
+use Rattle.std.specs.Prelude.{◌≡◌, ◌⊎◌, ◌++◌, ℕ, Bool, true, false, List, [], ◌∷◌, length, map, reverse, Option, Some, Result, Ok, Err}
 use Rattle.spg_base.specs.declared.point.Point.{Point}
-use Rattle.spg_base.specs.declared.recorded.Origin.{Origin}
 use Rattle.spg_base.specs.Row.{RowAt}
 use Rattle.spg_base.specs.declared.names.Span.{Span}
 use Rattle.spg_base.specs.declared.memory.Memory.{Memory}
@@ -13,7 +12,6 @@ use Rattle.spg_desk.specs.declared.ended.Ended.{Ended}
 use Rattle.spg_desk.specs.declared.ended.Ended.TheVariants as ended
 use Rattle.spg_opclass.specs.Meaning.{Meaning}
 use Rattle.spg_opclass.specs.declared.query.Query.{Query}
-use Rattle.spg_forest.specs.Walk.{weight_of}
 use Rattle.spg_rows.specs.declared.event.Event.{Event}
 use Rattle.spg_rows.specs.declared.event.Event.TheVariants.{OpenInsert, Put, Drop, Kill, OpenScan, CloseScan, OpenVacuum, Sweep, CloseVacuum, Leave}
 use Rattle.spg_rows.specs.declared.event.Why.TheVariants as cause
@@ -21,7 +19,6 @@ use Rattle.spg_rows.specs.History.{History, open_of, vacuuming}
 use Rattle.spg_rows.specs.Rows.{held_by, is_live}
 use Rattle.spg_rows.specs.Told.{IsUsed}
 use Rattle.spg_turn.specs.declared.rule.View.{View}
-use Rattle.spg_core.specs.Weight.{opened_keys}
 use Rattle.spg_calls.specs.Calls.{past_at, span_at}
 use Rattle.spg_desk.specs.declared.answer.InsertAnswer.{InsertAnswer}
 use Rattle.spg_desk.specs.declared.answer.InsertAnswer.TheVariants as inserts
@@ -34,6 +31,7 @@ use Rattle.spg_desk.specs.declared.answer.NearAnswer.TheVariants as nears
 use Rattle.spg_desk.specs.declared.answer.VacuumAnswer.{VacuumAnswer}
 use Rattle.spg_desk.specs.declared.answer.VacuumAnswer.TheVariants as vacuums
 use Rattle.spg_near.specs.Nearest.{AreNearest}
+use Rattle.spg_desk.specs.Full.{IsFullFor}
 use Rattle.spg_desk.specs.Told.{Told}
 
 -- what a call answers, by how it went
@@ -66,17 +64,13 @@ ended_vacuum (Ok swept) span = vacuums.Vacuumed swept span
 ended_vacuum (Err e) span = vacuums.Memory span
 
 module _ {O Key Recon Cond : Type 0} (m : Meaning Key Recon Cond) (v w : View (Event O Key Recon Cond)) where
-  -- the keys of the tree of the insert that were ever inserted take more than 8,160 bytes, where the state was not loaded
-  abbrev pub IsOutgrown : Option Key → ℕ → Type 0
-  IsOutgrown key at = v.origin.loaded ≡ false → 8160 < weight_of m (is_none key) (opened_keys (past_at at w.seen))
-
   -- `RowUsed` and `RowHeld` are told of the journal where the span begins, `IndexFull` and `ClockFull` of that where it ends
   abbrev pub DidInsert : RowAt → Option Key → InsertAnswer → Type 0
   DidInsert row key (inserts.Added span) = Told m v w span (OpenInsert v.number row key ∷ Put v.number row ∷ [])
   DidInsert row key (inserts.RowUsed span) = Told m v w span [] × IsUsed (past_at span.from w.seen) row
   DidInsert row key (inserts.RowHeld by span) = Told m v w span [] × (held_by row (past_at span.from w.seen) ≡ Some by)
-  DidInsert row key (inserts.IndexFull span) = Told m v w span (OpenInsert v.number row key ∷ Drop v.number row cause.Full ∷ []) × IsOutgrown key span.to
-  DidInsert row key (inserts.ClockFull span) = Told m v w span (OpenInsert v.number row key ∷ Drop v.number row cause.Clock ∷ []) × IsOutgrown key span.to
+  DidInsert row key (inserts.IndexFull span) = Told m v w span (OpenInsert v.number row key ∷ Drop v.number row cause.Full ∷ []) × IsFullFor m v.origin key (past_at span.to w.seen) cause.Full
+  DidInsert row key (inserts.ClockFull span) = Told m v w span (OpenInsert v.number row key ∷ Drop v.number row cause.Clock ∷ []) × IsFullFor m v.origin key (past_at span.to w.seen) cause.Clock
   DidInsert row key (inserts.Memory span) = Told m v w span [] ⊎ Told m v w span (OpenInsert v.number row key ∷ Drop v.number row cause.Given ∷ [])
 
   abbrev pub DidKill : RowAt → KillAnswer → Type 0

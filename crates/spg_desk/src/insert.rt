@@ -161,7 +161,8 @@ impl<O: OpClass> Desk<O> {
 
     /// Inserts a row with its key, or with a null. `RowUsed` exactly where the row is claimed and waits
     /// for nobody, `RowHeld` exactly where it waits for this seat, both in the turn in which the insert
-    /// would open. `IndexFull` and `ClockFull` only where the keys of its tree that were ever inserted
+    /// would open. `IndexFull` and `ClockFull` only where so many inserts were opened that it could come to
+    /// that, with 8 pages and 3 ticks of the clock for each, and the keys of its tree that were ever inserted
     /// take more than 8,160 bytes. The insert is given up then, and after a refusal for want of memory.
     pub fn insert<R: Wait>(
         &self,

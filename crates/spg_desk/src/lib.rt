@@ -2,12 +2,15 @@
 #![tactic(auto)]
 
 mod answer;
+mod copying;
 mod desk;
 mod ended;
 mod find;
 mod give_up;
 mod insert;
 mod kill;
+mod looked;
+mod looking;
 mod near;
 mod pass;
 mod put;
@@ -18,4 +21,5 @@ mod vacuum;
 
 pub use answer::{FindAnswer, InsertAnswer, KillAnswer, NearAnswer, VacuumAnswer};
 pub use desk::Desk;
+pub use looked::{HeldAnswer, PagesAnswer, StatAnswer};
 pub use pass::Pass;

@@ -2,10 +2,11 @@
 ghost use Rattle.std.specs.Prelude.{◌≡◌, ◌+◌, ◌^◌, Option};
 ghost use Rattle.spg_base.specs.Row.{RowAt};
 ghost use Rattle.spg_core.specs.declared.look.ApplyRefused.TheVariants as apply_refused;
-ghost use Rattle.spg_core.specs.Seen.{stage_at};
-ghost use Rattle.spg_core.specs.Stage.{IsInserting};
+ghost use Rattle.spg_core.specs.Seen.{stage_at, past_of};
+ghost use Rattle.spg_core.specs.Stage.{IsInserting, MayGiveUp};
 ghost use Rattle.spg_core.specs.Stepping.{IsNearLimit};
-ghost use Rattle.spg_core.specs.Sections.{IsHeavy};
+ghost use Rattle.spg_core.specs.Sections.{IsHeavy, GivesUp};
+ghost use Rattle.spg_bounds.specs.Bounds.{IsLate};
 ghost use Rattle.spg_desk.specs.Acting.{IsPutting, LooksPut, StepsPut, ended_of};
 
 use crate::ended::{Ended, Looked};
@@ -24,6 +25,19 @@ fn ended(out: &InsertOut) -> Option<Ended>
     }
 }
 
+/// Gives the seat's insert up, as the index or its clock is full. So many inserts were opened that it
+/// may be.
+fn give_up<O: OpClass>(bare: &mut Bare<O>, seat: SeatNo, why: Why)
+    requires inserting { IsInserting (stage_at bare.old seat) }
+    requires why { MayGiveUp bare.old.table (stage_at bare.old seat) why }
+    ensures up { GivesUp bare.old bare.new seat why }
+    ensures late { IsLate bare.old.origin (past_of bare.old) why }
+{
+    bare.abandon(seat, why);
+    // Each insert that was given up in the journal tells how many were opened.
+    let _pages = bare.pages();
+}
+
 /// Looks at the seat's insert, and does its next section where the class has no say in it. After a
 /// refusal the insert is given up.
 pub(crate) fn look_on<O: OpClass>(bare: &mut Bare<O>, seat: SeatNo) -> Looked<O>
@@ -36,11 +50,11 @@ pub(crate) fn look_on<O: OpClass>(bare: &mut Bare<O>, seat: SeatNo) -> Looked<O>
         Ok(Look::Part(bunch)) if bunch.rests().len() > 0 => Looked::Part(bunch),
         Ok(Look::Part(_)) => Looked::Stepped(None),
         Err(StepRefused::IndexFull) => {
-            bare.abandon(seat, Why::Full);
+            give_up(bare, seat, Why::Full);
             Looked::Stepped(Some(Ended::Full))
         }
         Err(StepRefused::ClockFull) => {
-            bare.abandon(seat, Why::Clock);
+            give_up(bare, seat, Why::Clock);
             Looked::Stepped(Some(Ended::Clock))
         }
         Err(StepRefused::Memory) => {
@@ -60,11 +74,11 @@ fn refuse<O: OpClass>(bare: &mut Bare<O>, seat: SeatNo, refused: ApplyRefused) -
     match refused {
         ApplyRefused::Changed => None,
         ApplyRefused::IndexFull => {
-            bare.abandon(seat, Why::Full);
+            give_up(bare, seat, Why::Full);
             Some(Ended::Full)
         }
         ApplyRefused::ClockFull => {
-            bare.abandon(seat, Why::Clock);
+            give_up(bare, seat, Why::Clock);
             Some(Ended::Clock)
         }
         ApplyRefused::Memory => {

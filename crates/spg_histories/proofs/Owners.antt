@@ -15,6 +15,7 @@ use Rattle.spg_script.specs.declared.any_query.AnyQuery.{AnyQuery}
 use Rattle.spg_script.specs.declared.any_query.AnyQuery.TheVariants.{All}
 use Rattle.spg_script.specs.declared.command.Command.{Command}
 use Rattle.spg_script.specs.declared.command.Command.TheVariants as asked
+use Rattle.spg_script.specs.declared.key_form.KeyForm.{KeyForm}
 use Rattle.spg_script.specs.Blocks.{Part}
 use Rattle.spg_script.specs.Speech.{Speech, SpeaksAsPrinted}
 use Rattle.spg_script.specs.Laws.{IsCommand, IsKeyOrNull, IsQuery}
@@ -24,7 +25,7 @@ use Rattle.spg_report.specs.declared.record.Record.{Record}
 use Rattle.spg_report.specs.Text.{text}
 use Rattle.spg_report.specs.Told.{told, IsNamed, CanBePrinted}
 use Rattle.spg_report.proofs.Wholes.{text_tells}
-use Rattle.spg_script.specs.Line.{has_texts}
+use Rattle.spg_script.specs.Line.{keys_of}
 use Rattle.spg_script.specs.Script.{AreCommands}
 use Rattle.spg_script.proofs.Tidy.{script_tidy}
 use Rattle.spg_histories.specs.Tasks.{Task, lane_tasks, lanes_tasks, parts_tasks, tasks_of}
@@ -73,10 +74,10 @@ pub load_long : (O Key Recon Cond : Type 0) (loaded : List (Entry Key)) → leng
 load_long O Key Recon Cond [] = refl
 load_long O Key Recon Cond (x ∷ loaded) = omega (arith, load_long O Key Recon Cond loaded)
 
-load_named : (O Key Recon Cond : Type 0) (texts : Bool) (speech : Speech Key Cond) (loaded : List (Entry Key)) → AllByRecursion (IsNamedEntry texts speech) loaded
-    → AllByRecursion (IsNamed texts speech) (load_events {O = O} {Recon = Recon} {Cond = Cond} loaded)
-load_named O Key Recon Cond texts speech [] are = tt
-load_named O Key Recon Cond texts speech (x ∷ loaded) are = (are.0, (tt, load_named O Key Recon Cond texts speech loaded are.1))
+load_named : (O Key Recon Cond : Type 0) (keys : KeyForm) (speech : Speech Key Cond) (loaded : List (Entry Key)) → AllByRecursion (IsNamedEntry keys speech) loaded
+    → AllByRecursion (IsNamed keys speech) (load_events {O = O} {Recon = Recon} {Cond = Cond} loaded)
+load_named O Key Recon Cond keys speech [] are = tt
+load_named O Key Recon Cond keys speech (x ∷ loaded) are = (are.0, (tt, load_named O Key Recon Cond keys speech loaded are.1))
 
 pub as_long : {A B : Type 0} (R : A → B → Type 0) (xs : List A) (ys : List B) → AllZip R xs ys → length xs ≡ length ys
 as_long R [] [] all = refl
@@ -121,11 +122,11 @@ module _ {O Key Recon Cond : Type 0} where
   seat_told (CloseVacuum seat swept) = refl
   seat_told (Leave seat) = refl
 
-  module _ (texts : Bool) (speech : Speech Key Cond) where
+  module _ (keys : KeyForm) (speech : Speech Key Cond) where
     -- what the owner says: the cause and the rows, and the name of the key or the query
     record IsSaid (o : Outcome) (e : Event O Key Recon Cond) : Type 0 where
       same : whole o e ≡ e
-      named : IsNamed texts speech e
+      named : IsNamed keys speech e
 
     sweeps_said : (o : Outcome) (seat : ℕ) (rows : List RowAt) (last : Event O Key Recon Cond) → IsSaid o last → AllByRecursion (IsSaid o) (map (λ r. Sweep seat r) rows ++ last ∷ [])
     sweeps_said o seat [] last is = (is, tt)
@@ -134,13 +135,13 @@ module _ {O Key Recon Cond : Type 0} where
     said_none : (o : Outcome) (events : List (Event O Key Recon Cond)) → events ≡ [] → AllByRecursion (IsSaid o) events
     said_none o events is = subst (AllByRecursion (IsSaid o)) (sym is) tt
 
-    said_insert : (o : Outcome) (seat : ℕ) (row : RowAt) (key : Option AnyKey) (last : Event O Key Recon Cond) (events : List (Event O Key Recon Cond)) → IsKeyOrNull texts key → IsSaid o last
+    said_insert : (o : Outcome) (seat : ℕ) (row : RowAt) (key : Option AnyKey) (last : Event O Key Recon Cond) (events : List (Event O Key Recon Cond)) → IsKeyOrNull keys key → IsSaid o last
         → Inserts speech seat row key (last ∷ []) events → AllByRecursion (IsSaid o) events
     said_insert o seat row key last events is says (k, is_in, all) =
         let first : IsSaid o (OpenInsert seat row k) = record { same = refl; named = (key, is_in, is) } in
         subst (AllByRecursion (IsSaid o)) (sym all) (first, (says, tt))
 
-    said_scan : (o : Outcome) (seat : ℕ) (query : AnyQuery) (last : Event O Key Recon Cond) (events : List (Event O Key Recon Cond)) → IsQuery texts query → IsSaid o last
+    said_scan : (o : Outcome) (seat : ℕ) (query : AnyQuery) (last : Event O Key Recon Cond) (events : List (Event O Key Recon Cond)) → IsQuery keys query → IsSaid o last
         → Scans speech seat query last events → AllByRecursion (IsSaid o) events
     said_scan o seat query last events is says (q, is_in, all) =
         let first : IsSaid o (OpenScan seat q) = record { same = refl; named = (query, is_in, is) } in
@@ -149,7 +150,7 @@ module _ {O Key Recon Cond : Type 0} where
     said_vacuum : (o : Outcome) (seat n : ℕ) (last : Event O Key Recon Cond) (events : List (Event O Key Recon Cond)) → IsSaid o last → Sweeps speech seat n last events → AllByRecursion (IsSaid o) events
     said_vacuum o seat n last events says (rows, long, all) = subst (AllByRecursion (IsSaid o)) (sym all) (record { same = refl; named = tt }, sweeps_said o seat rows last says)
 
-    said_up : (seat : ℕ) (events : List (Event O Key Recon Cond)) (c : Command) → IsCommand texts c → GivesUp speech seat events c → AllByRecursion (IsSaid outcome.Memory) events
+    said_up : (seat : ℕ) (events : List (Event O Key Recon Cond)) (c : Command) → IsCommand keys c → GivesUp speech seat events c → AllByRecursion (IsSaid outcome.Memory) events
     said_up seat events (asked.Insert row key) is up = said_insert outcome.Memory seat row key (Drop seat row cause.Given) events is.1 (record { same = refl; named = tt }) up
     said_up seat events (asked.Delete row) is up = absurd up
     said_up seat events (asked.Find query) is up = said_scan outcome.Memory seat query (Leave seat) events is (record { same = refl; named = tt }) up
@@ -158,7 +159,7 @@ module _ {O Key Recon Cond : Type 0} where
     said_up seat events asked.Stat is up = absurd up
     said_up seat events (asked.Near target limit) is up = said_scan outcome.Memory seat All (Leave seat) events tt (record { same = refl; named = tt }) up
 
-    said_by : (block seat : ℕ) (alone : Bool) (before : History O Key Recon Cond) (events : List (Event O Key Recon Cond)) (c : Command) (o : Outcome) → IsCommand texts c
+    said_by : (block seat : ℕ) (alone : Bool) (before : History O Key Recon Cond) (events : List (Event O Key Recon Cond)) (c : Command) (o : Outcome) → IsCommand keys c
         → Does speech (record { block = block; seat = seat; alone = alone; command = c }) before events o → AllByRecursion (IsSaid o) events
     said_by block seat alone before events (asked.Insert row key) outcome.Added is does = said_insert outcome.Added seat row key (Put seat row) events is.1 (record { same = refl; named = tt }) does
     said_by block seat alone before events (asked.Insert row key) outcome.RowUsed is does = said_none outcome.RowUsed events does.1
@@ -178,11 +179,11 @@ module _ {O Key Recon Cond : Type 0} where
     said_by block seat alone before events c outcome.Memory is (inr up) = said_up seat events c is up
     said_by block seat alone before events c o is does = absurd does
 
-    said_does : (t : Task) (before : History O Key Recon Cond) (events : List (Event O Key Recon Cond)) (o : Outcome) → IsCommand texts t.command → Does speech t before events o → AllByRecursion (IsSaid o) events
+    said_does : (t : Task) (before : History O Key Recon Cond) (events : List (Event O Key Recon Cond)) (o : Outcome) → IsCommand keys t.command → Does speech t before events o → AllByRecursion (IsSaid o) events
     said_does t before events o is does = said_by t.block t.seat t.alone before events t.command o is does
 
     -- an event that a command owns is as its outcome says
-    said_owned : (journal : List (Event O Key Recon Cond)) (t : Task) (r : Record) (at : ℕ) (e : Event O Key Recon Cond) → IsCommand texts t.command → Did speech journal t r → r.span.from ≤ at → at < r.span.to
+    said_owned : (journal : List (Event O Key Recon Cond)) (t : Task) (r : Record) (at : ℕ) (e : Event O Key Recon Cond) → IsCommand keys t.command → Did speech journal t r → r.span.from ≤ at → at < r.span.to
         → slice_get journal at ≡ Some e → seat_of e ≡ t.seat → IsSaid r.outcome e
     said_owned journal t r at e is did from to there by =
         own_at (IsSaid r.outcome) t.seat (between r.span.from r.span.to journal) (at - r.span.from) e
@@ -193,15 +194,15 @@ module _ {O Key Recon Cond : Type 0} where
     seat_there journal seat at e by there = subst (λ (o : Option (Event O Key Recon Cond)). IsSomeAnd o (λ x. seat_of x ≡ seat)) there by
 
     -- each event of a command is named
-    named_owned : (journal : List (Event O Key Recon Cond)) (tasks : List Task) (records : List Record) (at : ℕ) (e : Event O Key Recon Cond) → AllByRecursion (λ t. IsCommand texts t.command) tasks
-        → AllZip (Did speech journal) tasks records → IsOwned journal at tasks records → slice_get journal at ≡ Some e → IsNamed texts speech e
+    named_owned : (journal : List (Event O Key Recon Cond)) (tasks : List Task) (records : List Record) (at : ℕ) (e : Event O Key Recon Cond) → AllByRecursion (λ t. IsCommand keys t.command) tasks
+        → AllZip (Did speech journal) tasks records → IsOwned journal at tasks records → slice_get journal at ≡ Some e → IsNamed keys speech e
     named_owned journal [] records at e are each owned there = absurd owned
     named_owned journal (t ∷ tasks) [] at e are each owned there = absurd owned
     named_owned journal (t ∷ tasks) (r ∷ records) at e are each (inl owns) there = (said_owned journal t r at e are.0 each.0 owns.from owns.to there (seat_there journal t.seat at e owns.by_seat there)).named
     named_owned journal (t ∷ tasks) (r ∷ records) at e are each (inr later) there = named_owned journal tasks records at e are.1 each.1 later there
 
     -- two events that tell the same, of one command, are one
-    same_owned : (journal journal2 : List (Event O Key Recon Cond)) (tasks : List Task) (records : List Record) (at : ℕ) (e f : Event O Key Recon Cond) → AllByRecursion (λ t. IsCommand texts t.command) tasks
+    same_owned : (journal journal2 : List (Event O Key Recon Cond)) (tasks : List Task) (records : List Record) (at : ℕ) (e f : Event O Key Recon Cond) → AllByRecursion (λ t. IsCommand keys t.command) tasks
         → AllZip (Did speech journal) tasks records → AllZip (Did speech journal2) tasks records → IsOwned journal at tasks records → slice_get journal at ≡ Some e → slice_get journal2 at ≡ Some f → told e ≡ told f → e ≡ f
     same_owned journal journal2 [] records at e f are each each2 owned there there2 same = absurd owned
     same_owned journal journal2 (t ∷ tasks) [] at e f are each each2 owned there there2 same = absurd owned
@@ -215,16 +216,16 @@ module _ {O Key Recon Cond : Type 0} where
 
     -- ---- two runs
 
-    module _ (law : SpeaksAsPrinted speech) (loaded : List (Entry Key)) (tasks : List Task) (named : AllByRecursion (IsNamedEntry texts speech) loaded) (are : AllByRecursion (λ t. IsCommand texts t.command) tasks) where
+    module _ (law : SpeaksAsPrinted speech) (loaded : List (Entry Key)) (tasks : List Task) (named : AllByRecursion (IsNamedEntry keys speech) loaded) (are : AllByRecursion (λ t. IsCommand keys t.command) tasks) where
       loaded_at : (journal : List (Event O Key Recon Cond)) (records : List Record) → RunOf speech loaded tasks journal records → (at : ℕ) → at < 2 * length loaded → slice_get journal at ≡ slice_get (load_events loaded) at
       loaded_at journal records run at below = ap (λ l. slice_get l at) run.begins.1 ∙ get-left (load_events loaded) run.begins.0 at (omega (arith, load_long O Key Recon Cond loaded))
 
-      named_at : (journal : List (Event O Key Recon Cond)) (records : List Record) → RunOf speech loaded tasks journal records → (at : ℕ) (e : Event O Key Recon Cond) → slice_get journal at ≡ Some e → (at < 2 * length loaded) ⊎ (2 * length loaded ≤ at) → at < length journal → IsNamed texts speech e
-      named_at journal records run at e there (inl below) within = at_each (IsNamed texts speech) (load_events loaded) at e (load_named O Key Recon Cond texts speech loaded named) (sym (loaded_at journal records run at below) ∙ there)
+      named_at : (journal : List (Event O Key Recon Cond)) (records : List Record) → RunOf speech loaded tasks journal records → (at : ℕ) (e : Event O Key Recon Cond) → slice_get journal at ≡ Some e → (at < 2 * length loaded) ⊎ (2 * length loaded ≤ at) → at < length journal → IsNamed keys speech e
+      named_at journal records run at e there (inl below) within = at_each (IsNamed keys speech) (load_events loaded) at e (load_named O Key Recon Cond keys speech loaded named) (sym (loaded_at journal records run at below) ∙ there)
       named_at journal records run at e there (inr above) within = named_owned journal tasks records at e are run.each (run.covered at above within) there
 
-      printed : (journal : List (Event O Key Recon Cond)) (records : List Record) → RunFits journal records → RunOf speech loaded tasks journal records → AllByRecursion (CanBePrinted texts speech) journal
-      printed journal records fits run = each_at (CanBePrinted texts speech) journal (λ at e there.
+      printed : (journal : List (Event O Key Recon Cond)) (records : List Record) → RunFits journal records → RunOf speech loaded tasks journal records → AllByRecursion (CanBePrinted keys speech) journal
+      printed journal records fits run = each_at (CanBePrinted keys speech) journal (λ at e there.
           let types = at_each FitsTypes journal at e fits.events there in
           record { seat = types.seat; fits = types.fits; named = named_at journal records run at e there (cases_lt at (2 * length loaded)) (slice_get_within journal at e there) })
 
@@ -239,7 +240,7 @@ module _ {O Key Recon Cond : Type 0} where
           → text speech journal records ≡ text speech journal2 records2 → (journal ≡ journal2) × (records ≡ records2)
       says_all journal journal2 records records2 fits fits2 run run2 same =
           let many : length records ≡ length records2 = sym (as_long (Did speech journal) tasks records run.each) ∙ as_long (Did speech journal2) tasks records2 run2.each in
-          let tells = text_tells texts speech law journal journal2 records records2 many fits.few fits.short fits2.short fits.records_fit fits2.records_fit (printed journal records fits run) (printed journal2 records2 fits2 run2) same in
+          let tells = text_tells keys speech law journal journal2 records records2 many fits.few fits.short fits2.short fits.records_fit fits2.records_fit (printed journal records fits run) (printed journal2 records2 fits2 run2) same in
           let run3 : RunOf speech loaded tasks journal2 records = subst (λ (rs : List Record). RunOf speech loaded tasks journal2 rs) (sym tells.0) run2 in (
             same_at journal journal2 (map_long told journal journal2 tells.1) (λ at e f there there2.
                 same_event journal journal2 records run run3 at e f there there2 (map_at told journal journal2 tells.1 at e f there there2) (slice_get_within journal at e there) (cases_lt at (2 * length loaded))),
@@ -247,7 +248,7 @@ module _ {O Key Recon Cond : Type 0} where
           )
 
 pub exact : (O Key Recon Cond : Type 0) → TextSaysAll O Key Recon Cond
-exact O Key Recon Cond texts speech law loaded tasks named are = says_all texts speech law loaded tasks named are
+exact O Key Recon Cond keys speech law loaded tasks named are = says_all keys speech law loaded tasks named are
 
 -- ---- the commands of a script
 
@@ -255,20 +256,20 @@ tasks_append : (P : Task → Type 0) (xs ys : List Task) → AllByRecursion P xs
 tasks_append P [] ys each more = more
 tasks_append P (x ∷ xs) ys each more = (each.0, tasks_append P xs ys each.1 more)
 
-lane_commands : (texts : Bool) (block seat : ℕ) (alone : Bool) (lane : List Command) → AllByRecursion (IsCommand texts) lane → AllByRecursion (λ t. IsCommand texts t.command) (lane_tasks block seat alone lane)
-lane_commands texts block seat alone [] each = tt
-lane_commands texts block seat alone (c ∷ lane) each = (each.0, lane_commands texts block seat alone lane each.1)
+lane_commands : (keys : KeyForm) (block seat : ℕ) (alone : Bool) (lane : List Command) → AllByRecursion (IsCommand keys) lane → AllByRecursion (λ t. IsCommand keys t.command) (lane_tasks block seat alone lane)
+lane_commands keys block seat alone [] each = tt
+lane_commands keys block seat alone (c ∷ lane) each = (each.0, lane_commands keys block seat alone lane each.1)
 
-lanes_commands : (texts : Bool) (block seat : ℕ) (alone : Bool) (lanes : List (List Command)) → AllByRecursion (AllByRecursion (IsCommand texts)) lanes → AllByRecursion (λ t. IsCommand texts t.command) (lanes_tasks block seat alone lanes)
-lanes_commands texts block seat alone [] each = tt
-lanes_commands texts block seat alone (lane ∷ lanes) each =
-    tasks_append (λ t. IsCommand texts t.command) (lane_tasks block seat alone lane) (lanes_tasks block (seat + 1) alone lanes) (lane_commands texts block seat alone lane each.0) (lanes_commands texts block (seat + 1) alone lanes each.1)
+lanes_commands : (keys : KeyForm) (block seat : ℕ) (alone : Bool) (lanes : List (List Command)) → AllByRecursion (AllByRecursion (IsCommand keys)) lanes → AllByRecursion (λ t. IsCommand keys t.command) (lanes_tasks block seat alone lanes)
+lanes_commands keys block seat alone [] each = tt
+lanes_commands keys block seat alone (lane ∷ lanes) each =
+    tasks_append (λ t. IsCommand keys t.command) (lane_tasks block seat alone lane) (lanes_tasks block (seat + 1) alone lanes) (lane_commands keys block seat alone lane each.0) (lanes_commands keys block (seat + 1) alone lanes each.1)
 
-parts_commands : (texts : Bool) (block : ℕ) (parts : List Part) → AreCommands texts parts → AllByRecursion (λ t. IsCommand texts t.command) (parts_tasks block parts)
-parts_commands texts block [] each = tt
-parts_commands texts block (p ∷ parts) each =
-    tasks_append (λ t. IsCommand texts t.command) (lanes_tasks block 0 (not p.together) p.lanes) (parts_tasks (block + 1) parts) (lanes_commands texts block 0 (not p.together) p.lanes each.0) (parts_commands texts (block + 1) parts each.1)
+parts_commands : (keys : KeyForm) (block : ℕ) (parts : List Part) → AreCommands keys parts → AllByRecursion (λ t. IsCommand keys t.command) (parts_tasks block parts)
+parts_commands keys block [] each = tt
+parts_commands keys block (p ∷ parts) each =
+    tasks_append (λ t. IsCommand keys t.command) (lanes_tasks block 0 (not p.together) p.lanes) (parts_tasks (block + 1) parts) (lanes_commands keys block 0 (not p.together) p.lanes each.0) (parts_commands keys (block + 1) parts each.1)
 
 pub script_exact : (O Key Recon Cond : Type 0) → ScriptSaysAll O Key Recon Cond
 script_exact O Key Recon Cond speech law bytes script are is loaded named =
-    says_all (has_texts script.class) speech law loaded (tasks_of script) named (parts_commands (has_texts script.class) 0 script.parts (script_tidy bytes script are is).commands)
+    says_all (keys_of script.class) speech law loaded (tasks_of script) named (parts_commands (keys_of script.class) 0 script.parts (script_tidy bytes script are is).commands)

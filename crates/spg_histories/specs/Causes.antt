@@ -11,7 +11,7 @@ use Rattle.spg_rows.specs.History.{History, vacuuming, open_of}
 use Rattle.spg_rows.specs.Legal.{IsLegal}
 use Rattle.spg_rows.specs.Rows.{is_claimed, is_live}
 use Rattle.spg_seats.specs.Drops.{was_full, was_clock}
-use Rattle.spg_core.specs.Weight.{opened_keys}
+use Rattle.spg_seats.specs.Slots.{opened_keys}
 use Rattle.spg_script.specs.declared.any_key.AnyKey.{AnyKey}
 use Rattle.spg_script.specs.declared.command.Command.{Command}
 use Rattle.spg_script.specs.Speech.{Speech}

@@ -13,7 +13,6 @@ use Rattle.spg_forest.specs.Walk.{below, met_at}
 use Rattle.spg_rows.specs.History.{History}
 use Rattle.spg_rows.specs.Lives.{Life, HasLife}
 use Rattle.spg_rows.specs.Right.{IsPutBefore, HasLived}
-use Rattle.spg_scan.specs.Scanning.{counted}
 use Rattle.spg_near.specs.declared.near_row.NearRow.{NearRow}
 use Rattle.spg_near.specs.Boxes.{distance}
 use Rattle.spg_near.specs.Nearing.{near_cmp, IsBefore}
@@ -73,9 +72,9 @@ pub data MetWithin {Key Recon Cond : Type 0} (m : Meaning Key Recon Cond) (speec
 abbrev pub WalkWithin : {Key Recon Cond : Type 0} → Meaning Key Recon Cond → Speech Key Cond → Sheets → Point → Option ℕ → ℕ → Type 0
 WalkWithin m speech S p last n = MetWithin m speech S p last (record { place = place 1 0; recon = m.start; may = m.is_key } ∷ []) n
 
--- what such a search printed as its walk, counted in 64 bits, is the number of tuples within the last distance of its rows
+-- what such a search printed as its walk is the number of tuples within the last distance of its rows
 abbrev pub WalksNear : {Key Recon Cond : Type 0} → Meaning Key Recon Cond → Speech Key Cond → Sheets → Point → ℕ → List NearRow → ℕ → Type 0
-WalksNear m speech S p limit rows walk = (last : Option ℕ) → IsReach limit rows last → (n : ℕ) × WalkWithin m speech S p last n × (walk ≡ counted n)
+WalksNear m speech S p limit rows walk = (last : Option ℕ) → IsReach limit rows last → WalkWithin m speech S p last walk
 
 abbrev pub TellsNear : {Key Recon Cond : Type 0} → Meaning Key Recon Cond → Speech Key Cond → Sheets → List NearRow → ℕ → Command → Type 0
 TellsNear m speech S rows walk (asked.Near target limit) = WalksNear m speech S target limit rows walk

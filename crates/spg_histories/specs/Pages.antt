@@ -9,8 +9,7 @@ use Rattle.spg_forest.specs.Walk.{Walk, is_live}
 use Rattle.spg_rows.specs.declared.event.Event.{Event}
 use Rattle.spg_rows.specs.Present.{IsPresentWith}
 use Rattle.spg_rows.specs.Rows.{present_count}
-use Rattle.spg_scan.specs.Scanning.{counted}
-use Rattle.spg_core.specs.Counts.{count_in, is_inner, is_redirect, is_dead}
+use Rattle.spg_tree.specs.Counts.{count_in, is_inner, is_redirect, is_dead}
 use Rattle.spg_script.specs.declared.command.Command.{Command}
 use Rattle.spg_script.specs.declared.command.Command.TheVariants as asked
 use Rattle.spg_script.specs.Speech.{Speech, query_in}
@@ -26,9 +25,9 @@ pub record IsCount (S : Sheets) (stat : Stat) : Type 0 where
   pub placeholder : stat.placeholder ≡ count_in gap S.sheets
   pub clock : stat.clock ≡ S.clock
 
--- a walk of a find's query over the pages meets so many tuples, as counted in 64 bits
+-- a walk of a find's query over the pages meets so many tuples
 abbrev pub TellsWalk : {Key Recon Cond : Type 0} → (O : Type 0) → Meaning Key Recon Cond → Speech Key Cond → Sheets → Option ℕ → Command → Type 0
-TellsWalk {Key} {Recon} {Cond} O m speech S walk (asked.Find query) = (q : Query O Key Recon Cond) × (k : ℕ) × (query_in speech query ≡ Some q) × Walk m S q k × (walk ≡ Some (counted k))
+TellsWalk {Key} {Recon} {Cond} O m speech S walk (asked.Find query) = (q : Query O Key Recon Cond) × (k : ℕ) × (query_in speech query ≡ Some q) × Walk m S q k × (walk ≡ Some k)
 TellsWalk O m speech S walk c = ⊤
 
 -- the pages are well formed and hold just the rows that are present at the position, each with its key

@@ -1,40 +1,59 @@
--- What verifying an image of one class tells of any.
-use Rattle.std.proofs.Common.{◌≡◌, ◌≢◌, ℕ, List, Option, Some, Result, Ok, Err, MatchResult, refl, sym, ap, ◌∙◌, subst, inl, inr, arith}
+-- What is said of each of the classes whose images are known.
+use Rattle.std.proofs.Common.{◌≡◌, ℕ, ◌==◌, if◌then◌else◌, Option, Some, refl, sym, ap, ◌∙◌}
+use Rattle.spg_opclass.specs.Meaning.{Meaning}
+use Rattle.spg_opclass.specs.Included.{with_meaning}
 use Rattle.spg_quad.specs.Quad.{quad_meaning}
 use Rattle.spg_kd.specs.Kd.{kd_meaning}
 use Rattle.spg_radix.specs.Radix.{radix_meaning}
-use Rattle.spg_verify.specs.declared.refused.ImageRefused.{ImageRefused}
-use Rattle.spg_verify.specs.declared.reading.Verified.{Verified}
-use Rattle.spg_verify.specs.Refusals.{IfBad}
-use Rattle.spg_verify.specs.Meta.{code_in}
-use Rattle.spg_verify.specs.Verdict.{page_at, IsTopOf, FailsFirst, IsVerified}
-use Rattle.spg_verify.proofs.Coming.{bad_weaker}
-use Rattle.spg_image.specs.Verifying.{IsSome, IsImageOf, FailsAny, IsBadImage}
+use Rattle.spg_range.specs.Class.{range_meaning}
+use Rattle.spg_image.specs.declared.class.ImageClass.{ImageClass}
+use Rattle.spg_image.specs.declared.class.ImageClass.TheVariants as class
+use Rattle.spg_image.specs.Classes.{code_of, ClassWord, OfClass}
 
-module _ (held : Option (List ℕ)) (len : ℕ) (page bytes : List ℕ) (T : IsTopOf held len page bytes) (r : Result Verified ImageRefused) where
-  code : (n : ℕ) → code_in page ≡ n → code_in (page_at bytes 0) ≡ n
-  code n e = sym (ap code_in T.first) ∙ e
+-- what follows for each class follows for one
+pub of_both : (P Q R : ClassWord) → ((Key Recon Cond : Type 0) (m : Meaning Key Recon Cond) (code : ℕ) → P Key Recon Cond m code → Q Key Recon Cond m code → R Key Recon Cond m code) → (c : ImageClass) → OfClass P c → OfClass Q c → OfClass R c
+of_both P Q R f class.Quad p q = f _ _ _ quad_meaning 1 p q
+of_both P Q R f class.Kd p q = f _ _ _ kd_meaning 2 p q
+of_both P Q R f class.Radix p q = f _ _ _ radix_meaning 3 p q
+of_both P Q R f class.Range p q = f _ _ _ range_meaning 4 p q
+of_both P Q R f class.QuadValue p q = f _ _ _ (with_meaning quad_meaning) 17 p q
+of_both P Q R f class.KdValue p q = f _ _ _ (with_meaning kd_meaning) 18 p q
+of_both P Q R f class.RadixValue p q = f _ _ _ (with_meaning radix_meaning) 19 p q
 
-  pub of_quad : code_in page ≡ 1 → MatchResult r (λ v. IsVerified quad_meaning (λ c. c ≡ 1) held v) (λ e. IfBad e (λ f. FailsFirst quad_meaning (λ c. c ≡ 1) 4 held f)) → MatchResult r (λ v. IsImageOf held v) (λ e. IfBad e (λ f. IsBadImage held f))
-  of_quad e h = by r h
-    where
-      by : (r : Result Verified ImageRefused) → MatchResult r (λ v. IsVerified quad_meaning (λ c. c ≡ 1) held v) (λ e. IfBad e (λ f. FailsFirst quad_meaning (λ c. c ≡ 1) 4 held f)) → MatchResult r (λ v. IsImageOf held v) (λ e. IfBad e (λ f. IsBadImage held f))
-      by (Ok v) h = (bytes, T.is, record { quad = λ q. h; kd = λ q. let k = code 1 e in absurd (omega arith); radix = λ q. let k = code 1 e in absurd (omega arith); class = inl (code 1 e) })
-      by (Err x) h = bad_weaker x (λ f. FailsFirst quad_meaning (λ c. c ≡ 1) 4 held f) (λ f. IsBadImage held f)
-          (λ f k. inr (bytes, T.is, T.top, record { quad = λ q. k; kd = λ q. let k = code 1 e in absurd (omega arith); radix = λ q. let k = code 1 e in absurd (omega arith); other = λ a b c. absurd (a (code 1 e)) })) h
+-- what is said of no class in particular
+pub of_any : (R : Type 0) (c : ImageClass) → OfClass (λ Key Recon Cond m code. R) c → R
+of_any R class.Quad r = r
+of_any R class.Kd r = r
+of_any R class.Radix r = r
+of_any R class.Range r = r
+of_any R class.QuadValue r = r
+of_any R class.KdValue r = r
+of_any R class.RadixValue r = r
 
-  pub of_kd : code_in page ≡ 2 → MatchResult r (λ v. IsVerified kd_meaning (λ c. c ≡ 2) held v) (λ e. IfBad e (λ f. FailsFirst kd_meaning (λ c. c ≡ 2) 4 held f)) → MatchResult r (λ v. IsImageOf held v) (λ e. IfBad e (λ f. IsBadImage held f))
-  of_kd e h = by r h
-    where
-      by : (r : Result Verified ImageRefused) → MatchResult r (λ v. IsVerified kd_meaning (λ c. c ≡ 2) held v) (λ e. IfBad e (λ f. FailsFirst kd_meaning (λ c. c ≡ 2) 4 held f)) → MatchResult r (λ v. IsImageOf held v) (λ e. IfBad e (λ f. IsBadImage held f))
-      by (Ok v) h = (bytes, T.is, record { quad = λ q. let k = code 2 e in absurd (omega arith); kd = λ q. h; radix = λ q. let k = code 2 e in absurd (omega arith); class = inr (inl (code 2 e)) })
-      by (Err x) h = bad_weaker x (λ f. FailsFirst kd_meaning (λ c. c ≡ 2) 4 held f) (λ f. IsBadImage held f)
-          (λ f k. inr (bytes, T.is, T.top, record { quad = λ q. let k = code 2 e in absurd (omega arith); kd = λ q. k; radix = λ q. let k = code 2 e in absurd (omega arith); other = λ a b c. absurd (b (code 2 e)) })) h
+-- the code is the one that the class has
+pub of_code : (P : ClassWord) (c : ImageClass) → OfClass P c → OfClass (λ Key Recon Cond m code. P Key Recon Cond m code × (code ≡ code_of c)) c
+of_code P class.Quad p = (p, refl)
+of_code P class.Kd p = (p, refl)
+of_code P class.Radix p = (p, refl)
+of_code P class.Range p = (p, refl)
+of_code P class.QuadValue p = (p, refl)
+of_code P class.KdValue p = (p, refl)
+of_code P class.RadixValue p = (p, refl)
 
-  pub of_radix : code_in page ≡ 3 → MatchResult r (λ v. IsVerified radix_meaning (λ c. c ≡ 3) held v) (λ e. IfBad e (λ f. FailsFirst radix_meaning (λ c. c ≡ 3) 4 held f)) → MatchResult r (λ v. IsImageOf held v) (λ e. IfBad e (λ f. IsBadImage held f))
-  of_radix e h = by r h
-    where
-      by : (r : Result Verified ImageRefused) → MatchResult r (λ v. IsVerified radix_meaning (λ c. c ≡ 3) held v) (λ e. IfBad e (λ f. FailsFirst radix_meaning (λ c. c ≡ 3) 4 held f)) → MatchResult r (λ v. IsImageOf held v) (λ e. IfBad e (λ f. IsBadImage held f))
-      by (Ok v) h = (bytes, T.is, record { quad = λ q. let k = code 3 e in absurd (omega arith); kd = λ q. let k = code 3 e in absurd (omega arith); radix = λ q. h; class = inr (inr (code 3 e)) })
-      by (Err x) h = bad_weaker x (λ f. FailsFirst radix_meaning (λ c. c ≡ 3) 4 held f) (λ f. IsBadImage held f)
-          (λ f k. inr (bytes, T.is, T.top, record { quad = λ q. let k = code 3 e in absurd (omega arith); kd = λ q. let k = code 3 e in absurd (omega arith); radix = λ q. k; other = λ a b c. absurd (c (code 3 e)) })) h
+-- no two classes have one code
+pub one_class : (c d : ImageClass) → code_of c ≡ code_of d → c ≡ d
+one_class c d e =
+    let q : Some c ≡ Some d = sym (back c) ∙ ap named e ∙ back d in
+    let s : c ≡ d = cc in s
+  where
+    named : ℕ → Option ImageClass
+    named n = Some (if n == 1 then class.Quad else (if n == 2 then class.Kd else (if n == 3 then class.Radix else (if n == 4 then class.Range else (if n == 17 then class.QuadValue else (if n == 18 then class.KdValue else class.RadixValue))))))
+
+    back : (c : ImageClass) → named (code_of c) ≡ Some c
+    back class.Quad = refl
+    back class.Kd = refl
+    back class.Radix = refl
+    back class.Range = refl
+    back class.QuadValue = refl
+    back class.KdValue = refl
+    back class.RadixValue = refl

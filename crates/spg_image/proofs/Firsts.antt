@@ -12,7 +12,10 @@ use Rattle.spg_tree.specs.declared.meta.Meta.{Meta}
 use Rattle.spg_tree.specs.Marks.{meta_of}
 use Rattle.spg_tree.specs.Table.{Table, sheet_at, IsSound, AreRemembered}
 use Rattle.spg_io.specs.Held.{HasPageMore, HasFrontMore, page_size}
-use Rattle.spg_image.specs.Page.{page_at, IsPageAt, sheet_in}
+use Rattle.spg_page.specs.Came.{sheet_in}
+use Rattle.spg_verify.specs.Versions.{version_of}
+use Rattle.spg_verify.specs.Verdict.{page_at}
+use Rattle.spg_image.specs.Page.{IsPageAt}
 use Rattle.spg_image.specs.Meta.{IsMeta, Said, said_in}
 use Rattle.spg_image.specs.Image.{Image, IsImage, Reads, image_of, meta_in}
 use Rattle.spg_image.specs.Saving.{AreFirst, IsBlockOf, HoldsPages, HoldsFirstAndFront, said_of}
@@ -83,7 +86,7 @@ module _ (class : ℕ) (t : Table) (bytes : List ℕ) (sound : IsSound t) (main 
   count_is : (meta_in bytes).count ≡ length t.pages
   count_is = said_count bytes (image_of class t) said ∙ count
 
-  block : (b : ℕ) → suc b < length t.pages → IsPageAt (suc b) (page_at bytes (suc b)) × (sheet_in (page_at bytes (suc b)) ≡ sheet_at t (suc b))
+  block : (b : ℕ) → suc b < length t.pages → IsPageAt (version_of class) (suc b) (page_at bytes (suc b)) × (sheet_in (page_at bytes (suc b)) ≡ sheet_at t (suc b))
   block b h = (let x = all.each (suc b) h in (x.0, x.1 ∙ tail_at t b))
 
   pages_is : map (λ b. sheet_in (page_at bytes b)) (range_with_len 1 ((meta_in bytes).count - 1)) ≡ drop 1 t.pages
@@ -96,12 +99,13 @@ module _ (class : ℕ) (t : Table) (bytes : List ℕ) (sound : IsSound t) (main 
       let in_table : suc k < length t.pages = omega (arith, sound.roots) in
       get_or-map-range_with_len f 1 n k (suc k) d l (omega arith) ∙ (block k in_table).1 ∙ sym (tail_at t k) ∙ get_or_default (drop 1 t.pages) k (blank false) d (omega (arith, length-drop 1 t.pages)))
 
-  pages_at : (b : ℕ) → 0 < b → b < length t.pages → IsPageAt b (page_at bytes b)
+  pages_at : (b : ℕ) → 0 < b → b < length t.pages → IsPageAt (version_of class) b (page_at bytes b)
   pages_at zero a l = absurd (omega arith)
   pages_at (suc b) a l = (block b l).0
 
   is_image : IsImage bytes
   is_image =
+      let named : (meta_in bytes).class ≡ class = ap (λ (s : Said). s.class) said in
       let clock : (meta_in bytes).clock ≡ t.clock = ap (λ (s : Said). s.clock) said in
       let remembered : (meta_in bytes).remembered ≡ t.remembered = ap (λ (s : Said). s.remembered) said in
       let counter : (meta_in bytes).counter ≡ t.counter = ap (λ (s : Said). s.counter) said in
@@ -113,7 +117,7 @@ module _ (class : ℕ) (t : Table) (bytes : List ℕ) (sound : IsSound t) (main 
         clock = subst (λ n. n < 2 ^ 48) (sym clock) sound.clock;
         remembered = subst (λ n. AreRemembered n (meta_in bytes).remembered) (sym count_is) (subst (λ r. AreRemembered (length t.pages) r) (sym remembered) sound.remembered);
         counter = subst (λ n. n < 8) (sym counter) sound.counter;
-        pages = λ b a l. pages_at b a (omega (arith, count_is));
+        pages = λ b a l. subst (λ n. IsPageAt (version_of n) b (page_at bytes b)) (sym named) (pages_at b a (omega (arith, count_is)));
         main = ap (λ (s : Sheet). s.nulls) (block 0 (omega (arith, sound.roots))).1 ∙ main;
         nulls = ap (λ (s : Sheet). s.nulls) (block 1 (omega (arith, sound.roots))).1 ∙ nulls;
       }
@@ -137,7 +141,7 @@ meta_block class t page n numbers three e m is says =
     let count_is : n ≡ length (image_of class t).pages = omega (arith, length-drop 1 t.pages) in
     (is, says ∙ same_said refl count_is (ap (λ (x : Meta). x.clock) m) (ap (λ (x : Meta). x.remembered) m) (ap (λ (x : Meta). x.counter) m))
 
-pub page_block : (class : ℕ) (t : Table) (b : ℕ) (page : List ℕ) → 0 < b → IsPageAt b page → sheet_in page ≡ sheet_at t b → IsBlockOf (image_of class t) b page
+pub page_block : (class : ℕ) (t : Table) (b : ℕ) (page : List ℕ) → 0 < b → IsPageAt (version_of class) b page → sheet_in page ≡ sheet_at t b → IsBlockOf (image_of class t) b page
 page_block class t zero page h is shows = absurd (omega arith)
 page_block class t (suc b) page h is shows = (is, shows ∙ sym (tail_at t b))
 

@@ -1,8 +1,8 @@
-mod Fours
 mod Pages
 mod Metas
 mod Firsts
 mod Changing
+mod Matching
 mod Steps
 pub mod MetaOut
 pub mod Classes

@@ -4,7 +4,10 @@ use Rattle.std.specs.List.{range_with_len}
 use Rattle.spg_forest.specs.Sheets.{Sheet, Sheets, blank}
 use Rattle.spg_tree.specs.Table.{Table, AreRemembered}
 use Rattle.spg_io.specs.Held.{page_size}
-use Rattle.spg_image.specs.Page.{page_at, IsPageAt, sheet_in}
+use Rattle.spg_page.specs.Came.{sheet_in}
+use Rattle.spg_verify.specs.Versions.{version_of}
+use Rattle.spg_verify.specs.Verdict.{page_at}
+use Rattle.spg_image.specs.Page.{IsPageAt}
 use Rattle.spg_image.specs.Meta.{IsMeta, Said, said_in}
 
 -- what an image tells: the code of its class; its clock; its pages, where block 0, the meta page, stands as an empty leaf
@@ -28,8 +31,8 @@ image_of class t = record { class = class; clock = t.clock; pages = blank false 
 abbrev pub meta_in : List ℕ → Said
 meta_in bytes = said_in (page_at bytes 0)
 
--- The bytes are pages, from block 0 on, as many as the meta page says: the meta page, whose numbers are in their ranges,
--- and pages of tuples, the root of the main tree and that of the nulls tree first
+-- The bytes are pages of the version of the class, from block 0 on, as many as the meta page says: the meta page, whose
+-- numbers are in their ranges, and pages of tuples, the root of the main tree and that of the nulls tree first
 pub record IsImage (bytes : List ℕ) : Type 0 where
   pub meta : IsMeta (page_at bytes 0)
   pub from : 3 ≤ (meta_in bytes).count
@@ -38,7 +41,7 @@ pub record IsImage (bytes : List ℕ) : Type 0 where
   pub clock : (meta_in bytes).clock < 2 ^ 48
   pub remembered : AreRemembered (meta_in bytes).count (meta_in bytes).remembered
   pub counter : (meta_in bytes).counter < 8
-  pub pages : (b : ℕ) → 0 < b → b < (meta_in bytes).count → IsPageAt b (page_at bytes b)
+  pub pages : (b : ℕ) → 0 < b → b < (meta_in bytes).count → IsPageAt (version_of (meta_in bytes).class) b (page_at bytes b)
   pub main : (sheet_in (page_at bytes 1)).nulls ≡ false
   pub nulls : (sheet_in (page_at bytes 2)).nulls ≡ true
 

@@ -1,4 +1,4 @@
-pub mod Numbers
+pub mod Classes
 pub mod Page
 pub mod Meta
 pub mod Image

@@ -1,11 +1,14 @@
 -- What saving leaves under a name.
-use Rattle.std.specs.Prelude.{◌≡◌, ℕ, zero, suc, ◌*◌, ◌<◌, ◌≤◌, ◌⊎◌, false, List, ◌++◌, length, take, get_or, Option, Some, Result, Ok, Err, IsErrOf}
+use Rattle.std.specs.Prelude.{◌≡◌, ℕ, zero, suc, ◌*◌, ◌<◌, ◌≤◌, ◌⊎◌, false, List, ◌++◌, length, take, get_or, Option, Some, Result, Ok, Err, OnOk, IsErrOf}
 use Rattle.spg_forest.specs.Sheets.{blank}
 use Rattle.spg_io.specs.Causes.{Rose}
 use Rattle.spg_io.specs.Held.{Holding, Stays, Changes, page_size}
 use Rattle.spg_image.specs.declared.refused.SaveRefused.{SaveRefused}
 use Rattle.spg_image.specs.declared.refused.SaveRefused.TheVariants.{ImageFault, Memory}
-use Rattle.spg_image.specs.Page.{page_at, IsPageAt, sheet_in}
+use Rattle.spg_page.specs.Came.{sheet_in}
+use Rattle.spg_verify.specs.Versions.{version_of}
+use Rattle.spg_verify.specs.Verdict.{page_at}
+use Rattle.spg_image.specs.Page.{IsPageAt}
 use Rattle.spg_image.specs.Meta.{IsMeta, Said, said_in}
 use Rattle.spg_image.specs.Image.{Image, Reads}
 
@@ -16,7 +19,7 @@ said_of i = record { class = i.class; count = length i.pages; clock = i.clock; r
 -- the bytes are the page of the image at a block
 abbrev pub IsBlockOf : Image → ℕ → List ℕ → Type 0
 IsBlockOf i zero page = IsMeta page × (said_in page ≡ said_of i)
-IsBlockOf i (suc b) page = IsPageAt (suc b) page × (sheet_in page ≡ get_or i.pages (suc b) (blank false))
+IsBlockOf i (suc b) page = IsPageAt (version_of i.class) (suc b) page × (sheet_in page ≡ get_or i.pages (suc b) (blank false))
 
 -- the bytes are the first k pages of the image
 pub record AreFirst (i : Image) (k : ℕ) (bytes : List ℕ) : Type 0 where
@@ -45,7 +48,9 @@ Saves i old now name (Ok pages) = (pages ≡ length i.pages) × Changes old now 
 Saves i old now name (Err ImageFault) = Stays old now ⊎ Changes old now name (λ _ held. HoldsFirstAndFront i held)
 Saves i old now name (Err Memory) = Stays old now ⊎ Changes old now name (λ _ held. HoldsFirst i held)
 
--- the count of faults never falls, and it rises in a call that answers `ImageFault`
+-- the count of faults rises in a call that answers `ImageFault`, and stays in every other
 pub record HasCauseIfFault (before now : ℕ) (result : Result ℕ SaveRefused) : Type 0 where
   pub later : before ≤ now
   pub fault : IsErrOf result ImageFault → Rose before now
+  pub answered : OnOk result (now ≡ before)
+  pub memory : IsErrOf result Memory → now ≡ before

@@ -1,10 +1,13 @@
 ghost use Rattle.std.specs.Prelude.{◌≡◌, ◌<◌, ◌≤◌, ℕ, slice_index};
-ghost use Rattle.spg_image.specs.Page.{IsPageAt, sheet_in};
-ghost use Rattle.spg_image.specs.Meta.{IsMeta, head_bytes, said_in};
+ghost use Rattle.spg_page.specs.Came.{sheet_in};
+ghost use Rattle.spg_verify.specs.Meta.{HasHeadOf};
+ghost use Rattle.spg_image.specs.Page.{IsPageAt};
+ghost use Rattle.spg_image.specs.Meta.{IsMeta, said_in};
 
-use crate::numbers::{put_eight, put_four, put_one, put_remembered};
-use spg_page::Page;
+use crate::numbers::{put_eight, put_four, put_one, put_remembered, put_two};
+use spg_page::{Page, put_mark};
 use spg_tree::Meta;
+use spg_verify::version_of;
 
 /// Where a page has its own block number.
 const BLOCK_AT: usize = 8;
@@ -21,18 +24,25 @@ const CLOCK_AT: usize = 32;
 /// Where it has the rotating counter.
 const COUNTER_AT: usize = 72;
 
-/// The letters SPGX, version 1, kind 1, the main tree, block 0, no items, and 8,184 as the end of free
-/// space.
-const HEAD: [u8; 16] = [83, 80, 71, 88, 1, 0, 1, 0, 0, 0, 0, 0, 0, 0, 248, 31];
+/// The kind of a meta page, and where a page has its kind.
+const META: u8 = 1;
 
-/// Writes the header of a meta page.
-fn put_head(page: &mut [u8; 8192])
-    ensures head { (k : ℕ) → k < 16 → slice_index page.new k ≡ slice_index head_bytes k }
-    ensures above { (k : ℕ) → 16 ≤ k → slice_index page.new k ≡ slice_index page.old k }
+const KIND_AT: usize = 6;
+
+/// Where a page says where its items begin, and what a page without items says there.
+const UPPER_AT: usize = 14;
+
+const UPPER_END: u16 = 8184;
+
+/// Writes the header of a meta page into zero bytes.
+fn put_head(page: &mut [u8; 8192], version: u16)
+    requires { (k : ℕ) → slice_index page.old k ≡ 0 }
+    ensures head { HasHeadOf version page.new }
+    ensures above { (k : ℕ) → 16 ≤ k → slice_index page.new k ≡ 0 }
 {
-    for at in 0..HEAD.len() {
-        page[at] = HEAD[at];
-    }
+    put_mark(page, version);
+    put_one(page, KIND_AT, META);
+    put_two(page, UPPER_AT, UPPER_END);
 }
 
 /// The bytes of the meta page.
@@ -41,7 +51,7 @@ pub(crate) fn meta_page(class: u8, count: u32, meta: &Meta) -> [u8; 8192]
     ensures says { said_in result ≡ record { class = class; count = count; clock = meta.now.clock; remembered = meta.now.remembered; counter = meta.now.counter } }
 {
     let mut page = [0; 8192];
-    put_head(&mut page);
+    put_head(&mut page, version_of(class));
     put_one(&mut page, CLASS_AT, class);
     put_four(&mut page, COUNT_AT, count);
     put_eight(&mut page, CLOCK_AT, meta.clock.moment());
@@ -50,12 +60,13 @@ pub(crate) fn meta_page(class: u8, count: u32, meta: &Meta) -> [u8; 8192]
     page
 }
 
-/// The bytes of a page of tuples, with its block number.
-pub(crate) fn page_bytes(page: &Page, block: u32) -> [u8; 8192]
-    ensures is { IsPageAt block result }
+/// The bytes of a page of tuples of an image of this version, with its block number.
+pub(crate) fn page_bytes(page: &Page, block: u32, version: u16) -> [u8; 8192]
+    ensures is { IsPageAt version block result }
     ensures shows { sheet_in result ≡ page.now }
 {
     let mut bytes = page.bytes();
+    put_mark(&mut bytes, version);
     put_four(&mut bytes, BLOCK_AT, block);
     bytes
 }

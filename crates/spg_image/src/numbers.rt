@@ -1,6 +1,6 @@
 ghost use Rattle.std.specs.Prelude.{◌≡◌, ◌+◌, ◌*◌, ◌<◌, ◌≤◌, ℕ, length, slice_index};
-ghost use Rattle.spg_page.specs.Numbers.{four_at};
-ghost use Rattle.spg_image.specs.Numbers.{eight_at};
+ghost use Rattle.spg_page.specs.Numbers.{two_at, four_at};
+ghost use Rattle.spg_verify.specs.Meta.{eight_at};
 
 /// Where the meta page has the remembered pages.
 pub(crate) const REMEMBERED_AT: usize = 40;
@@ -13,6 +13,19 @@ pub(crate) fn put_one(page: &mut [u8; 8192], at: usize, byte: u8)
     ensures above { (k : ℕ) → at + 1 ≤ k → slice_index page.new k ≡ slice_index page.old k }
 {
     page[at] = byte;
+}
+
+/// Writes a number into two bytes.
+#[tactic(auto, unfolding(spg_page::specs::Numbers::two_at))]
+pub(crate) fn put_two(page: &mut [u8; 8192], at: usize, number: u16)
+    requires { at + 2 ≤ 8192 }
+    ensures value { two_at page.new at ≡ number }
+    ensures below { (k : ℕ) → k < at → slice_index page.new k ≡ slice_index page.old k }
+    ensures above { (k : ℕ) → at + 2 ≤ k → slice_index page.new k ≡ slice_index page.old k }
+{
+    let [low, high] = number.to_le_bytes();
+    page[at] = low;
+    page[at + 1] = high;
 }
 
 /// Writes a number into four bytes.

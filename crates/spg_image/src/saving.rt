@@ -12,10 +12,11 @@ use spg_core::State;
 use spg_io::Images;
 use spg_opclass::OpClass;
 use spg_tree::PageTable;
+use spg_verify::version_of;
 
-/// Saves the pages of an index under a name, from block 0 on, in place of what stood there. Gives the page
-/// count. `ImageFault` only where the count of faults rises. After a refusal the name holds what it held, or
-/// the pages that had come; no other name changes.
+/// Saves the pages of an index under a name, from block 0 on, in place of what stood there: an image of the
+/// version of the class. Gives the page count. The count of faults rises where the answer is `ImageFault`, and
+/// else stays. After a refusal the name holds what it held, or the pages that had come; no other name changes.
 pub fn save<O: OpClass, M: Images>(
     state: &State<O>,
     images: &mut M,
@@ -41,10 +42,11 @@ pub fn save_table<M: Images>(
     ensures cause { HasCauseIfFault (M.faults images.old) (M.faults images.new) result }
 {
     let count = table.page_count();
+    let version = version_of(class);
     images.clear(name)?;
     images.put(name, &meta_page(class, count, &table.meta()))?;
     for block in 1..count {
-        images.put(name, &page_bytes(table.page(Block(block)), block))?;
+        images.put(name, &page_bytes(table.page(Block(block)), block, version))?;
     }
     Ok(count)
 }

@@ -44,11 +44,12 @@ pub trait Images {
         ensures answered { OnOk result (faults self.new ≡ faults self.old) }
         ensures gives { len_gives self.old name.now result self.new };
 
-    /// Leaves the name with no bytes. `Failed` comes only where the count of faults rises, and leaves
-    /// what every name holds. After `Memory` the images are as they were.
+    /// Leaves the name with no bytes. The count of faults rises where the answer is `Failed`, and else
+    /// stays. `Failed` leaves what every name holds. After `Memory` the images are as they were.
     fn clear(&mut self, name: &str) -> Result<(), IoRefused>
         ensures bytes { Clears (held self.old) (held self.new) name.now result }
         ensures cause { HasCauseIfFailed (faults self.old) (faults self.new) result }
+        ensures answered { OnOk result (faults self.new ≡ faults self.old) }
         ensures memory { IsErrOf result IoRefused.Memory → self.new ≡ self.old }
         ensures gives { clear_gives self.old name.now result self.new };
 
@@ -62,12 +63,13 @@ pub trait Images {
         ensures answered { OnOk result (faults self.new ≡ faults self.old) }
         ensures gives { get_gives self.old name.now result self.new };
 
-    /// Adds the page after the last byte of the name, which is made where it is not there. `Failed` comes
-    /// only where the count of faults rises; the name then holds its former bytes and a front of the page.
-    /// After `Memory` the images are as they were. No other name is changed.
+    /// Adds the page after the last byte of the name, which is made where it is not there. The count of
+    /// faults rises where the answer is `Failed`, and else stays. After `Failed` the name holds its former
+    /// bytes and a front of the page. After `Memory` the images are as they were. No other name is changed.
     fn put(&mut self, name: &str, page: &[u8; 8192]) -> Result<(), IoRefused>
         ensures bytes { Puts (held self.old) (held self.new) name.now page.now result }
         ensures cause { HasCauseIfFailed (faults self.old) (faults self.new) result }
+        ensures answered { OnOk result (faults self.new ≡ faults self.old) }
         ensures memory { IsErrOf result IoRefused.Memory → self.new ≡ self.old }
         ensures gives { put_gives self.old name.now page.now result self.new };
 }

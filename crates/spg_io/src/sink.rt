@@ -5,12 +5,13 @@ ghost use Rattle.std.specs.Io.KnownBytes.{Keeps, WriteAppends};
 ghost use Rattle.spg_io.specs.Causes.{HasCauseIfFailed};
 ghost use Rattle.spg_io.specs.Calls.{no_calls};
 ghost use Rattle.spg_io.specs.Writes.{PlainWrite, FaultyWrite, OutputWrite};
+ghost use Rattle.spg_io.specs.Outputs.{taken_of, given_of, held_of};
 ghost use Rattle.spg_io.specs.declared.sink.IoRefused.{IoRefused};
 ghost use Rattle.spg_io.specs.declared.sink.IoRefused.TheVariants as refused;
 
 use spg_base::{List, Memory};
 use std::alloc::{AllocError, Global};
-use std::io::Write;
+use std::io::{BufWriter, Write};
 use std::marker::Model;
 
 /// Why a call took nothing. The object is as it was.
@@ -51,12 +52,14 @@ pub trait Sink {
     ghost write_gives: { Self → Items ℕ → Result ℕ IoRefused → Self → Type 0 } = { λ _ _ _ _. ⊤ };
 
     /// Takes the front of the piece, and says how many bytes: at least one where there is one.
-    /// `Failed` comes only where the count of faults rises. After `Memory` the sink is as it was.
+    /// The count of faults rises where the answer is `Failed`, and else stays. After `Memory` the sink
+    /// is as it was.
     fn write(&mut self, piece: &[u8]) -> Result<usize, IoRefused>
         ensures bound { IfOk result (λ n. n ≤ length piece.now) }
         ensures some { IfOk result (λ n. 0 < length piece.now → 0 < n) }
         ensures bytes { WriteAppends (contents self.old) (contents self.new) result piece.now }
         ensures cause { HasCauseIfFailed (faults self.old) (faults self.new) result }
+        ensures answered { OnOk result (faults self.new ≡ faults self.old) }
         ensures memory { IsErrOf result IoRefused.Memory → self.new ≡ self.old }
         ensures gives { write_gives self.old piece.now result self.new };
 }
@@ -175,26 +178,29 @@ impl Sink for FaultySink {
     }
 }
 
-/// A writer of std, as standard output. Each refusal is a fault, and so is a write that takes
-/// nothing of a piece that is not empty. No call answers `Memory`.
+/// A writer of std, as standard output, behind a buffer that holds bytes back. Each refusal is a fault, and
+/// so is a write that takes nothing of a piece that is not empty. No call answers `Memory`.
 #[derive(Drop)]
 pub struct OutputSink<W: Write + Drop> {
-    writer: W,
+    writer: BufWriter<W, Global>,
     faults: u64,
 }
 
 impl<W: Write + Drop> OutputSink<W> {
     /// What the writer takes, with no fault yet.
-    pub fn new(writer: W) -> OutputSink<W>
+    pub fn new(writer: BufWriter<W, Global>) -> OutputSink<W>
         ensures writer { result.writer ≡ writer }
         ensures faults { result.faults ≡ 0 }
     {
         OutputSink { writer, faults: 0 }
     }
 
-    /// Hands on what the writer holds back. Where that fails, it is a fault; no call answers `Memory`.
+    /// Hands on what is held back. After `Ok` the writer below has taken all that the sink took. `Failed`
+    /// is a fault; no call answers `Memory`.
     pub fn finish(&mut self) -> Result<(), IoRefused>
-        ensures bytes { Keeps (W.contents self.old.writer) (W.contents self.new.writer) }
+        ensures bytes { Keeps (taken_of W.contents self.old) (taken_of W.contents self.new) }
+        ensures given { OnOk result (Keeps (taken_of W.contents self.old) (given_of W.contents self.new)) }
+        ensures none_held { OnOk result (held_of self.new ≡ []) }
         ensures cause { HasCauseIfFailed self.old.faults self.new.faults result }
         ensures memory { IsErrOf result IoRefused.Memory → ⊥ }
         ensures ok { OnOk result (self.new.faults ≡ self.old.faults) }
@@ -208,7 +214,7 @@ impl<W: Write + Drop> OutputSink<W> {
 }
 
 impl<W: Write + Drop> Sink for OutputSink<W> {
-    ghost contents = { λ s. W.contents s.writer };
+    ghost contents = { taken_of W.contents };
 
     ghost faults = { λ s. s.faults };
 

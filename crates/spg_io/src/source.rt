@@ -1,4 +1,4 @@
-ghost use Rattle.std.specs.Prelude.{◌≡◌, ◌<◌, ◌≤◌, ◌+◌, ℕ, List as Items, length, [], Some, drop, take, min, ⊤};
+ghost use Rattle.std.specs.Prelude.{◌≡◌, ◌<◌, ◌≤◌, ◌+◌, ℕ, List as Items, length, [], Some, OnOk, drop, take, min, ⊤};
 ghost use Rattle.std.specs.declared.result.Result.{Result};
 ghost use Rattle.std.specs.declared.option.Option.{Option};
 ghost use Rattle.std.specs.Io.{ReadsAtMost};
@@ -25,11 +25,12 @@ pub trait Source {
     ghost read_gives: { Self → Items ℕ → Result ℕ Failed → Self → Type 0 } = { λ _ _ _ _. ⊤ };
 
     /// Reads the next bytes into the front of the buffer, and says how many. None for a buffer
-    /// with room is the end. `Failed` comes only where the count of faults rises.
+    /// with room is the end. The count of faults rises where the answer is `Failed`, and else stays.
     fn read(&mut self, buf: &mut [u8]) -> Result<usize, Failed>
         ensures bound { ReadsAtMost result buf.new }
         ensures bytes { ReadConsumes (left self.old) (left self.new) result buf.new }
         ensures cause { HasCause (faults self.old) (faults self.new) result }
+        ensures answered { OnOk result (faults self.new ≡ faults self.old) }
         ensures gives { read_gives self.old buf.new result self.new };
 }
 

@@ -13,7 +13,7 @@ use Rattle.spg_script.specs.declared.command.Command.{Command}
 use Rattle.spg_script.specs.declared.sequence.Sequence.{Sequence}
 use Rattle.spg_script.specs.Blocks.{alone_part}
 use Rattle.spg_script.specs.Laws.{IsCommand}
-use Rattle.spg_script.specs.Line.{has_texts}
+use Rattle.spg_script.specs.Line.{keys_of}
 use Rattle.spg_script.specs.Script.{AreCommands, IsTidy, IsWritten}
 use Rattle.spg_script.specs.Sequences.{script_of}
 use Rattle.spg_script.specs.Speech.{Speech, IsKnown}
@@ -27,14 +27,14 @@ use Rattle.spg_standby.specs.Twin.{Twin}
 use Rattle.spg_mirror.specs.Mirrored.{made_with, commands_tasks, Mirrored, SoFar, LeadsTo}
 
 module _ {Key Cond : Type 0} (speech : Speech Key Cond) where
-  each_known : (texts : _) → ((c : Command) → IsCommand texts c → IsKnown speech c) → (commands : List Command) → AreCommands texts (map alone_part commands) → AllByRecursion (IsKnown speech) commands
-  each_known texts known [] are = tt
-  each_known texts known (c ∷ commands) are = (known c are.0.0.0, each_known texts known commands are.1)
+  each_known : (keys : _) → ((c : Command) → IsCommand keys c → IsKnown speech c) → (commands : List Command) → AreCommands keys (map alone_part commands) → AllByRecursion (IsKnown speech) commands
+  each_known keys known [] are = tt
+  each_known keys known (c ∷ commands) are = (known c are.0.0.0, each_known keys known commands are.1)
 
   pub all_known : (s : Sequence) → IsWritten (script_of s) → IsOfClass speech s.class → All (IsKnown speech) s.commands
   all_known s written known =
       let tidy : IsTidy (script_of s) = script_tidy written.bytes (script_of s) written.are_bytes written.is_script in
-      All-from_recursion (IsKnown speech) s.commands (each_known (has_texts s.class) known s.commands tidy.commands)
+      All-from_recursion (IsKnown speech) s.commands (each_known (keys_of s.class) known s.commands tidy.commands)
 
 module _ {O Key Recon Cond : Type 0} (m : Meaning Key Recon Cond) (speech : Speech Key Cond) where
   mirrors_nothing : (limit lag : ℕ) (seen : Seen O Key Recon Cond) → IsNew limit seen → Right m seen.journal → AllClosed (past_of seen) → Mirrored m speech limit lag [] seen []

@@ -1,5 +1,5 @@
 -- What a call of a pair does is what its command does.
-use Rattle.std.proofs.Common.{◌≡◌, ◌≢◌, ◌≤◌, inl, inr, true, false, length, Option, Some, Ok, Err, refl, ap, ◌∙◌}
+use Rattle.std.proofs.Common.{◌≡◌, inl, inr, true, false, length, Option, Some, Ok, Err, refl, ap, ◌∙◌}
 use Rattle.spg_base.specs.Row.{RowAt}
 use Rattle.spg_base.specs.declared.memory.Memory.{Memory}
 use Rattle.spg_opclass.specs.Meaning.{Meaning}
@@ -66,33 +66,29 @@ module _ {O Key Recon Cond : Type 0} (m : Meaning Key Recon Cond) (speech : Spee
 
 -- ---- what is answered of it
 
-memory_told : (wrote : Wrote) → wrote ≡ came.Memory → wrote_outcome wrote ≡ outcome.Memory
-memory_told wrote is = ap wrote_outcome is
-
-not_told : (wrote : Wrote) (o : Outcome) → o ≡ wrote_outcome wrote → o ≢ outcome.Memory → wrote ≢ came.Memory
-not_told wrote o is other same = other (is ∙ memory_told wrote same)
-
 module _ {O Key Recon Cond : Type 0} (m : Meaning Key Recon Cond) (speech : Speech Key Cond) (p p2 : Twin O Key Recon Cond) (c : Command) (r : Record) (Came : Wrote → Type 0) (wrote : Wrote) (told : r.outcome ≡ wrote_outcome wrote) (span : IsSpanOf p.primary p2.primary r.span)
     (acts : (wr : Wrote) (x : Record) → Came wr → Spans x (wrote_outcome wr) (length p.primary.journal) (length p2.primary.journal) → Acts m speech p.primary p2.primary 0 true c x)
-    (queued : wrote ≢ came.Memory → length p2.queue ≤ p2.lag) (lag : p2.lag ≡ p.lag) (right : Right m p2.primary.journal) (closed : AllClosed (past_of p2.primary)) where
+    (lag : p2.lag ≡ p.lag) (right : Right m p2.primary.journal) (closed : AllClosed (past_of p2.primary)) where
   abbrev spans_as : (wr : Wrote) → Record
   spans_as wr = record { span = r.span; outcome = wrote_outcome wr }
 
-  pub writes : Answers Came wrote → Writes m speech p p2 c r
-  writes (inl came_of) = record {
-    came = spans_as wrote;
-    told = record { span = refl; outcome = inl told };
-    acts = acts wrote (spans_as wrote) came_of (record { outcome_is = refl; from_is = span.0; to_is = span.1 });
-    kept_up = λ other. queued (not_told wrote r.outcome told other);
+  pub writes : Answers Came (length p2.queue) p2.lag wrote → Writes m speech p p2 c r
+  writes (wr, came_of, inl (few, e)) = record {
+    came = spans_as wr;
+    told = record { span = refl; outcome = inl (told ∙ ap wrote_outcome e) };
+    acts = acts wr (spans_as wr) came_of (record { outcome_is = refl; from_is = span.0; to_is = span.1 });
+    kept_up = λ other. few;
+    left_behind = λ other. absurd (other (told ∙ ap wrote_outcome e));
     lag = lag;
     right = right;
     closed = closed;
   }
-  writes (inr (memory, (wr, came_of))) = record {
+  writes (wr, came_of, inr (many, e)) = record {
     came = spans_as wr;
-    told = record { span = refl; outcome = inr (told ∙ memory_told wrote memory) };
+    told = record { span = refl; outcome = inr (told ∙ ap wrote_outcome e) };
     acts = acts wr (spans_as wr) came_of (record { outcome_is = refl; from_is = span.0; to_is = span.1 });
-    kept_up = λ other. queued (not_told wrote r.outcome told other);
+    kept_up = λ other. absurd (other (told ∙ ap wrote_outcome e));
+    left_behind = λ other. many;
     lag = lag;
     right = right;
     closed = closed;
@@ -106,6 +102,7 @@ writes_nothing m speech p c r at idle right closed = record {
   told = record { span = refl; outcome = inl refl };
   acts = rests m speech p.primary p.primary 0 true c outcome.Memory r at refl idle (λ block. inl refl) tt tt (λ q. tt) tt tt;
   kept_up = λ other. absurd (other at.outcome_is);
+  left_behind = λ other. absurd (other refl);
   lag = refl;
   right = right;
   closed = closed;

@@ -29,7 +29,7 @@ use Rattle.spg_commands.specs.Acted.{Acted, task_of}
 use Rattle.spg_commands.proofs.Next.{IsNext, up_to_next}
 use Rattle.spg_standby.specs.Finding.{IsBehind}
 use Rattle.spg_standby.specs.Twin.{Twin}
-use Rattle.spg_mirror.specs.Mirrored.{is_find, commands_tasks, unless_find, writes_in, write_records, IsToldAs, IsFound, FindsBy, IsAnswered, AreAnswered, made_with, Mirrored, Writes, Searches, DoesOn, at_behind, kept_behind, SoFar, LeadsTo}
+use Rattle.spg_mirror.specs.Mirrored.{is_find, commands_tasks, unless_find, writes_in, write_records, IsToldAs, IsFound, IsGivenUp, FindsBy, IsAnswered, AreAnswered, made_with, Mirrored, Writes, Searches, DoesOn, at_behind, kept_behind, SoFar, LeadsTo}
 
 -- ---- one command more
 
@@ -89,9 +89,17 @@ module _ {O Key Recon Cond : Type 0} (m : Meaning Key Recon Cond) (speech : Spee
           untold = is.untold;
         }
 
+    given_up_then : (at : ℕ) (kept_up : Bool) (span : Span) → IsGivenUp lag journal at kept_up span → IsGivenUp lag (journal ++ more) at kept_up span
+    given_up_then at kept_up span is = record {
+      order = is.order;
+      before = is.before;
+      within = omega (arith, is.within, length-append journal more);
+      behind = λ kept. subst (λ (j : List (Event O Key Recon Cond)). IsBehind j span.from lag) (sym (take-append-le at journal more is.within)) (is.behind kept);
+    }
+
     finds_then : (at : ℕ) (kept_up : Bool) (query : AnyQuery) (span : Span) (o : Outcome) → FindsBy m speech lag journal at kept_up query span o → FindsBy m speech lag (journal ++ more) at kept_up query span o
     finds_then at kept_up query span (outcome.Found rows walk) is = found_then at kept_up query span rows walk is
-    finds_then at kept_up query span outcome.Memory is = tt
+    finds_then at kept_up query span outcome.Memory is = given_up_then at kept_up span is
     finds_then at kept_up query span outcome.Added is = absurd is
     finds_then at kept_up query span outcome.RowUsed is = absurd is
     finds_then at kept_up query span (outcome.RowHeld by) is = absurd is
@@ -216,6 +224,11 @@ module _ {O Key Recon Cond : Type 0} (m : Meaning Key Recon Cond) (speech : Spee
     abbrev had : Mirrored m speech limit lag tasks p.primary records
     had = so_far.mirrored
 
+    behind_here : kept_behind true tasks records ≡ true → IsBehind (take (length p.primary.journal) p.primary.journal) r.span.from (length p.queue) → IsBehind (take (at_behind 0 tasks records) p.primary.journal) r.span.from lag
+    behind_here kept b =
+        let few : length p.queue ≤ lag = so_far.queued kept in
+        subst (λ (n : ℕ). IsBehind (take n p.primary.journal) r.span.from lag) (sym so_far.at) (record { few = omega (arith, b.few, few); none = λ zero. b.none (omega (arith, few, zero)) })
+
     found_here : (rows : List RowAt) (walk : Option ℕ) → IsFound m speech (length p.queue) p.primary.journal (length p.primary.journal) true query r.span rows walk
         → IsFound m speech lag p.primary.journal (at_behind 0 tasks records) (kept_behind true tasks records) query r.span rows walk
     found_here rows walk is = record {
@@ -225,16 +238,21 @@ module _ {O Key Recon Cond : Type 0} (m : Meaning Key Recon Cond) (speech : Spee
       order = is.order;
       before = subst (λ (n : ℕ). r.span.to ≤ n) (sym so_far.at) is.before;
       within = omega (arith, so_far.at);
-      behind = λ kept.
-          let few : length p.queue ≤ lag = so_far.queued kept in
-          let b = is.behind refl in
-          subst (λ (n : ℕ). IsBehind (take n p.primary.journal) r.span.from lag) (sym so_far.at) (record { few = omega (arith, b.few, few); none = λ zero. b.none (omega (arith, few, zero)) });
+      behind = λ kept. behind_here kept (is.behind refl);
       untold = is.untold;
+    }
+
+    given_up_here : IsGivenUp (length p.queue) p.primary.journal (length p.primary.journal) true r.span → IsGivenUp lag p.primary.journal (at_behind 0 tasks records) (kept_behind true tasks records) r.span
+    given_up_here is = record {
+      order = is.order;
+      before = subst (λ (n : ℕ). r.span.to ≤ n) (sym so_far.at) is.before;
+      within = omega (arith, so_far.at);
+      behind = λ kept. behind_here kept (is.behind refl);
     }
 
     find_here : (o : Outcome) → FindsBy m speech (length p.queue) p.primary.journal (length p.primary.journal) true query r.span o → FindsBy m speech lag p.primary.journal (at_behind 0 tasks records) (kept_behind true tasks records) query r.span o
     find_here (outcome.Found rows walk) is = found_here rows walk is
-    find_here outcome.Memory is = tt
+    find_here outcome.Memory is = given_up_here is
     find_here outcome.Added is = absurd is
     find_here outcome.RowUsed is = absurd is
     find_here (outcome.RowHeld by) is = absurd is

@@ -40,10 +40,18 @@ module _ {O Key Recon Cond : Type 0} (m : Meaning Key Recon Cond) (speech : Spee
         lag = lag;
       }
 
-  pub found_nothing : (r : Record) → r.outcome ≡ outcome.Memory → p2.primary ≡ p.primary → length p2.queue ≤ length p.queue → p2.lag ≡ p.lag → Searches m speech p p2 asked r
-  found_nothing r told same queued lag = record {
-    found = subst (λ (o : Outcome). FindsBy m speech (length p.queue) p.primary.journal (length p.primary.journal) true asked r.span o) (sym told) tt;
-    primary = same;
-    queued = queued;
-    lag = lag;
-  }
+  pub found_nothing : (r : Record) → r.outcome ≡ outcome.Memory → r.span.from ≤ r.span.to → r.span.to ≤ length p2.primary.journal → IsBehind p.primary.journal r.span.from (length p.queue) → p2.primary ≡ p.primary → length p2.queue ≤ length p.queue → p2.lag ≡ p.lag → Searches m speech p p2 asked r
+  found_nothing r told order within behind same queued lag =
+      let journal : p2.primary.journal ≡ p.primary.journal = ap (λ (s : Seen O Key Recon Cond). s.journal) same in
+      let all : take (length p.primary.journal) p.primary.journal ≡ p.primary.journal = take_all (length p.primary.journal) p.primary.journal (omega arith) in
+      record {
+        found = subst (λ (o : Outcome). FindsBy m speech (length p.queue) p.primary.journal (length p.primary.journal) true asked r.span o) (sym told) (record {
+          order = order;
+          before = subst (λ (j : List (Event O Key Recon Cond)). r.span.to ≤ length j) journal within;
+          within = omega arith;
+          behind = λ kept. subst (λ (j : List (Event O Key Recon Cond)). IsBehind j r.span.from (length p.queue)) (sym all) behind;
+        });
+        primary = same;
+        queued = queued;
+        lag = lag;
+      }

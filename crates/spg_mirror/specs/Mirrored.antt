@@ -1,5 +1,5 @@
 -- What commands do on an index whose searches a standby answers: a primary takes the writes, and a standby follows it.
-use Rattle.std.specs.Prelude.{◌≡◌, ◌≢◌, ◌≤◌, ◌+◌, ◌⊎◌, ◌++◌, ℕ, Bool, true, false, not, if◌then◌else◌, List, [], ◌∷◌, length, take, Option, Some, None, ⊤}
+use Rattle.std.specs.Prelude.{◌≡◌, ◌≢◌, ◌<◌, ◌≤◌, ◌+◌, ◌⊎◌, ◌++◌, ℕ, Bool, true, false, not, if◌then◌else◌, List, [], ◌∷◌, length, take, Option, Some, None, ⊤}
 use Rattle.std.specs.List.{AllZip}
 use Rattle.spg_base.specs.Row.{RowAt}
 use Rattle.spg_base.specs.declared.names.Span.{Span}
@@ -75,11 +75,18 @@ pub record IsFound {O Key Recon Cond : Type 0} (m : Meaning Key Recon Cond) (spe
   pub behind : kept_up ≡ true → IsBehind (take at journal) span.from lag
   pub untold : walk ≡ None
 
+-- a find that was given up: so many events were applied before and behind it, and so far behind the primary the standby was
+pub record IsGivenUp {O Key Recon Cond : Type 0} (lag : ℕ) (journal : List (Event O Key Recon Cond)) (at : ℕ) (kept_up : Bool) (span : Span) : Type 0 where
+  pub order : span.from ≤ span.to
+  pub before : span.to ≤ at
+  pub within : at ≤ length journal
+  pub behind : kept_up ≡ true → IsBehind (take at journal) span.from lag
+
 module _ {O Key Recon Cond : Type 0} (m : Meaning Key Recon Cond) (speech : Speech Key Cond) (lag : ℕ) (journal : List (Event O Key Recon Cond)) where
-  -- rows were found, or memory was wanting
+  -- rows were found, or memory was wanting; so far had the standby come before and behind
   abbrev pub FindsBy : ℕ → Bool → AnyQuery → Span → Outcome → Type 0
   FindsBy at kept_up query span (outcome.Found rows walk) = IsFound m speech lag journal at kept_up query span rows walk
-  FindsBy at kept_up query span outcome.Memory = ⊤
+  FindsBy at kept_up query span outcome.Memory = IsGivenUp lag journal at kept_up span
   FindsBy at kept_up query span o = ⊥
 
   abbrev pub IsAnswered : ℕ → Bool → Command → Record → Type 0
@@ -114,12 +121,13 @@ pub record Mirrored {O Key Recon Cond : Type 0} (m : Meaning Key Recon Cond) (sp
 
 -- ---- one command
 
--- a write of a pair: what came of it, and what its record tells; where that is not `memory`, the standby has kept up
+-- a write of a pair: what came of it, and what its record tells: that where the standby has kept up, and else `memory`
 pub record Writes {O Key Recon Cond : Type 0} (m : Meaning Key Recon Cond) (speech : Speech Key Cond) (old new : Twin O Key Recon Cond) (c : Command) (r : Record) : Type 0 where
   pub came : Record
   pub told : IsToldAs came r
   pub acts : Acts m speech old.primary new.primary 0 true c came
   pub kept_up : r.outcome ≢ outcome.Memory → length new.queue ≤ new.lag
+  pub left_behind : r.outcome ≢ came.outcome → new.lag < length new.queue
   pub lag : new.lag ≡ old.lag
   pub right : Right m new.primary.journal
   pub closed : AllClosed (past_of new.primary)

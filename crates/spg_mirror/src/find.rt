@@ -1,8 +1,9 @@
-ghost use Rattle.std.specs.Prelude.{◌≡◌, Some};
+ghost use Rattle.std.specs.Prelude.{◌≡◌, ◌≤◌, Some, length};
 ghost use Rattle.spg_script.specs.Speech.{IsKnown, query_in};
 ghost use Rattle.spg_script.specs.declared.any_query.AnyQuery.{AnyQuery as Asked};
 ghost use Rattle.spg_script.specs.declared.command.Command.TheVariants.{Find};
 ghost use Rattle.spg_mirror.specs.Mirrored.{Searches};
+ghost use Rattle.spg_standby.specs.Finding.{IsBehind};
 
 use crate::outcomes::found_outcome;
 use spg_base::{Memory, Span};
@@ -15,7 +16,9 @@ use std::alloc::Global;
 
 /// How many events the standby has applied.
 fn applied<O: Spoken>(pair: &Pair<O>) -> u64
-    ensures { result ≡ pair.now.follower.applied }
+    ensures value { result ≡ pair.now.follower.applied }
+    ensures within { result ≤ length pair.now.primary.journal }
+    ensures behind { IsBehind pair.now.primary.journal result (length pair.now.queue) }
 {
     pair.follower().applied()
 }

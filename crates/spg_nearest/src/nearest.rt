@@ -33,8 +33,9 @@ pub fn find_nearest<O: NearClass>(
     ensures ok { IfOk result (λ found. FindsNearest O.meaning O.box_below state.old state.new seat target limit found.rows found.met) }
     ensures err { OnErr result (FindsNone state.old state.new seat All) }
 {
-    // The seat is free.
+    // The seat is free, and a search of so few pages meets fewer tuples than 64 bits can tell.
     let _ = state.open_of(seat);
+    let _ = state.pages().page_count();
     let answer = near_among(alloc, state, seat, target, limit, &mut Idle)?;
     match answer {
         NearOut::Near { rows, met, .. } => Ok(Nearest { rows, met }),

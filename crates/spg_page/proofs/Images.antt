@@ -8,14 +8,15 @@ use Rattle.spg_page.specs.declared.tuple.Tuple.{Tuple}
 use Rattle.spg_page.specs.declared.tuple.Tuple.TheVariants.{Placeholder}
 use Rattle.spg_page.specs.Spelling.{size_of, tuple_of, AreTuple}
 use Rattle.spg_page.specs.Layout.{piece_at, IsLaid, IsPushed, NumbersSet}
-use Rattle.spg_page.specs.Stored.{used, tuples_in, head_bytes, IsHead, IsStoredIn}
+use Rattle.spg_page.specs.Stored.{used, tuples_in, IsBegun, IsHead, IsStoredIn}
 use Rattle.spg_page.proofs.Codec.{spelled_as}
+use Rattle.spg_page.proofs.Heads.{begun_same}
 use Rattle.spg_page.proofs.Layouts.{laid_same, piece_same}
 use Rattle.spg_page.proofs.StoredLaws.{tuples_same, tuples_pushed, used_is}
 
 -- the first n tuples are written
 pub record IsImage (b : List ℕ) (kind : PageKind) (nulls : Bool) (ts : List Tuple) (n upper : ℕ) : Type 0 where
-  pub first : (k : ℕ) → k < 12 → get_or b k 0 ≡ get_or (head_bytes kind nulls) k 0
+  pub first : IsBegun b kind nulls
   pub zeros : (k : ℕ) → 16 ≤ k → k < 24 → get_or b k 0 ≡ 0
   pub tail : (k : ℕ) → 8184 ≤ k → get_or b k 0 ≡ 0
   pub laid : IsLaid b n upper
@@ -57,7 +58,7 @@ module _ {b : List ℕ} {kind : PageKind} {nulls : Bool} {ts : List Tuple} {n up
 
   pub image_more : (c piece : List ℕ) (upper2 : ℕ) → n < length ts → AreTuple piece → tuple_of piece ≡ get_or ts n Placeholder → IsPushed b c n upper2 piece → IsImage c kind nulls ts (n + 1) upper2
   image_more c piece upper2 l spelled value r = record {
-    first = λ k h. r.head k (omega arith) ∙ I.first k h;
+    first = begun_same b c kind nulls (λ k h. r.head k (omega arith)) I.first;
     zeros = λ k g h. r.head k h ∙ I.zeros k g h;
     tail = λ k h. r.tail k h ∙ I.tail k h;
     laid = r.laid;
@@ -76,7 +77,7 @@ module _ {b : List ℕ} {kind : PageKind} {nulls : Bool} {ts : List Tuple} {n up
       let list : tuples_in c n ≡ ts = tuples_same b c n pieces ∙ I.tuples ∙ take_all n ts (omega arith) in
       record {
         head = rw (← e, set2.upper_is) (record {
-          first = λ k l. set2.below k l ∙ I.first k l;
+          first = begun_same b c kind nulls set2.below I.first;
           count_is = set2.count_is;
           upper_is = set2.upper_is;
           zeros = λ k a l. set2.above k a ∙ I.zeros k a l;

@@ -12,7 +12,8 @@ use Rattle.spg_script.specs.declared.command.Command.{Command}
 use Rattle.spg_script.specs.declared.command.Command.TheVariants.{Insert, Delete, Find, Vacuum, Save, Stat, Near}
 use Rattle.spg_script.specs.Blocks.{Part, Script}
 use Rattle.spg_script.specs.Laws.{IsCommand}
-use Rattle.spg_script.specs.Line.{has_texts}
+use Rattle.spg_script.specs.declared.key_form.KeyForm.{KeyForm}
+use Rattle.spg_script.specs.Line.{keys_of}
 use Rattle.spg_script.specs.Script.{IsLaneCommand, IsBlock, IsPart, AreCommands, IsTidy, IsWritten}
 use Rattle.spg_script.specs.Speech.{Speech, IsKnown}
 use Rattle.spg_script.proofs.Tidy.{script_tidy}
@@ -26,36 +27,35 @@ use Rattle.spg_commands.specs.Acted.{HasName, CanBeDone, CanBlock}
 
 -- ---- the commands of a script can be done
 
-named : (texts : Bool) (c : Command) → IsCommand texts c → HasName c
-named texts (Insert row key) is = tt
-named texts (Delete row) is = tt
-named texts (Find query) is = tt
-named texts Vacuum is = tt
-named texts (Save name) is = is
-named texts Stat is = tt
-named false (Near target limit) is = is.1
-named true (Near target limit) is = absurd is
+named : (keys : KeyForm) (c : Command) → IsCommand keys c → HasName c
+named keys (Insert row key) is = tt
+named keys (Delete row) is = tt
+named keys (Find query) is = tt
+named keys Vacuum is = tt
+named keys (Save name) is = is
+named keys Stat is = tt
+named keys (Near target limit) is = is.2
 
 few_lanes : (together : Bool) (lanes : List (List Command)) → IsBlock together lanes → length lanes ≤ 32
 few_lanes true lanes is = is.1
 few_lanes false lanes is = omega (arith, ap length is.1)
 
-module _ {Key Cond : Type 0} (speech : Speech Key Cond) (texts : Bool) (known : (c : Command) → IsCommand texts c → IsKnown speech c) where
-  lane_can : (alone : Bool) (commands : List Command) → (alone ≡ false → AllByRecursion IsLaneCommand commands) → AllByRecursion (IsCommand texts) commands → AllByRecursion (CanBeDone speech alone) commands
+module _ {Key Cond : Type 0} (speech : Speech Key Cond) (keys : KeyForm) (known : (c : Command) → IsCommand keys c → IsKnown speech c) where
+  lane_can : (alone : Bool) (commands : List Command) → (alone ≡ false → AllByRecursion IsLaneCommand commands) → AllByRecursion (IsCommand keys) commands → AllByRecursion (CanBeDone speech alone) commands
   lane_can alone [] in_lane are = tt
-  lane_can alone (c ∷ commands) in_lane are = (record { known = known c are.0; named = named texts c are.0; in_lane = λ is. (in_lane is).0 }, lane_can alone commands (λ is. (in_lane is).1) are.1)
+  lane_can alone (c ∷ commands) in_lane are = (record { known = known c are.0; named = named keys c are.0; in_lane = λ is. (in_lane is).0 }, lane_can alone commands (λ is. (in_lane is).1) are.1)
 
-  lanes_can : (alone : Bool) (lanes : List (List Command)) → (alone ≡ false → AllByRecursion (AllByRecursion IsLaneCommand) lanes) → AllByRecursion (AllByRecursion (IsCommand texts)) lanes
+  lanes_can : (alone : Bool) (lanes : List (List Command)) → (alone ≡ false → AllByRecursion (AllByRecursion IsLaneCommand) lanes) → AllByRecursion (AllByRecursion (IsCommand keys)) lanes
       → AllByRecursion (λ (lane : List Command). All (CanBeDone speech alone) lane) lanes
   lanes_can alone [] in_lane are = tt
   lanes_can alone (lane ∷ lanes) in_lane are =
       (All-from_recursion (CanBeDone speech alone) lane (lane_can alone lane (λ is. (in_lane is).0) are.0), lanes_can alone lanes (λ is. (in_lane is).1) are.1)
 
-  block_can : (together : Bool) (lanes : List (List Command)) → IsBlock together lanes → AllByRecursion (AllByRecursion (IsCommand texts)) lanes → AllByRecursion (λ (lane : List Command). All (CanBeDone speech (not together)) lane) lanes
+  block_can : (together : Bool) (lanes : List (List Command)) → IsBlock together lanes → AllByRecursion (AllByRecursion (IsCommand keys)) lanes → AllByRecursion (λ (lane : List Command). All (CanBeDone speech (not together)) lane) lanes
   block_can true lanes is are = lanes_can false lanes (λ q. is.2) are
   block_can false lanes is are = lanes_can true lanes (λ q. absurd (cc)) are
 
-  parts_can : (parts : List Part) → AllByRecursion IsPart parts → AreCommands texts parts → AllByRecursion (CanBlock speech) parts
+  parts_can : (parts : List Part) → AllByRecursion IsPart parts → AreCommands keys parts → AllByRecursion (CanBlock speech) parts
   parts_can [] are commands = tt
   parts_can (p ∷ parts) are commands = (
     record { few = few_lanes p.together p.lanes are.0; each = All-from_recursion (λ (lane : List Command). All (CanBeDone speech (not p.together)) lane) p.lanes (block_can p.together p.lanes are.0 commands.0) },
@@ -65,7 +65,7 @@ module _ {Key Cond : Type 0} (speech : Speech Key Cond) (texts : Bool) (known : 
 pub script_can : {Key Cond : Type 0} (speech : Speech Key Cond) (script : Script) (blocks : List Part) → IsWritten script → blocks ≡ script.parts → IsOfClass speech script.class → All (CanBlock speech) blocks
 script_can speech script blocks written are known =
     let tidy : IsTidy script = script_tidy written.bytes script written.are_bytes written.is_script in
-    All-same (CanBlock speech) blocks script.parts are (All-from_recursion (CanBlock speech) script.parts (parts_can speech (has_texts script.class) known script.parts tidy.parts tidy.commands))
+    All-same (CanBlock speech) blocks script.parts are (All-from_recursion (CanBlock speech) script.parts (parts_can speech (keys_of script.class) known script.parts tidy.parts tidy.commands))
 
 -- ---- before the first command
 

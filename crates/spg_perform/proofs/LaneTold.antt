@@ -46,9 +46,9 @@ module _ {O Key Recon Cond : Type 0} (m : Meaning Key Recon Cond) (speech : Spee
   went_insert row key k (inserts.RowUsed span) known told = went (asked.Insert row key) (insert_record (inserts.RowUsed span)) _ told.0 (λ block. (told.1, refl)) tt
   went_insert row key k (inserts.RowHeld by span) known told = went (asked.Insert row key) (insert_record (inserts.RowHeld by span)) _ told.0 (λ block. (told.1, refl)) tt
   went_insert row key k (inserts.IndexFull span) known told = went (asked.Insert row key) (insert_record (inserts.IndexFull span)) _ told.0 (λ block. (k, known, refl))
-      (λ loaded. rw (sym (same_null speech key k known)) (told.1 loaded))
+      (λ loaded. rw (sym (same_null speech key k known)) (told.1.outgrown loaded))
   went_insert row key k (inserts.ClockFull span) known told = went (asked.Insert row key) (insert_record (inserts.ClockFull span)) _ told.0 (λ block. (k, known, refl))
-      (λ loaded. rw (sym (same_null speech key k known)) (told.1 loaded))
+      (λ loaded. rw (sym (same_null speech key k known)) (told.1.outgrown loaded))
   went_insert row key k (inserts.Memory span) known (inl told) = went (asked.Insert row key) (insert_record (inserts.Memory span)) _ told (λ block. inl refl) tt
   went_insert row key k (inserts.Memory span) known (inr told) = went (asked.Insert row key) (insert_record (inserts.Memory span)) _ told (λ block. inr (k, known, refl)) tt
 

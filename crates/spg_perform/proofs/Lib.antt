@@ -1,6 +1,5 @@
 pub mod Lists
 pub mod Nearest
-pub mod OfClass
 pub mod StatRows
 pub mod Counting
 pub mod Tasks

@@ -1,7 +1,9 @@
 pub mod Pieces
 pub mod Parts
 pub mod NearLines
+pub mod RowLines
 pub mod ResultLines
 pub mod EventLines
 pub mod Wholes
 pub mod Taken
+pub mod Plain

@@ -1,5 +1,5 @@
 -- The nearest rows are read back from their texts.
-use Rattle.std.proofs.Common.{◌≡◌, inl, inr, ◌<◌, ◌*◌, ◌+◌, ◌-◌, ◌%◌, ◌^◌, ◌==◌, ℕ, false, List, [], ◌∷◌, ◌++◌, length, refl, ap, ◌∙◌, arith, append-nil}
+use Rattle.std.proofs.Common.{◌≡◌, inl, inr, ◌<◌, ◌+◌, ◌%◌, ◌^◌, ◌==◌, ℕ, false, List, [], ◌∷◌, ◌++◌, refl, ap, ◌∙◌, arith, append-nil}
 use Rattle.std.specs.List.{AllByRecursion}
 use Rattle.std.specs.Prelude.{map}
 use Rattle.std.specs.Fmt.{decimal}
@@ -8,7 +8,7 @@ use Rattle.std.proofs.lemmas.Bool.Decides.{eqb_tells}
 use Rattle.spg_base.specs.Row.{RowAt}
 use Rattle.spg_base.specs.Text.{row_text}
 use Rattle.spg_script.specs.Spelling.{IsRow}
-use Rattle.spg_script.proofs.Digits.{HasNo, HasNo-cons, HasNo-append, HasNo-decimal}
+use Rattle.spg_script.proofs.Digits.{HasNo, HasNo-cons, HasNo-append}
 use Rattle.spg_near.specs.declared.near_row.NearRow.{NearRow}
 use Rattle.spg_report.specs.Text.{near_row_text, near_rows_text}
 use Rattle.spg_report.specs.Told.{FitsNearRow}
@@ -20,17 +20,17 @@ num-distance : (n : ℕ) → n < 2 ^ 128 → num (decimal n) ≡ n
 num-distance n small = decimal_by_steps_wide (λ m ds. num_from 0 ds ≡ m) (λ m low. omega arith) (λ m ds high front. num_from-append 0 ds (48 + m % 10) ∙ omega (arith, front)) n (omega (arith, small))
 
 -- no digit is this byte
-abbrev IsNoDigit : ℕ → Type 0
+abbrev pub IsNoDigit : ℕ → Type 0
 IsNoDigit stop = (d : ℕ) → d < 10 → (48 + d == stop) ≡ false
 
-distance_no : (stop n : ℕ) → IsNoDigit stop → n < 2 ^ 128 → HasNo stop (decimal n)
+pub distance_no : (stop n : ℕ) → IsNoDigit stop → n < 2 ^ 128 → HasNo stop (decimal n)
 distance_no stop n apart small = decimal_by_steps_wide (λ m ds. HasNo stop ds) (λ m low. HasNo-cons stop (48 + m) [] (apart m low) refl)
     (λ m ds high front. HasNo-append stop ds ((48 + m % 10) ∷ []) front (HasNo-cons stop (48 + m % 10) [] (apart (m % 10) (omega arith)) refl)) n (omega (arith, small))
 
-below_digits : (stop : ℕ) → stop < 48 → IsNoDigit stop
+pub below_digits : (stop : ℕ) → stop < 48 → IsNoDigit stop
 below_digits stop low d fits = elim (eqb_tells (48 + d) stop) [ inl same ↦ absurd (omega (arith, same.1)) | inr other ↦ other.0 ]
 
-above_digits : (stop : ℕ) → 57 < stop → IsNoDigit stop
+pub above_digits : (stop : ℕ) → 57 < stop → IsNoDigit stop
 above_digits stop high d fits = elim (eqb_tells (48 + d) stop) [ inl same ↦ absurd (omega (arith, same.1)) | inr other ↦ other.0 ]
 
 -- ---- a row with its distance

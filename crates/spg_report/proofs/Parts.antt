@@ -1,7 +1,6 @@
 -- Numbers and rows are read back from their texts, and texts are divided into their parts.
-use Rattle.std.proofs.Common.{◌≡◌, inl, inr, ◌<◌, ◌+◌, ◌-◌, ◌*◌, ◌%◌, ◌^◌, ◌==◌, ℕ, suc, false, cond, List, [], ◌∷◌, ◌++◌, length, refl, ap, ◌∙◌, arith, append-nil}
+use Rattle.std.proofs.Common.{◌≡◌, inl, inr, ◌<◌, ◌+◌, ◌-◌, ◌*◌, ◌%◌, ◌^◌, ◌==◌, ℕ, suc, false, cond, List, [], ◌∷◌, ◌++◌, length, refl, ap, ◌∙◌, arith}
 use Rattle.std.specs.List.{AllByRecursion}
-use Rattle.std.specs.Prelude.{map}
 use Rattle.std.specs.Fmt.{decimal}
 use Rattle.std.proofs.lemmas.Fmt.{decimal_by_steps}
 use Rattle.std.proofs.lemmas.Bool.Decides.{eqb_tells}
@@ -11,7 +10,7 @@ use Rattle.spg_base.specs.Text.{row_text}
 use Rattle.spg_script.specs.Spelling.{IsRow}
 use Rattle.spg_script.specs.Reading.{len_before}
 use Rattle.spg_script.proofs.Digits.{HasNo, HasNo-cons, HasNo-append, HasNo-decimal}
-use Rattle.spg_report.specs.Text.{rows_text, ended}
+use Rattle.spg_report.specs.Text.{ended}
 
 -- ---- numbers
 
@@ -85,19 +84,6 @@ row_no stop row low is = HasNo-append stop (decimal row.block) (46 ∷ decimal r
   where
     no_dot : (stop : ℕ) → stop < 46 → (46 == stop) ≡ false
     no_dot stop low = elim (eqb_tells 46 stop) [ inl same ↦ absurd (omega (arith, same.1)) | inr other ↦ other.0 ]
-
--- the words of rows behind a word
-pub rows_parts : (word : List ℕ) (rows : List RowAt) → HasNo 32 word → AllByRecursion IsRow rows → parts_at 32 (word ++ rows_text rows) ≡ word ∷ map row_text rows
-rows_parts word [] apart each = ap (parts_at 32) (append-nil word) ∙ parts-end 32 word apart
-rows_parts word (r ∷ rows) apart each = parts-front 32 word (row_text r ++ rows_text rows) apart ∙ ap (λ l. word ∷ l) (rows_parts (row_text r) rows (row_no 32 r (omega arith) each.0) each.1)
-
-pub rows_read : (rows : List RowAt) → AllByRecursion IsRow rows → map row_read (map row_text rows) ≡ rows
-rows_read [] each = refl
-rows_read (r ∷ rows) each = ap (λ (x : RowAt). x ∷ map row_read (map row_text rows)) (row_read-text r each.0) ∙ ap (λ l. r ∷ l) (rows_read rows each.1)
-
-pub rows_no_lf : (rows : List RowAt) → AllByRecursion IsRow rows → HasNo 10 (rows_text rows)
-rows_no_lf [] each = refl
-rows_no_lf (r ∷ rows) each = HasNo-cons 10 32 (row_text r ++ rows_text rows) refl (HasNo-append 10 (row_text r) (rows_text rows) (row_no 10 r (omega arith) each.0) (rows_no_lf rows each.1))
 
 -- ---- lines
 

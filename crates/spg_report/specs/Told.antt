@@ -1,5 +1,5 @@
 -- What a printed line tells of an event and of a record, and which values can be printed.
-use Rattle.std.specs.Prelude.{◌≡◌, ◌<◌, ◌^◌, ℕ, Bool, List, [], length, Option, Some, None, ⊤}
+use Rattle.std.specs.Prelude.{◌≡◌, ◌<◌, ◌^◌, ℕ, List, [], length, Option, Some, None, ⊤}
 use Rattle.std.specs.List.{AllByRecursion}
 use Rattle.spg_base.specs.Row.{RowAt}
 use Rattle.spg_base.specs.declared.recorded.Stat.{Stat}
@@ -13,6 +13,7 @@ use Rattle.spg_report.specs.declared.outcome.Outcome.TheVariants as outcome
 use Rattle.spg_report.specs.declared.record.Record.{Record}
 use Rattle.spg_script.specs.declared.any_key.AnyKey.{AnyKey}
 use Rattle.spg_script.specs.declared.any_query.AnyQuery.{AnyQuery}
+use Rattle.spg_script.specs.declared.key_form.KeyForm.{KeyForm}
 use Rattle.spg_script.specs.Spelling.{IsRow}
 use Rattle.spg_script.specs.Speech.{Speech, key_or_null_in, query_in}
 use Rattle.spg_script.specs.Laws.{IsKeyOrNull, IsQuery}
@@ -43,18 +44,18 @@ Fits (Sweep seat row) = IsRow row
 Fits (CloseVacuum seat swept) = swept < 2 ^ 64
 Fits (Leave seat) = ⊤
 
--- its key, or its query, is one that scripts of a class with texts, or with points, name
-abbrev pub IsNamed : {O Key Recon Cond : Type 0} → Bool → Speech Key Cond → Event O Key Recon Cond → Type 0
-IsNamed texts speech (OpenInsert seat row key) = (named : Option AnyKey) × (key_or_null_in speech named ≡ Some key) × IsKeyOrNull texts named
-IsNamed texts speech (Put seat row) = ⊤
-IsNamed texts speech (Drop seat row why) = ⊤
-IsNamed texts speech (Kill seat row) = ⊤
-IsNamed texts speech (OpenScan seat query) = (named : AnyQuery) × (query_in speech named ≡ Some query) × IsQuery texts named
-IsNamed texts speech (CloseScan seat rows) = ⊤
-IsNamed texts speech (OpenVacuum seat) = ⊤
-IsNamed texts speech (Sweep seat row) = ⊤
-IsNamed texts speech (CloseVacuum seat swept) = ⊤
-IsNamed texts speech (Leave seat) = ⊤
+-- its key, or its query, is one that scripts of a class with such keys name
+abbrev pub IsNamed : {O Key Recon Cond : Type 0} → KeyForm → Speech Key Cond → Event O Key Recon Cond → Type 0
+IsNamed keys speech (OpenInsert seat row key) = (named : Option AnyKey) × (key_or_null_in speech named ≡ Some key) × IsKeyOrNull keys named
+IsNamed keys speech (Put seat row) = ⊤
+IsNamed keys speech (Drop seat row why) = ⊤
+IsNamed keys speech (Kill seat row) = ⊤
+IsNamed keys speech (OpenScan seat query) = (named : AnyQuery) × (query_in speech named ≡ Some query) × IsQuery keys named
+IsNamed keys speech (CloseScan seat rows) = ⊤
+IsNamed keys speech (OpenVacuum seat) = ⊤
+IsNamed keys speech (Sweep seat row) = ⊤
+IsNamed keys speech (CloseVacuum seat swept) = ⊤
+IsNamed keys speech (Leave seat) = ⊤
 
 -- the numbers of a record fit their types
 pub record FitsStat (s : Stat) : Type 0 where
@@ -93,13 +94,31 @@ FitsOutcome (outcome.Stat counts) = FitsStat counts
 FitsOutcome (outcome.Near rows walk) = FitsNear rows walk
 FitsOutcome outcome.Memory = ⊤
 
+-- one number, or none, for each row that was found, and no entry for any other outcome
+abbrev pub AreValuesFor : Outcome → List (Option ℕ) → Type 0
+AreValuesFor outcome.Added values = values ≡ []
+AreValuesFor outcome.RowUsed values = values ≡ []
+AreValuesFor (outcome.RowHeld by) values = values ≡ []
+AreValuesFor outcome.Full values = values ≡ []
+AreValuesFor outcome.ClockFull values = values ≡ []
+AreValuesFor outcome.Killed values = values ≡ []
+AreValuesFor outcome.NotLive values = values ≡ []
+AreValuesFor (outcome.Found rows walk) values = length values ≡ length rows
+AreValuesFor (outcome.Vacuumed swept) values = values ≡ []
+AreValuesFor (outcome.OpenBy seat) values = values ≡ []
+AreValuesFor (outcome.Saved pages) values = values ≡ []
+AreValuesFor outcome.ImageFault values = values ≡ []
+AreValuesFor (outcome.Stat counts) values = values ≡ []
+AreValuesFor (outcome.Near rows walk) values = values ≡ []
+AreValuesFor outcome.Memory values = values ≡ []
+
 pub record FitsRecord (r : Record) : Type 0 where
   pub from : r.span.from < 2 ^ 64
   pub to : r.span.to < 2 ^ 64
   pub says : FitsOutcome r.outcome
 
 -- an event can be printed
-pub record CanBePrinted {O Key Recon Cond : Type 0} (texts : Bool) (speech : Speech Key Cond) (e : Event O Key Recon Cond) : Type 0 where
+pub record CanBePrinted {O Key Recon Cond : Type 0} (keys : KeyForm) (speech : Speech Key Cond) (e : Event O Key Recon Cond) : Type 0 where
   pub seat : seat_of e < 2 ^ 64
   pub fits : Fits e
-  pub named : IsNamed texts speech e
+  pub named : IsNamed keys speech e

@@ -13,6 +13,9 @@ use std::marker::Model;
 #[derive(Drop)]
 pub(crate) struct Run<O: OpClass> {
     entries: Vec<(Row, RowEntry<O>)>,
+    /// Where the rows of each block begin, from the first row's block on: hints, by which a row is
+    /// looked for first.
+    starts: Vec<usize>,
 }
 
 impl<O: OpClass> Model for Run<O> {
@@ -33,6 +36,51 @@ impl<O: OpClass> Run<O> {
     {
         Run {
             entries: Vec::new(alloc),
+            starts: Vec::new(alloc),
+        }
+    }
+
+    /// Takes room for so many more entries, where it is to be had.
+    pub fn expect(&mut self, count: usize)
+        ensures { self.new ≡ self.old }
+    {
+        let _ = self.entries.reserve(count);
+    }
+
+    /// Where a row stands whose block has a hint and has no row left out before it.
+    fn hint(&self, row: Row) -> Option<usize> {
+        let first = self.entries.first()?.0.block();
+        let block = row.block().checked_sub(first)?;
+        let start = *self.starts.get(block as usize)?;
+        let offset = self.entries.get(start)?.0.offset();
+        start.checked_add(row.offset().checked_sub(offset)? as usize)
+    }
+
+    /// Where the row stands, if it stands where the hint says.
+    fn hinted(&self, row: Row) -> Option<usize>
+        ensures { IfSome result (IsAt self.now row) }
+    {
+        let at = self.hint(row)?;
+        if self.entries.get(at)?.0 == row {
+            Some(at)
+        } else {
+            None
+        }
+    }
+
+    /// Notes where the rows of a block begin, if each block between the first row's and this one has a
+    /// hint. Where there is no memory, nothing is noted.
+    fn note(&mut self, block: u32, at: usize)
+        ensures { self.new ≡ self.old }
+    {
+        let Some(first) = self.entries.first() else {
+            return;
+        };
+        let Some(since) = block.checked_sub(first.0.block()) else {
+            return;
+        };
+        if since as usize == self.starts.len() {
+            let _ = self.starts.push(at);
         }
     }
 
@@ -53,9 +101,9 @@ impl<O: OpClass> Run<O> {
             Some(last) => match last.0.cmp(&row) {
                 Ordering::Less => None,
                 Ordering::Equal => Some(self.entries.len() - 1),
-                Ordering::Greater => match self.search(row) {
-                    Ok(at) => Some(at),
-                    Err(_) => None,
+                Ordering::Greater => match self.hinted(row) {
+                    Some(at) => Some(at),
+                    None => self.search(row).ok(),
                 },
             },
             None => None,
@@ -91,7 +139,9 @@ impl<O: OpClass> Run<O> {
         ensures ok { OnOk result (SetsEntry self.old self.new row (Some entry)) }
         ensures err { OnErr result (self.new ≡ self.old) }
     {
+        let at = self.entries.len();
         self.entries.push((row, entry))?;
+        self.note(row.block(), at);
         Ok(())
     }
 

@@ -5,6 +5,7 @@ use Rattle.spg_opclass.specs.Meaning.{Meaning}
 use Rattle.spg_io.specs.Held.{Holding, Holds}
 use Rattle.spg_forest.specs.Sheets.{Sheet, Sheets, blank}
 use Rattle.spg_forest.specs.Shape.{Shape, Represents, spots}
+use Rattle.spg_page.specs.Versions.{version_in}
 use Rattle.spg_page.specs.Came.{sheet_in}
 use Rattle.spg_tree.specs.Table.{Table, sheet_of, sheets_of, table_with, with_meta}
 use Rattle.spg_core.specs.Seen.{Seen, past_of, IsPresentWith}
@@ -13,7 +14,7 @@ use Rattle.spg_forest.specs.Classes.{HasEntry}
 use Rattle.spg_verify.specs.Counts.{lives_in}
 use Rattle.spg_verdict.specs.Images.{HaveCome}
 use Rattle.spg_verdict.specs.Entries.{entries_of}
-use Rattle.spg_verify.specs.Meta.{count_in, clock_in, remembered_in, counter_in, code_in}
+use Rattle.spg_verify.specs.Meta.{count_in, clock_in, remembered_in, counter_in}
 use Rattle.spg_verify.specs.Verdict.{page_at, IsTableOf, Spells, FailsFirst, IsGood, IsVerified}
 use Rattle.spg_verify.specs.declared.reading.Verified.{Verified}
 use Rattle.spg_verify.specs.declared.refused.ImageRefused.{ImageRefused}
@@ -22,11 +23,10 @@ use Rattle.spg_verify.specs.Refusals.{IfBad}
 use Rattle.spg_verify.proofs.Apart.{same_bytes, good_fails_none}
 use Rattle.spg_image.specs.Image.{Image, image_of, sheets_in}
 use Rattle.spg_image.specs.Saving.{Saves, HoldsImage}
-use Rattle.spg_image.specs.Verifying.{IsImageOf, IsBadImage, IsLoadOf}
-use Rattle.spg_image.proofs.Apart.{image_is_not_bad}
-use Rattle.spg_quad.specs.Quad.{quad_meaning}
-use Rattle.spg_kd.specs.Kd.{kd_meaning}
-use Rattle.spg_radix.specs.Radix.{radix_meaning}
+use Rattle.spg_image.specs.Verifying.{IsVerifiedAs, IsImageOf, IsBadImage, IsLoadOf}
+use Rattle.spg_image.specs.declared.class.ImageClass.{ImageClass}
+use Rattle.spg_image.proofs.Classes.{of_both, of_any}
+use Rattle.spg_image.proofs.Apart.{image_is_not_bad, same_class}
 use Rattle.spg_saved.specs.Saved.{table_in, numbers_of, HasShape}
 use Rattle.spg_saved.specs.Answers.{IsSaved, SavedLoads, SavedVerifies}
 use Rattle.spg_saved.proofs.Saved.{saved_good, saved_image}
@@ -34,8 +34,8 @@ use Rattle.spg_saved.proofs.Saved.{saved_good, saved_image}
 -- ---- one table
 
 module _ {Key Recon Cond : Type 0} (m : Meaning Key Recon Cond) where
-  come_same : (image : ℕ → List ℕ) (n : ℕ) (ps qs : List Sheet) → HaveCome m (λ b page. page ≡ image b) n ps → HaveCome m (λ b page. page ≡ image b) n qs → ps ≡ qs
-  come_same image n ps qs C D = same_lists ps qs (C.long ∙ sym D.long) (λ k d h.
+  come_same : (version : ℕ) (image : ℕ → List ℕ) (n : ℕ) (ps qs : List Sheet) → HaveCome m version (λ b page. page ≡ image b) n ps → HaveCome m version (λ b page. page ≡ image b) n qs → ps ≡ qs
+  come_same version image n ps qs C D = same_lists ps qs (C.long ∙ sym D.long) (λ k d h.
       get_or_default ps k d (blank false) h ∙ same k (omega (arith, h, C.long)) ∙ get_or_default qs k (blank false) d (omega (arith, h, C.long, D.long)))
     where
       same : (k : ℕ) → k < n → sheet_of ps k ≡ sheet_of qs k
@@ -48,11 +48,11 @@ module _ {Key Recon Cond : Type 0} (m : Meaning Key Recon Cond) where
   same_table : (bytes : List ℕ) (limit : ℕ) (t u : Table) → IsTableOf m bytes limit t → IsTableOf m bytes limit u → t ≡ u
   same_table bytes limit t u T U =
       let page = page_at bytes 0 in
-      let pages : t.pages ≡ u.pages = come_same (page_at bytes) (count_in page) t.pages u.pages T.come U.come in
+      let pages : t.pages ≡ u.pages = come_same (version_in page) (page_at bytes) (count_in page) t.pages u.pages T.come U.come in
       T.is ∙ ap (λ (ps : List Sheet). with_meta (table_with ps (max limit (count_in page)) (clock_in page)) (clock_in page) (remembered_in page) (counter_in page)) pages ∙ sym U.is
 
-  pub spelled_same : (good : ℕ → Type 0) (limit : ℕ) (held : Option (List ℕ)) (t u : Table) → Spells m good limit held t → Spells m good limit held u → t ≡ u
-  spelled_same good limit held t u (b, e, M, T) (c, d, N, U) = same_table b limit t u T (subst (λ (x : List ℕ). IsTableOf m x limit u) (same_bytes held c b d e) U)
+  pub spelled_same : (code : ℕ) (limit : ℕ) (held : Option (List ℕ)) (t u : Table) → Spells m code limit held t → Spells m code limit held u → t ≡ u
+  spelled_same code limit held t u (b, e, M, T) (c, d, N, U) = same_table b limit t u T (subst (λ (x : List ℕ). IsTableOf m x limit u) (same_bytes held c b d e) U)
 
 -- ---- what a save left
 
@@ -60,12 +60,12 @@ held_by : (i : Image) (old : Holding) (now : Option Holding) (name : List ℕ) (
 held_by i old None name pages (e, c) = absurd c
 held_by i old (Some h) name pages (e, c) = (h, refl, c.0)
 
-good_held : {Key Recon Cond : Type 0} (m : Meaning Key Recon Cond) (code : ℕ) (i : Image) (limit : ℕ) (held : Option (List ℕ)) → HoldsImage i held → i.class ≡ code → Shape m (sheets_in i) → IsGood m (λ c. c ≡ code) limit held (table_in limit i)
-good_held m code i limit held (bytes, e, R) c H = subst (λ (x : Option (List ℕ)). IsGood m (λ c. c ≡ code) limit x (table_in limit i)) (sym e) (saved_good m code limit i bytes R c H)
+good_held : {Key Recon Cond : Type 0} (m : Meaning Key Recon Cond) (code : ℕ) (i : Image) (limit : ℕ) (held : Option (List ℕ)) → HoldsImage i held → i.class ≡ code → Shape m (sheets_in i) → IsGood m code limit held (table_in limit i)
+good_held m code i limit held (bytes, e, R) c H = subst (λ (x : Option (List ℕ)). IsGood m code limit x (table_in limit i)) (sym e) (saved_good m code limit i bytes R c H)
 
 module _ {O Key Recon Cond : Type 0} (m : Meaning Key Recon Cond) (code : ℕ) where
   abbrev Answers : ℕ → Option (List ℕ) → Result (Seen O Key Recon Cond) ImageRefused → Type 0
-  Answers limit held result = MatchResult result (λ seen. IsLoadOf m code limit held seen) (λ e. IfBad e (λ f. FailsFirst m (λ c. c ≡ code) limit held f))
+  Answers limit held result = MatchResult result (λ seen. IsLoadOf m code limit held seen) (λ e. IfBad e (λ f. FailsFirst m code limit held f))
 
   abbrev IsAnswer : ℕ → Seen O Key Recon Cond → Result (Seen O Key Recon Cond) ImageRefused → Type 0
   IsAnswer limit saved result = MatchResult result (λ seen. IsSaved code limit saved seen) (λ e. IfBad e (λ f. ⊥))
@@ -74,9 +74,9 @@ module _ {O Key Recon Cond : Type 0} (m : Meaning Key Recon Cond) (code : ℕ) w
     abbrev table : Table
     table = table_in limit (image_of code saved.table)
 
-    loaded : (seen : Seen O Key Recon Cond) → IsGood m (λ c. c ≡ code) limit held table → IsLoadOf m code limit held seen → IsSaved code limit saved seen
+    loaded : (seen : Seen O Key Recon Cond) → IsGood m code limit held table → IsLoadOf m code limit held seen → IsSaved code limit saved seen
     loaded seen G (t, S, A) =
-        let e : t ≡ table = spelled_same m (λ c. c ≡ code) limit held t table S G.0 in
+        let e : t ≡ table = spelled_same m code limit held t table S G.0 in
         let was : sheets_of t ≡ sheets_in (image_of code saved.table) = ap (λ (x : Table). sheets_of x) e in
         record {
           table = A.loaded.table ∙ e;
@@ -88,9 +88,9 @@ module _ {O Key Recon Cond : Type 0} (m : Meaning Key Recon Cond) (code : ℕ) w
               ((λ p. b.0 (a.1 p)), (λ q. a.0 (b.1 q)));
         }
 
-    answer : (result : Result (Seen O Key Recon Cond) ImageRefused) → IsGood m (λ c. c ≡ code) limit held table → Answers limit held result → IsAnswer limit saved result
+    answer : (result : Result (Seen O Key Recon Cond) ImageRefused) → IsGood m code limit held table → Answers limit held result → IsAnswer limit saved result
     answer (Ok seen) G h = loaded seen G h
-    answer (Err (refused.BadImage b r)) G h = good_fails_none m (λ c. c ≡ code) limit held limit (record { block = b; reason = r }) table h G
+    answer (Err (refused.BadImage b r)) G h = good_fails_none m code limit held limit (record { block = b; reason = r }) table h G
     answer (Err refused.ImageFault) G h = tt
     answer (Err refused.Memory) G h = tt
 
@@ -112,24 +112,15 @@ abbrev AreNumbers : Image → Result Verified ImageRefused → Type 0
 AreNumbers i result = MatchResult result (λ v. v ≡ numbers_of i) (λ e. IfBad e (λ f. ⊥))
 
 -- two counts of one image are the same
-one_count : {Key Recon Cond : Type 0} (m : Meaning Key Recon Cond) (code : ℕ) (held : Option (List ℕ)) (v w : Verified) → IsVerified m (λ c. c ≡ code) held v → IsVerified m (λ c. c ≡ code) held w → v ≡ w
+one_count : {Key Recon Cond : Type 0} (m : Meaning Key Recon Cond) (code : ℕ) (held : Option (List ℕ)) (v w : Verified) → IsVerified m code held v → IsVerified m code held w → v ≡ w
 one_count m code held v w (t, G, a, b) (u, K, c, d) =
-    let e : t.pages ≡ u.pages = ap (λ (x : Table). x.pages) (spelled_same m (λ c. c ≡ code) 4 held t u G.0 K.0) in
+    let e : t.pages ≡ u.pages = ap (λ (x : Table). x.pages) (spelled_same m code 4 held t u G.0 K.0) in
     same_numbers v w (a ∙ ap (λ (ps : List Sheet). length ps) e ∙ sym c) (b ∙ ap lives_in e ∙ sym d)
 
 one_image : (held : Option (List ℕ)) (v w : Verified) → IsImageOf held v → IsImageOf held w → v ≡ w
-one_image held v w (a, e, V) (b, d, W) = by V.class
-  where
-    same : b ≡ a
-    same = same_bytes held b a d e
-
-    also : (n : ℕ) → code_in (page_at a 0) ≡ n → code_in (page_at b 0) ≡ n
-    also n q = ap (λ (x : List ℕ). code_in (page_at x 0)) same ∙ q
-
-    by : (code_in (page_at a 0) ≡ 1) ⊎ ((code_in (page_at a 0) ≡ 2) ⊎ (code_in (page_at a 0) ≡ 3)) → v ≡ w
-    by (inl q) = one_count quad_meaning 1 held v w (V.quad q) (W.quad (also 1 q))
-    by (inr (inl q)) = one_count kd_meaning 2 held v w (V.kd q) (W.kd (also 2 q))
-    by (inr (inr q)) = one_count radix_meaning 3 held v w (V.radix q) (W.radix (also 3 q))
+one_image held v w (c, V) (d, W) = of_any (v ≡ w) c
+    (of_both (λ Key Recon Cond m code. IsVerified m code held v) (λ Key Recon Cond m code. IsVerified m code held w) (λ Key Recon Cond m code. v ≡ w)
+    (λ Key Recon Cond m code V W. one_count m code held v w V W) c V (subst (λ (x : ImageClass). IsVerifiedAs held w x) (sym (same_class held v w c d V W)) W))
 
 numbers : (i : Image) (held : Option (List ℕ)) (result : Result Verified ImageRefused) → IsImageOf held (numbers_of i) → MatchResult result (λ v. IsImageOf held v) (λ e. IfBad e (λ f. IsBadImage held f)) → AreNumbers i result
 numbers i held (Ok v) G h = one_image held v (numbers_of i) h G

@@ -28,7 +28,7 @@ abbrev pub SavedLoads : (O Key Recon Cond : Type 0) → Meaning Key Recon Cond �
 SavedLoads O Key Recon Cond m code = (saved : Seen O Key Recon Cond) (old : Holding) (now : Option Holding) (name : List ℕ) (pages limit : ℕ) (result : Result (Seen O Key Recon Cond) ImageRefused)
     → Saves (image_of code saved.table) (Some old) now name (Ok pages)
     → Represents m (sheets_in (image_of code saved.table)) (IsPresentWith (past_of saved))
-    → Holds now name (λ held. MatchResult result (λ seen. IsLoadOf m code limit held seen) (λ e. IfBad e (λ f. FailsFirst m (λ c. c ≡ code) limit held f)))
+    → Holds now name (λ held. MatchResult result (λ seen. IsLoadOf m code limit held seen) (λ e. IfBad e (λ f. FailsFirst m code limit held f)))
     → MatchResult result (λ seen. IsSaved code limit saved seen) (λ e. IfBad e (λ f. ⊥))
 
 -- and what is verified are the numbers of the saved pages and live leaf tuples

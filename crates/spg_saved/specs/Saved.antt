@@ -1,14 +1,13 @@
 -- What an image that was saved is to who reads it: no clause fails.
-use Rattle.std.specs.Prelude.{◌≡◌, ℕ, ◌⊎◌, max, List, length, Some}
+use Rattle.std.specs.Prelude.{◌≡◌, ℕ, max, List, length, Some}
 use Rattle.spg_opclass.specs.Meaning.{Meaning}
-use Rattle.spg_quad.specs.Quad.{quad_meaning}
-use Rattle.spg_kd.specs.Kd.{kd_meaning}
-use Rattle.spg_radix.specs.Radix.{radix_meaning}
 use Rattle.spg_forest.specs.Shape.{Shape}
 use Rattle.spg_tree.specs.Table.{Table, table_with, with_meta}
 use Rattle.spg_verify.specs.declared.reading.Verified.{Verified}
 use Rattle.spg_verify.specs.Counts.{lives_in}
 use Rattle.spg_verify.specs.Verdict.{IsGood}
+use Rattle.spg_image.specs.declared.class.ImageClass.{ImageClass}
+use Rattle.spg_image.specs.Classes.{code_of, OfClass}
 use Rattle.spg_image.specs.Image.{Image, Reads, sheets_in}
 use Rattle.spg_image.specs.Verifying.{IsImageOf}
 
@@ -22,11 +21,11 @@ numbers_of i = record { pages = length i.pages; entries = lives_in i.pages }
 
 -- bytes that read as an image of well formed pages, of the class with this code, meet all clauses, and spell the image's table
 abbrev pub SavedIsGood : {Key Recon Cond : Type 0} → Meaning Key Recon Cond → ℕ → Type 0
-SavedIsGood m code = (i : Image) (bytes : List ℕ) (limit : ℕ) → Reads i bytes → i.class ≡ code → Shape m (sheets_in i) → IsGood m (λ c. c ≡ code) limit (Some bytes) (table_in limit i)
+SavedIsGood m code = (i : Image) (bytes : List ℕ) (limit : ℕ) → Reads i bytes → i.class ≡ code → Shape m (sheets_in i) → IsGood m code limit (Some bytes) (table_in limit i)
 
--- the class is one of the three, and the pages are well formed by it
+-- the class is one whose images are known, and the pages are well formed by it
 abbrev pub HasShape : Image → Type 0
-HasShape i = ((i.class ≡ 1) × Shape quad_meaning (sheets_in i)) ⊎ (((i.class ≡ 2) × Shape kd_meaning (sheets_in i)) ⊎ ((i.class ≡ 3) × Shape radix_meaning (sheets_in i)))
+HasShape i = (c : ImageClass) × (i.class ≡ code_of c) × OfClass (λ Key Recon Cond m code. Shape m (sheets_in i)) c
 
 -- so what is verified of them are the numbers of its pages and live leaf tuples
 abbrev pub SavedIsImage : Type 0

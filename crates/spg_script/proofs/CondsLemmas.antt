@@ -1,6 +1,7 @@
 -- Reading conditions one after another.
-use Rattle.std.proofs.Common.{◌≡◌, ◌<◌, ◌-◌, ℕ, suc, Bool, List, [], ◌∷◌, ◌++◌, length, Option, Some, None, refl, sym, ap, ◌∙◌, arith, length-append}
+use Rattle.std.proofs.Common.{◌≡◌, ◌<◌, ◌-◌, ℕ, suc, List, [], ◌∷◌, ◌++◌, length, Option, Some, None, refl, sym, ap, ◌∙◌, arith, length-append}
 use Rattle.std.proofs.lemmas.List.{append_assoc}
+use Rattle.spg_script.specs.declared.key_form.KeyForm.{KeyForm}
 use Rattle.spg_script.specs.declared.any_cond.AnyCond.{AnyCond}
 use Rattle.spg_script.specs.Reading.{first_cond_of, more_conds, put_before, conds_of}
 
@@ -12,33 +13,33 @@ one_before : (c : AnyCond) (more : List ℕ) (read : List ℕ → Option (List A
 one_before c more read None e = rw e refl
 one_before c more read (Some conds) e = rw e refl
 
-step : (texts : Bool) (n : ℕ) (rest more : List ℕ) (c : AnyCond) → first_cond_of texts rest ≡ Some (c, Some more) → conds_of texts (suc n) rest ≡ put_before (c ∷ []) (conds_of texts n more)
+step : (keys : KeyForm) (n : ℕ) (rest more : List ℕ) (c : AnyCond) → first_cond_of keys rest ≡ Some (c, Some more) → conds_of keys (suc n) rest ≡ put_before (c ∷ []) (conds_of keys n more)
 unfolding conds_of
-step texts n rest more c first = rw first (one_before c more (conds_of texts n) (conds_of texts n more) refl)
+step keys n rest more c first = rw first (one_before c more (conds_of keys n) (conds_of keys n more) refl)
 
-last : (texts : Bool) (n : ℕ) (rest : List ℕ) (c : AnyCond) → first_cond_of texts rest ≡ Some (c, None) → conds_of texts (suc n) rest ≡ Some (c ∷ [])
+last : (keys : KeyForm) (n : ℕ) (rest : List ℕ) (c : AnyCond) → first_cond_of keys rest ≡ Some (c, None) → conds_of keys (suc n) rest ≡ Some (c ∷ [])
 unfolding conds_of
-last texts n rest c first = rw first refl
+last keys n rest c first = rw first refl
 
-none : (texts : Bool) (n : ℕ) (rest : List ℕ) → first_cond_of texts rest ≡ None → conds_of texts (suc n) rest ≡ None
+none : (keys : KeyForm) (n : ℕ) (rest : List ℕ) → first_cond_of keys rest ≡ None → conds_of keys (suc n) rest ≡ None
 unfolding conds_of
-none texts n rest first = rw first refl
+none keys n rest first = rw first refl
 
-pub past_most : (texts : Bool) (rest : List ℕ) → conds_of texts 0 rest ≡ None
+pub past_most : (keys : KeyForm) (rest : List ℕ) → conds_of keys 0 rest ≡ None
 unfolding conds_of
-past_most texts rest = refl
+past_most keys rest = refl
 
-module _ (texts : Bool) (all : Option (List AnyCond)) (front : List AnyCond) (rest : List ℕ) (is : all ≡ put_before front (conds_of texts (8 - length front) rest)) (few : length front < 8) where
+module _ (keys : KeyForm) (all : Option (List AnyCond)) (front : List AnyCond) (rest : List ℕ) (is : all ≡ put_before front (conds_of keys (8 - length front) rest)) (few : length front < 8) where
   left : 8 - length front ≡ suc (7 - length front)
   left = omega arith
 
-  pub conds_none : first_cond_of texts rest ≡ None → all ≡ None
-  conds_none first = is ∙ rw left (rw (none texts (7 - length front) rest first) refl)
+  pub conds_none : first_cond_of keys rest ≡ None → all ≡ None
+  conds_none first = is ∙ rw left (rw (none keys (7 - length front) rest first) refl)
 
-  pub conds_last : (c : AnyCond) → first_cond_of texts rest ≡ Some (c, None) → all ≡ Some (front ++ c ∷ [])
-  conds_last c first = is ∙ rw left (rw (last texts (7 - length front) rest c first) refl)
+  pub conds_last : (c : AnyCond) → first_cond_of keys rest ≡ Some (c, None) → all ≡ Some (front ++ c ∷ [])
+  conds_last c first = is ∙ rw left (rw (last keys (7 - length front) rest c first) refl)
 
-  pub conds_more : (c : AnyCond) (more : List ℕ) → first_cond_of texts rest ≡ Some (c, Some more) → all ≡ put_before (front ++ c ∷ []) (conds_of texts (8 - length (front ++ c ∷ [])) more)
+  pub conds_more : (c : AnyCond) (more : List ℕ) → first_cond_of keys rest ≡ Some (c, Some more) → all ≡ put_before (front ++ c ∷ []) (conds_of keys (8 - length (front ++ c ∷ [])) more)
   conds_more c more first =
       let now : 8 - length (front ++ c ∷ []) ≡ 7 - length front = omega (arith, length-append front (c ∷ [])) in
-      is ∙ rw (left, now) (rw (step texts (7 - length front) rest more c first) (more_before front c (conds_of texts (7 - length front) more)))
+      is ∙ rw (left, now) (rw (step keys (7 - length front) rest more c first) (more_before front c (conds_of keys (7 - length front) more)))

@@ -1,13 +1,12 @@
 -- A script of inserts is read line by line.
-use Rattle.std.proofs.Common.{◌≡◌, ◌<◌, ◌⊎◌, inl, inr, ◌≤◌, ◌+◌, ◌-◌, ◌^◌, ℕ, suc, Bool, true, false, List, [], ◌∷◌, ◌++◌, length, map, take, drop, take-append-drop, Option, refl, sym, ap, ◌∙◌, subst, arith, append-nil, length-append}
-use Rattle.std.specs.Prelude.{codes, filter}
+use Rattle.std.proofs.Common.{◌≡◌, inl, inr, ◌+◌, ◌-◌, ℕ, suc, Bool, true, false, List, [], ◌∷◌, ◌++◌, length, map, take, drop, take-append-drop, refl, sym, ap, ◌∙◌, subst, arith, append-nil, length-append}
+use Rattle.std.specs.Prelude.{filter}
 use Rattle.std.specs.List.{AllZip, AllByRecursion}
 use Rattle.std.proofs.lemmas.Bool.{cases_lt}
 use Rattle.std.proofs.lemmas.List.{append_assoc, map-append, take_at, take_all}
-use Rattle.spg_base.specs.Row.{RowAt}
-use Rattle.spg_script.specs.declared.any_key.AnyKey.{AnyKey}
-use Rattle.spg_script.specs.declared.class_name.ClassName.{ClassName}
-use Rattle.spg_script.specs.declared.class_name.ClassName.TheVariants.{Quad}
+use Rattle.spg_script.specs.declared.key_form.KeyForm.{KeyForm}
+use Rattle.spg_script.specs.declared.class_line.ClassLine.{ClassLine}
+use Rattle.spg_script.specs.declared.class_line.ClassLine.TheVariants.{Quad}
 use Rattle.spg_script.specs.declared.command.Command.{Command}
 use Rattle.spg_script.specs.declared.command.Command.TheVariants.{Insert}
 use Rattle.spg_script.specs.declared.inserts.Insert.{Insert as Inserted}
@@ -15,33 +14,34 @@ use Rattle.spg_script.specs.declared.inserts.Inserts.{Inserts}
 use Rattle.spg_script.specs.declared.inserts.InsertReader.{InsertReader}
 use Rattle.spg_script.specs.declared.inserts.InsertReader.TheVariants.{Start, Named}
 use Rattle.spg_script.specs.declared.refused.ScriptRefused.TheVariants.{BadLine}
-use Rattle.spg_script.specs.Blocks.{Part, Script}
+use Rattle.spg_script.specs.Blocks.{Part}
 use Rattle.spg_script.specs.Spelling.{class_text}
-use Rattle.spg_script.specs.Line.{has_texts, SpellsCommand}
-use Rattle.spg_script.specs.Script.{lines_of, says_something, says, sayings, IsPart, Spells, AreSpoken, AreLines, IsScript}
+use Rattle.spg_script.specs.Line.{keys_of, SpellsCommand}
+use Rattle.spg_script.specs.Script.{lines_of, says_something, says, sayings, IsPart, Spells, AreSpoken, AreLines}
 use Rattle.spg_script.specs.Reader.{Place, at_start, between, SaysFrom, LeadTo, script_at}
 use Rattle.spg_script.specs.Inserts.{insert_part, script_of, IsInserts, CanInsertOn, IsFirstOther, IsInsertCause, insert_place, RefusesInsert, TakesInsert, StepsByInsert, GoesOnByInsert}
-use Rattle.spg_script.proofs.Scripts.{same_class, one_saying, same_command}
+use Rattle.spg_script.proofs.ClassLines.{same_class}
+use Rattle.spg_script.proofs.Scripts.{one_saying, same_command}
 use Rattle.spg_script.proofs.Places.{spoken_with, go_on}
 use Rattle.spg_script.proofs.ReadLines.{ReadSoFar}
 
 -- ---- one line
 
-pub insert_taken : (class : ClassName) (rows longer : List Inserted) (i : Inserted) (line : List ℕ) → longer ≡ rows ++ i ∷ [] → SpellsCommand (has_texts class) (Insert i.row i.key) line
+pub insert_taken : (class : ClassLine) (rows longer : List Inserted) (i : Inserted) (line : List ℕ) → longer ≡ rows ++ i ∷ [] → SpellsCommand (keys_of class) (Insert i.row i.key) line
     → StepsByInsert (between class (map insert_part rows)) line true (between class (map insert_part longer))
 insert_taken class rows longer i line pushed spelled =
     let all : map insert_part longer ≡ map insert_part rows ++ insert_part i ∷ [] = ap (map insert_part) pushed ∙ map-append insert_part rows (i ∷ []) in
     λ spoken lead. subst (λ (parts : List Part). LeadTo (between class parts) (spoken ++ line ∷ [])) (sym all) (go_on.command class (map insert_part rows) (Insert i.row i.key) spoken line lead spelled)
 
 -- a line that says a command that is taken leads on, and one that says another is no insert
-pub insert_steps : (old new : Inserts) (c : Command) (line : List ℕ) (taken : Bool) → SpellsCommand (has_texts old.class) c line → TakesInsert old c taken new → StepsByInsert (between old.class (map insert_part old.rows)) line taken (between new.class (map insert_part new.rows))
+pub insert_steps : (old new : Inserts) (c : Command) (line : List ℕ) (taken : Bool) → SpellsCommand (keys_of old.class) c line → TakesInsert old c taken new → StepsByInsert (between old.class (map insert_part old.rows)) line taken (between new.class (map insert_part new.rows))
 insert_steps old new c line true spelled (row, key, is, same, pushed) =
-    let insert : SpellsCommand (has_texts old.class) (Insert row key) line = subst (λ (d : Command). SpellsCommand (has_texts old.class) d line) is spelled in
-    subst (λ (k : ClassName). StepsByInsert (between old.class (map insert_part old.rows)) line true (between k (map insert_part new.rows))) (sym same)
+    let insert : SpellsCommand (keys_of old.class) (Insert row key) line = subst (λ (d : Command). SpellsCommand (keys_of old.class) d line) is spelled in
+    subst (λ (k : ClassLine). StepsByInsert (between old.class (map insert_part old.rows)) line true (between k (map insert_part new.rows))) (sym same)
     (insert_taken old.class old.rows new.rows (record { row = row; key = key }) line pushed insert)
-insert_steps old new c line false spelled other = λ row key insert. other row key (same_command c (Insert row key) (one_saying (has_texts old.class) (says c) (says (Insert row key)) line spelled insert))
+insert_steps old new c line false spelled other = λ row key insert. other row key (same_command c (Insert row key) (one_saying (keys_of old.class) (says c) (says (Insert row key)) line spelled insert))
 
-pub class_taken : (class : ClassName) (rows : List Inserted) (line : List ℕ) → rows ≡ [] → line ≡ class_text class → says_something line ≡ true → GoesOnByInsert at_start line true (between class (map insert_part rows))
+pub class_taken : (class : ClassLine) (rows : List Inserted) (line : List ℕ) → rows ≡ [] → line ≡ class_text class → says_something line ≡ true → GoesOnByInsert at_start line true (between class (map insert_part rows))
 class_taken class rows line none is some = λ lines lead.
     subst (λ (r : List Inserted). LeadTo (between class (map insert_part r)) (filter says_something (lines ++ line ∷ []))) (sym none)
     (go_on.spoken (between class []) lines line some (subst (λ (l : List ℕ). LeadTo (between class []) (filter says_something lines ++ l ∷ [])) (sym is) (go_on.class class (filter says_something lines) lead)))
@@ -55,7 +55,7 @@ takes_nothing p line none = λ lines lead. go_on.silent p lines line none lead
 
 -- ---- what some script of inserts begins with
 
-said_script : (class : ClassName) (parts : List Part) (spoken : List (List ℕ)) → SaysFrom class (sayings parts) spoken → AllByRecursion IsPart parts → AreSpoken spoken (script_at class parts)
+said_script : (class : ClassLine) (parts : List Part) (spoken : List (List ℕ)) → SaysFrom class (sayings parts) spoken → AllByRecursion IsPart parts → AreSpoken spoken (script_at class parts)
 said_script class parts [] said are = said
 said_script class parts (line ∷ lines) said are = (said.0, are, said.1)
 
@@ -67,11 +67,11 @@ goes_on (Named i) lines lead =
     ([], i, subst (λ (l : List (List ℕ)). AreLines l (script_of i)) (sym (append-nil lines)) (said_script i.class (map insert_part i.rows) (filter says_something lines) lead.0 lead.1))
 
 -- each line behind the class line is an insert
-said_next : (texts : Bool) (rows : List Inserted) (lines : List (List ℕ)) (line : List ℕ) (rest : List (List ℕ)) → AllZip (Spells texts) (sayings (map insert_part rows)) (lines ++ line ∷ rest) → (i : Inserted) × SpellsCommand texts (Insert i.row i.key) line
-said_next texts [] [] line rest a = absurd a
-said_next texts [] (l ∷ lines) line rest a = absurd a
-said_next texts (i ∷ rows) [] line rest a = (i, a.0)
-said_next texts (i ∷ rows) (l ∷ lines) line rest a = said_next texts rows lines line rest a.1
+said_next : (keys : KeyForm) (rows : List Inserted) (lines : List (List ℕ)) (line : List ℕ) (rest : List (List ℕ)) → AllZip (Spells keys) (sayings (map insert_part rows)) (lines ++ line ∷ rest) → (i : Inserted) × SpellsCommand keys (Insert i.row i.key) line
+said_next keys [] [] line rest a = absurd a
+said_next keys [] (l ∷ lines) line rest a = absurd a
+said_next keys (i ∷ rows) [] line rest a = (i, a.0)
+said_next keys (i ∷ rows) (l ∷ lines) line rest a = said_next keys rows lines line rest a.1
 
 bad : (r : InsertReader) (lines : List (List ℕ)) (line : List ℕ) → LeadTo (insert_place r) (filter says_something lines) → says_something line ≡ true → RefusesInsert (insert_place r) line → CanInsertOn (lines ++ line ∷ []) → ⊥
 bad Start lines line lead some refuses (more, i, are) =
@@ -82,8 +82,8 @@ bad (Named x) lines line lead some refuses (more, i, are) = by (filter says_some
     by [] said are = said
     by (l ∷ ls) said are =
         let same : i.class ≡ x.class = same_class i.class x.class (sym are.0 ∙ said.0) in
-        let next = said_next (has_texts i.class) i.rows ls line (filter says_something more) are.2 in
-        refuses next.0.row next.0.key (subst (λ (k : ClassName). SpellsCommand (has_texts k) (Insert next.0.row next.0.key) line) same next.1)
+        let next = said_next (keys_of i.class) i.rows ls line (filter says_something more) are.2 in
+        refuses next.0.row next.0.key (subst (λ (k : ClassLine). SpellsCommand (keys_of k) (Insert next.0.row next.0.key) line) same next.1)
 
 first_other : (r : InsertReader) (bytes : List ℕ) (lines : List (List ℕ)) (line : List ℕ) (rest : List (List ℕ)) → lines_of bytes ≡ lines ++ line ∷ rest → LeadTo (insert_place r) (filter says_something lines) → says_something line ≡ true → RefusesInsert (insert_place r) line
     → IsFirstOther bytes (length lines + 1)

@@ -14,8 +14,10 @@ use Rattle.std.proofs.lemmas.Grind.{flat_map-append}
 use Rattle.spg_base.specs.Text.{row_text, point_text}
 use Rattle.spg_radix.specs.Texts.{is_bytes, is_text}
 use Rattle.spg_radix.specs.TextLemmas.{bytes_append, text_from}
+use Rattle.spg_script.specs.declared.key_form.KeyForm.{KeyForm}
+use Rattle.spg_script.specs.declared.key_form.KeyForm.TheVariants as form
 use Rattle.spg_script.specs.declared.class_name.ClassName.{ClassName}
-use Rattle.spg_script.specs.declared.class_name.ClassName.TheVariants.{Quad, Kd, Radix}
+use Rattle.spg_script.specs.declared.class_name.ClassName.TheVariants.{Quad, Kd, Radix, Range}
 use Rattle.spg_script.specs.declared.command.Command.{Command}
 use Rattle.spg_script.specs.declared.command.Command.TheVariants.{Insert, Delete, Find, Vacuum}
 use Rattle.spg_script.specs.declared.any_query.AnyQuery.{AnyQuery}
@@ -23,11 +25,11 @@ use Rattle.spg_script.specs.declared.any_query.AnyQuery.TheVariants.{All}
 use Rattle.spg_script.specs.Blocks.{Part, alone_part, block_part}
 use Rattle.spg_script.specs.Quoted.{is_plain, hex_digit, byte_text, quoted}
 use Rattle.spg_script.specs.Spelling.{class_text, IsRow, IsPoint}
-use Rattle.spg_script.specs.Line.{has_texts}
+use Rattle.spg_script.specs.Line.{keys_of}
 use Rattle.spg_script.specs.Laws.{IsAnyKey, IsCommand}
 use Rattle.spg_script.specs.Speech.{any_key_text}
 use Rattle.spg_script.specs.Script.{Saying, block_ends, says, lane_sayings, sayings, saying_text, command_text, printed, IsLaneCommand, IsTidy, IsWritten}
-use Rattle.spg_script.specs.Generated.{load_x, load_y, three_digits, address, load_key, load_row, changes, numbers_of, load_lane, watching_lane, load_lanes, first_query, second_query, load_parts}
+use Rattle.spg_script.specs.Generated.{load_class, load_x, load_y, three_digits, address, load_key, load_row, changes, numbers_of, load_lane, watching_lane, load_lanes, first_query, second_query, load_parts}
 use Rattle.spg_script.proofs.Tidy.{AreBytes, are_bytes, bytes_are}
 use Rattle.spg_script.proofs.Scripts.{exact}
 
@@ -148,7 +150,7 @@ address_bytes x y a b =
 
 -- a command's key is one of the class, and its text is short
 record IsShortKey (class : ClassName) (seed i : ℕ) : Type 0 where
-  key : IsAnyKey (has_texts class) (load_key class seed i)
+  key : IsAnyKey (keys_of (load_class class)) (load_key class seed i)
   text : IsShort 82 (any_key_text (load_key class seed i))
 
 point_short : (x y : ℕ) → x < 1000 → y < 1000 → IsShort 82 (point_text (record { x = pos x; y = pos y }))
@@ -166,22 +168,23 @@ text_short : (x y : ℕ) → x < 1000 → y < 1000 → IsShort 82 (quoted (addre
 text_short x y a b = quoted_short 82 (address x y) (address_bytes x y a b) (omega arith)
 
 key_short : (class : ClassName) (seed i : ℕ) → IsShortKey class seed i
-key_short Quad seed i = record { key = point_is (load_x seed i) (load_y seed i) (omega arith) (omega arith); text = point_short (load_x seed i) (load_y seed i) (omega arith) (omega arith) }
-key_short Kd seed i = record { key = point_is (load_x seed i) (load_y seed i) (omega arith) (omega arith); text = point_short (load_x seed i) (load_y seed i) (omega arith) (omega arith) }
-key_short Radix seed i = record { key = text_is (load_x seed i) (load_y seed i) (omega arith) (omega arith); text = text_short (load_x seed i) (load_y seed i) (omega arith) (omega arith) }
+key_short Quad seed i = record { key = (refl, point_is (load_x seed i) (load_y seed i) (omega arith) (omega arith)); text = point_short (load_x seed i) (load_y seed i) (omega arith) (omega arith) }
+key_short Kd seed i = record { key = (refl, point_is (load_x seed i) (load_y seed i) (omega arith) (omega arith)); text = point_short (load_x seed i) (load_y seed i) (omega arith) (omega arith) }
+key_short Radix seed i = record { key = (refl, text_is (load_x seed i) (load_y seed i) (omega arith) (omega arith)); text = text_short (load_x seed i) (load_y seed i) (omega arith) (omega arith) }
+key_short Range seed i = record { key = (refl, tt); text = record { bytes = refl; short = omega arith } }
 
 -- ---- commands
 
 -- a command may stand in a lane, is one of the class, and its line is short
-record IsFit (texts : Bool) (c : Command) : Type 0 where
+record IsFit (keys : KeyForm) (c : Command) : Type 0 where
   lane : IsLaneCommand c
-  command : IsCommand texts c
+  command : IsCommand keys c
   text : IsShort 100 (command_text c)
 
 row_is : (i : ℕ) → i < 200000 → IsRow (load_row i)
 row_is i few = record { block = omega arith; positive = omega arith; offset = omega arith }
 
-insert_fits : (class : ClassName) (seed i : ℕ) → i < 200000 → IsFit (has_texts class) (Insert (load_row i) (Some (load_key class seed i)))
+insert_fits : (class : ClassName) (seed i : ℕ) → i < 200000 → IsFit (keys_of (load_class class)) (Insert (load_row i) (Some (load_key class seed i)))
 insert_fits class seed i few =
     let key = key_short class seed i in
     let tail : IsShort 83 (32 ∷ any_key_text (load_key class seed i)) = shorts 1 82 83 (32 ∷ []) (any_key_text (load_key class seed i)) (record { bytes = refl; short = omega arith }) key.text (omega arith) in
@@ -192,18 +195,18 @@ insert_fits class seed i few =
       text = shorts 7 92 100 (codes "insert ") (row_text (load_row i) ++ 32 ∷ any_key_text (load_key class seed i)) (record { bytes = refl; short = omega arith }) back (omega arith);
     }
 
-delete_fits : (texts : Bool) (i : ℕ) → i < 200000 → IsFit texts (Delete (load_row i))
-delete_fits texts i few = record {
+delete_fits : (keys : KeyForm) (i : ℕ) → i < 200000 → IsFit keys (Delete (load_row i))
+delete_fits keys i few = record {
   lane = tt;
   command = row_is i few;
   text = shorts 7 9 100 (codes "delete ") (row_text (load_row i)) (record { bytes = refl; short = omega arith }) (row_short i few) (omega arith);
 }
 
-changes_fit : (class : ClassName) (seed i : ℕ) → i < 200000 → AllByRecursion (IsFit (has_texts class)) (changes class seed i)
+changes_fit : (class : ClassName) (seed i : ℕ) → i < 200000 → AllByRecursion (IsFit (keys_of (load_class class))) (changes class seed i)
 changes_fit class seed i few = (insert_fits class seed i few, go (i % 3 == 2))
   where
-    go : (t : Bool) → AllByRecursion (IsFit (has_texts class)) (cond t (Delete (load_row i) ∷ []) [])
-    go true = (delete_fits (has_texts class) i few, tt)
+    go : (t : Bool) → AllByRecursion (IsFit (keys_of (load_class class))) (cond t (Delete (load_row i) ∷ []) [])
+    go true = (delete_fits (keys_of (load_class class)) i few, tt)
     go false = tt
 
 changes_few : (class : ClassName) (seed i : ℕ) → length (changes class seed i) ≤ 2
@@ -231,43 +234,43 @@ numbers_few p a (suc n) = go (p a) (numbers_few p (a + 1) n)
     go true rest = omega (arith, rest)
     go false rest = omega (arith, rest)
 
-all_fit : (class : ClassName) (seed : ℕ) (is : List ℕ) → AllByRecursion (λ i. i < 200000) is → AllByRecursion (IsFit (has_texts class)) (flat_map (changes class seed) is)
+all_fit : (class : ClassName) (seed : ℕ) (is : List ℕ) → AllByRecursion (λ i. i < 200000) is → AllByRecursion (IsFit (keys_of (load_class class))) (flat_map (changes class seed) is)
 all_fit class seed [] below = tt
-all_fit class seed (i ∷ is) below = each_both (IsFit (has_texts class)) (changes class seed i) (flat_map (changes class seed) is) (changes_fit class seed i below.0) (all_fit class seed is below.1)
+all_fit class seed (i ∷ is) below = each_both (IsFit (keys_of (load_class class))) (changes class seed i) (flat_map (changes class seed) is) (changes_fit class seed i below.0) (all_fit class seed is below.1)
 
 all_few : (class : ClassName) (seed : ℕ) (is : List ℕ) → length (flat_map (changes class seed) is) ≤ 2 * length is
 all_few class seed [] = omega arith
 all_few class seed (i ∷ is) = omega (arith, length-append (changes class seed i) (flat_map (changes class seed) is), changes_few class seed i, all_few class seed is)
 
 -- each command of a lane is fit, and it has at most 400,000
-record IsFitLane (texts : Bool) (lane : List Command) : Type 0 where
-  each : AllByRecursion (IsFit texts) lane
+record IsFitLane (keys : KeyForm) (lane : List Command) : Type 0 where
+  each : AllByRecursion (IsFit keys) lane
   few : length lane ≤ 400000
 
-lane_fits : (class : ClassName) (count seed lanes l : ℕ) → count ≤ 200000 → IsFitLane (has_texts class) (load_lane class count seed lanes l)
+lane_fits : (class : ClassName) (count seed lanes l : ℕ) → count ≤ 200000 → IsFitLane (keys_of (load_class class)) (load_lane class count seed lanes l)
 unfolding load_lane
 lane_fits class count seed lanes l fits = record {
   each = all_fit class seed (numbers_of count lanes l) (numbers_below (λ i. i % lanes == l) 0 count 200000 (omega (arith, fits)));
   few = omega (arith, all_few class seed (numbers_of count lanes l), numbers_few (λ i. i % lanes == l) 0 count, fits);
 }
 
-lane_list : (class : ClassName) (count seed lanes : ℕ) (ls : List ℕ) → count ≤ 200000 → AllByRecursion (IsFitLane (has_texts class)) (map (load_lane class count seed lanes) ls)
+lane_list : (class : ClassName) (count seed lanes : ℕ) (ls : List ℕ) → count ≤ 200000 → AllByRecursion (IsFitLane (keys_of (load_class class))) (map (load_lane class count seed lanes) ls)
 lane_list class count seed lanes [] fits = tt
 lane_list class count seed lanes (l ∷ ls) fits = (lane_fits class count seed lanes l fits, lane_list class count seed lanes ls fits)
 
-plain_fits : (texts : Bool) (c : Command) → IsLaneCommand c → IsCommand texts c → is_bytes (command_text c) ≡ true → length (command_text c) ≤ 100 → IsFit texts c
-plain_fits texts c lane command bytes short = record { lane = lane; command = command; text = record { bytes = bytes; short = short } }
+plain_fits : (keys : KeyForm) (c : Command) → IsLaneCommand c → IsCommand keys c → is_bytes (command_text c) ≡ true → length (command_text c) ≤ 100 → IsFit keys c
+plain_fits keys c lane command bytes short = record { lane = lane; command = command; text = record { bytes = bytes; short = short } }
 
-watching_fits : (texts : Bool) → IsFitLane texts watching_lane
-watching_fits texts =
-    let vacuum = plain_fits texts Vacuum tt tt refl (omega arith) in
-    let find = plain_fits texts (Find All) tt tt refl (omega arith) in
+watching_fits : (keys : KeyForm) → IsFitLane keys watching_lane
+watching_fits keys =
+    let vacuum = plain_fits keys Vacuum tt tt refl (omega arith) in
+    let find = plain_fits keys (Find All) tt tt refl (omega arith) in
     record { each = (vacuum, (find, (vacuum, (find, tt)))); few = omega arith }
 
-lanes_fit : (class : ClassName) (count seed lanes : ℕ) → count ≤ 200000 → AllByRecursion (IsFitLane (has_texts class)) (load_lanes class count seed lanes)
+lanes_fit : (class : ClassName) (count seed lanes : ℕ) → count ≤ 200000 → AllByRecursion (IsFitLane (keys_of (load_class class))) (load_lanes class count seed lanes)
 unfolding load_lanes
 lanes_fit class count seed lanes fits =
-    each_both (IsFitLane (has_texts class)) (map (load_lane class count seed lanes) (range_with_len 0 lanes)) (watching_lane ∷ []) (lane_list class count seed lanes (range_with_len 0 lanes) fits) (watching_fits (has_texts class), tt)
+    each_both (IsFitLane (keys_of (load_class class))) (map (load_lane class count seed lanes) (range_with_len 0 lanes)) (watching_lane ∷ []) (lane_list class count seed lanes (range_with_len 0 lanes) fits) (watching_fits (keys_of (load_class class)), tt)
 
 lanes_count : (class : ClassName) (count seed lanes : ℕ) → length (load_lanes class count seed lanes) ≡ lanes + 1
 unfolding load_lanes
@@ -283,22 +286,22 @@ weaker P Q (x ∷ xs) f each = (f x each.0, weaker P Q xs f each.1)
 abbrev IsShortSaying : Saying → Type 0
 IsShortSaying s = IsShort 100 (saying_text s)
 
-lane_short : (texts : Bool) (lane : List Command) → AllByRecursion (IsFit texts) lane → AllByRecursion IsShortSaying (map says lane)
-lane_short texts [] each = tt
-lane_short texts (c ∷ lane) each = (each.0.text, lane_short texts lane each.1)
+lane_short : (keys : KeyForm) (lane : List Command) → AllByRecursion (IsFit keys) lane → AllByRecursion IsShortSaying (map says lane)
+lane_short keys [] each = tt
+lane_short keys (c ∷ lane) each = (each.0.text, lane_short keys lane each.1)
 
-lanes_short : (texts : Bool) (lanes : List (List Command)) → AllByRecursion (IsFitLane texts) lanes → AllByRecursion IsShortSaying (lane_sayings lanes)
-lanes_short texts [] each = tt
-lanes_short texts (lane ∷ lanes) each =
-    (record { bytes = refl; short = omega arith }, each_both IsShortSaying (map says lane) (lane_sayings lanes) (lane_short texts lane each.0.each) (lanes_short texts lanes each.1))
+lanes_short : (keys : KeyForm) (lanes : List (List Command)) → AllByRecursion (IsFitLane keys) lanes → AllByRecursion IsShortSaying (lane_sayings lanes)
+lanes_short keys [] each = tt
+lanes_short keys (lane ∷ lanes) each =
+    (record { bytes = refl; short = omega arith }, each_both IsShortSaying (map says lane) (lane_sayings lanes) (lane_short keys lane each.0.each) (lanes_short keys lanes each.1))
 
 said_count : (lane : List Command) → length (map says lane) ≡ length lane
 said_count [] = refl
 said_count (c ∷ lane) = ap suc (said_count lane)
 
-lanes_few : (texts : Bool) (lanes : List (List Command)) → AllByRecursion (IsFitLane texts) lanes → length (lane_sayings lanes) ≤ 400001 * length lanes
-lanes_few texts [] each = omega arith
-lanes_few texts (lane ∷ lanes) each = omega (arith, length-append (map says lane) (lane_sayings lanes), said_count lane, each.0.few, lanes_few texts lanes each.1)
+lanes_few : (keys : KeyForm) (lanes : List (List Command)) → AllByRecursion (IsFitLane keys) lanes → length (lane_sayings lanes) ≤ 400001 * length lanes
+lanes_few keys [] each = omega arith
+lanes_few keys (lane ∷ lanes) each = omega (arith, length-append (map says lane) (lane_sayings lanes), said_count lane, each.0.few, lanes_few keys lanes each.1)
 
 lines_short : (ss : List Saying) → AllByRecursion IsShortSaying ss → IsShort (101 * length ss) (flat_map (λ line. line ++ 10 ∷ []) (map saying_text ss))
 lines_short [] each = record { bytes = refl; short = omega arith }
@@ -321,52 +324,55 @@ side_short word n is small =
     let query : IsShort 15 ((codes "where " ++ (word ++ decimal n)) ++ []) = shorts 15 0 15 (codes "where " ++ (word ++ decimal n)) [] conds (record { bytes = refl; short = omega arith }) (omega arith) in
     shorts 5 15 100 (codes "find ") ((codes "where " ++ (word ++ decimal n)) ++ []) (record { bytes = refl; short = omega arith }) query (omega arith)
 
-left_fits : IsFit false (Find (first_query Quad))
-left_fits = record { lane = tt; command = ((left_is, tt), omega arith, omega arith); text = side_short (codes "left ") 100 (record { bytes = refl; short = omega arith }) (omega arith) }
+left_fits : IsFit form.Point (Find (first_query Quad))
+left_fits = record { lane = tt; command = (((refl, left_is), tt), omega arith, omega arith); text = side_short (codes "left ") 100 (record { bytes = refl; short = omega arith }) (omega arith) }
 
-below_fits : IsFit false (Find (second_query Quad))
-below_fits = record { lane = tt; command = ((below_is, tt), omega arith, omega arith); text = side_short (codes "below ") 500 (record { bytes = refl; short = omega arith }) (omega arith) }
+below_fits : IsFit form.Point (Find (second_query Quad))
+below_fits = record { lane = tt; command = (((refl, below_is), tt), omega arith, omega arith); text = side_short (codes "below ") 500 (record { bytes = refl; short = omega arith }) (omega arith) }
 
-first_fits : (class : ClassName) → IsFit (has_texts class) (Find (first_query class))
+first_fits : (class : ClassName) → IsFit (keys_of (load_class class)) (Find (first_query class))
 first_fits Quad = left_fits
 first_fits Kd = left_fits
-first_fits Radix = plain_fits true (Find (first_query Radix)) tt ((refl, tt), omega arith, omega arith) refl (omega arith)
+first_fits Radix = plain_fits form.Text (Find (first_query Radix)) tt (((refl, refl), tt), omega arith, omega arith) refl (omega arith)
+first_fits Range = plain_fits form.Range (Find All) tt tt refl (omega arith)
 
-second_fits : (class : ClassName) → IsFit (has_texts class) (Find (second_query class))
+second_fits : (class : ClassName) → IsFit (keys_of (load_class class)) (Find (second_query class))
 second_fits Quad = below_fits
 second_fits Kd = below_fits
-second_fits Radix = plain_fits true (Find (second_query Radix)) tt ((refl, tt), omega arith, omega arith) refl (omega arith)
+second_fits Radix = plain_fits form.Text (Find (second_query Radix)) tt (((refl, refl), tt), omega arith, omega arith) refl (omega arith)
+second_fits Range = plain_fits form.Range (Find All) tt tt refl (omega arith)
 
 -- a command outside lanes
-alone_short : (texts : Bool) (c : Command) (ss : List Saying) → IsFit texts c → AllByRecursion IsShortSaying ss → AllByRecursion IsShortSaying (says c ∷ ss)
-alone_short texts c ss fits rest = (fits.text, rest)
+alone_short : (keys : KeyForm) (c : Command) (ss : List Saying) → IsFit keys c → AllByRecursion IsShortSaying ss → AllByRecursion IsShortSaying (says c ∷ ss)
+alone_short keys c ss fits rest = (fits.text, rest)
 
-class_short : (class : ClassName) → IsShort 101 (class_text class ++ 10 ∷ [])
+class_short : (class : ClassName) → IsShort 101 (class_text (load_class class) ++ 10 ∷ [])
 class_short Quad = record { bytes = refl; short = omega arith }
 class_short Kd = record { bytes = refl; short = omega arith }
 class_short Radix = record { bytes = refl; short = omega arith }
+class_short Range = record { bytes = refl; short = omega arith }
 
 module _ (class : ClassName) (count seed lanes : ℕ) (fits : count ≤ 200000) (few : lanes ≤ 16) where
   all_lanes : List (List Command)
   all_lanes = load_lanes class count seed lanes
 
-  each_lane : AllByRecursion (IsFitLane (has_texts class)) (load_lanes class count seed lanes)
+  each_lane : AllByRecursion (IsFitLane (keys_of (load_class class))) (load_lanes class count seed lanes)
   each_lane = lanes_fit class count seed lanes fits
 
-  vacuum_fits : IsFit (has_texts class) Vacuum
-  vacuum_fits = plain_fits (has_texts class) Vacuum tt tt refl (omega arith)
+  vacuum_fits : IsFit (keys_of (load_class class)) Vacuum
+  vacuum_fits = plain_fits (keys_of (load_class class)) Vacuum tt tt refl (omega arith)
 
-  all_fits : IsFit (has_texts class) (Find All)
-  all_fits = plain_fits (has_texts class) (Find All) tt tt refl (omega arith)
+  all_fits : IsFit (keys_of (load_class class)) (Find All)
+  all_fits = plain_fits (keys_of (load_class class)) (Find All) tt tt refl (omega arith)
 
-  is_tidy : IsTidy (record { class = class; parts = load_parts class count seed lanes })
+  is_tidy : IsTidy (record { class = load_class class; parts = load_parts class count seed lanes })
   is_tidy = record {
     parts = (
-      (omega (arith, lanes_count class count seed lanes), omega (arith, lanes_count class count seed lanes, few), weaker (IsFitLane (has_texts class)) (AllByRecursion IsLaneCommand) (load_lanes class count seed lanes) (λ lane is. weaker (IsFit (has_texts class)) IsLaneCommand lane (λ c f. f.lane) is.each) each_lane),
+      (omega (arith, lanes_count class count seed lanes), omega (arith, lanes_count class count seed lanes, few), weaker (IsFitLane (keys_of (load_class class))) (AllByRecursion IsLaneCommand) (load_lanes class count seed lanes) (λ lane is. weaker (IsFit (keys_of (load_class class))) IsLaneCommand lane (λ c f. f.lane) is.each) each_lane),
       ((Vacuum, refl), ((Find All, refl), ((Find (first_query class), refl), ((Find (second_query class), refl), tt)))),
     );
     commands = (
-      weaker (IsFitLane (has_texts class)) (AllByRecursion (IsCommand (has_texts class))) (load_lanes class count seed lanes) (λ lane is. weaker (IsFit (has_texts class)) (IsCommand (has_texts class)) lane (λ c f. f.command) is.each) each_lane,
+      weaker (IsFitLane (keys_of (load_class class))) (AllByRecursion (IsCommand (keys_of (load_class class)))) (load_lanes class count seed lanes) (λ lane is. weaker (IsFit (keys_of (load_class class))) (IsCommand (keys_of (load_class class))) lane (λ c f. f.command) is.each) each_lane,
       (((vacuum_fits.command, tt), tt), (((all_fits.command, tt), tt), ((((first_fits class).command, tt), tt), ((((second_fits class).command, tt), tt), tt)))),
     );
   }
@@ -378,7 +384,7 @@ module _ (class : ClassName) (count seed lanes : ℕ) (fits : count ≤ 200000) 
   said_short : AllByRecursion IsShortSaying (sayings (load_parts class count seed lanes))
   said_short =
       let rest : AllByRecursion IsShortSaying (says Vacuum ∷ says (Find All) ∷ says (Find (first_query class)) ∷ says (Find (second_query class)) ∷ []) = (vacuum_fits.text, (all_fits.text, ((first_fits class).text, ((second_fits class).text, tt)))) in
-      let block : AllByRecursion IsShortSaying (lane_sayings (load_lanes class count seed lanes) ++ block_ends ∷ []) = each_both IsShortSaying (lane_sayings (load_lanes class count seed lanes)) (block_ends ∷ []) (lanes_short (has_texts class) (load_lanes class count seed lanes) each_lane) (record { bytes = refl; short = omega arith }, tt) in
+      let block : AllByRecursion IsShortSaying (lane_sayings (load_lanes class count seed lanes) ++ block_ends ∷ []) = each_both IsShortSaying (lane_sayings (load_lanes class count seed lanes)) (block_ends ∷ []) (lanes_short (keys_of (load_class class)) (load_lanes class count seed lanes) each_lane) (record { bytes = refl; short = omega arith }, tt) in
       (record { bytes = refl; short = omega arith }, each_both IsShortSaying (lane_sayings (load_lanes class count seed lanes) ++ block_ends ∷ []) _ block rest)
 
   said_few : length (sayings (load_parts class count seed lanes)) ≤ 7000000
@@ -386,18 +392,18 @@ module _ (class : ClassName) (count seed lanes : ℕ) (fits : count ≤ 200000) 
     arith,
     length-append (lane_sayings (load_lanes class count seed lanes) ++ block_ends ∷ []) (says Vacuum ∷ says (Find All) ∷ says (Find (first_query class)) ∷ says (Find (second_query class)) ∷ []),
     length-append (lane_sayings (load_lanes class count seed lanes)) (block_ends ∷ []),
-    lanes_few (has_texts class) (load_lanes class count seed lanes) each_lane,
+    lanes_few (keys_of (load_class class)) (load_lanes class count seed lanes) each_lane,
     lanes_count class count seed lanes,
     few,
   )
 
-  pub load_written : IsWritten (record { class = class; parts = load_parts class count seed lanes })
+  pub load_written : IsWritten (record { class = load_class class; parts = load_parts class count seed lanes })
   load_written =
       let lines : IsShort (101 * length (sayings (load_parts class count seed lanes))) (flat_map (λ line. line ++ 10 ∷ []) (map saying_text (sayings (load_parts class count seed lanes)))) = lines_short (sayings (load_parts class count seed lanes)) said_short in
-      let text : IsShort (2 ^ 32 - 2) (printed (record { class = class; parts = load_parts class count seed lanes })) = shorts 101 (101 * length (sayings (load_parts class count seed lanes))) (2 ^ 32 - 2) (class_text class ++ 10 ∷ []) (flat_map (λ line. line ++ 10 ∷ []) (map saying_text (sayings (load_parts class count seed lanes)))) (class_short class) lines (omega (arith, said_few)) in
+      let text : IsShort (2 ^ 32 - 2) (printed (record { class = load_class class; parts = load_parts class count seed lanes })) = shorts 101 (101 * length (sayings (load_parts class count seed lanes))) (2 ^ 32 - 2) (class_text (load_class class) ++ 10 ∷ []) (flat_map (λ line. line ++ 10 ∷ []) (map saying_text (sayings (load_parts class count seed lanes)))) (class_short class) lines (omega (arith, said_few)) in
       record {
-        bytes = printed (record { class = class; parts = load_parts class count seed lanes });
+        bytes = printed (record { class = load_class class; parts = load_parts class count seed lanes });
         are_bytes = text.bytes;
         short = text.short;
-        is_script = exact.printed_spells (record { class = class; parts = load_parts class count seed lanes }) is_tidy;
+        is_script = exact.printed_spells (record { class = load_class class; parts = load_parts class count seed lanes }) is_tidy;
       }

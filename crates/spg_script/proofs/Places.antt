@@ -3,15 +3,17 @@ use Rattle.std.proofs.Common.{◌≡◌, ◌⊎◌, inl, inr, ◌<◌, ◌≤◌
 use Rattle.std.specs.Prelude.{codes, filter}
 use Rattle.std.specs.List.{AllZip, AllByRecursion, flat_map}
 use Rattle.std.proofs.lemmas.List.{append_assoc, take_at, take_all}
-use Rattle.spg_script.specs.declared.class_name.ClassName.{ClassName}
-use Rattle.spg_script.specs.declared.class_name.ClassName.TheVariants.{Quad}
+use Rattle.spg_script.specs.declared.key_form.KeyForm.{KeyForm}
+use Rattle.spg_script.specs.declared.class_line.ClassLine.{ClassLine}
+use Rattle.spg_script.specs.declared.class_line.ClassLine.TheVariants.{Quad}
 use Rattle.spg_script.specs.declared.command.Command.{Command}
 use Rattle.spg_script.specs.Blocks.{Part, alone_part, block_part, Script}
 use Rattle.spg_script.specs.Spelling.{class_text}
-use Rattle.spg_script.specs.Line.{has_texts, SpellsCommand}
+use Rattle.spg_script.specs.Line.{keys_of, SpellsCommand}
 use Rattle.spg_script.specs.Script.{lines_of, says_something, Saying, block_opens, lane_opens, block_ends, says, lane_sayings, block_sayings, sayings, IsLaneCommand, IsBlock, IsPart, Spells, AreSpoken, IsScript, CanGoOn, IsFirstBad}
 use Rattle.spg_script.specs.Reader.{Place, at_start, between, inside, SaysFrom, LeadTo, Refuses, IsEnd, script_at, ReadersFind, ReadersGoOn}
-use Rattle.spg_script.proofs.Scripts.{same_class, one_saying, one_list, first_two, IsNoCommand, lanes_no, same_block, block_says, same_command, starts_no}
+use Rattle.spg_script.proofs.ClassLines.{same_class}
+use Rattle.spg_script.proofs.Scripts.{one_saying, one_list, first_two, IsNoCommand, lanes_no, same_block, block_says, same_command, starts_no}
 
 -- ---- lines that say something
 
@@ -32,23 +34,23 @@ spoken_with lines line more some =
 -- ---- what is said so far, and next
 
 -- the sayings of longer lines begin with those of the first of them
-pub record Next (texts : Bool) (all ss : List Saying) (line : List ℕ) : Type 0 where
+pub record Next (keys : KeyForm) (all ss : List Saying) (line : List ℕ) : Type 0 where
   pub next : Saying
   pub more : List Saying
   pub is : all ≡ ss ++ next ∷ more
-  pub spells : Spells texts next line
+  pub spells : Spells keys next line
 
-next_of : (texts : Bool) (all ss : List Saying) (lines : List (List ℕ)) (line : List ℕ) (rest : List (List ℕ)) → AllZip (Spells texts) all (lines ++ line ∷ rest) → AllZip (Spells texts) ss lines → Next texts all ss line
-next_of texts [] [] [] line rest a b = absurd a
-next_of texts (s ∷ all) [] [] line rest a b = record { next = s; more = all; is = refl; spells = a.0 }
-next_of texts [] [] (l ∷ lines) line rest a b = absurd b
-next_of texts (s ∷ all) [] (l ∷ lines) line rest a b = absurd b
-next_of texts [] (t ∷ ss) [] line rest a b = absurd b
-next_of texts (s ∷ all) (t ∷ ss) [] line rest a b = absurd b
-next_of texts [] (t ∷ ss) (l ∷ lines) line rest a b = absurd a
-next_of texts (s ∷ all) (t ∷ ss) (l ∷ lines) line rest a b =
-    let later = next_of texts all ss lines line rest a.1 b.1 in
-    record { next = later.next; more = later.more; is = ap (λ (x : Saying). x ∷ all) (one_saying texts s t l a.0 b.0) ∙ ap (λ k. t ∷ k) later.is; spells = later.spells }
+next_of : (keys : KeyForm) (all ss : List Saying) (lines : List (List ℕ)) (line : List ℕ) (rest : List (List ℕ)) → AllZip (Spells keys) all (lines ++ line ∷ rest) → AllZip (Spells keys) ss lines → Next keys all ss line
+next_of keys [] [] [] line rest a b = absurd a
+next_of keys (s ∷ all) [] [] line rest a b = record { next = s; more = all; is = refl; spells = a.0 }
+next_of keys [] [] (l ∷ lines) line rest a b = absurd b
+next_of keys (s ∷ all) [] (l ∷ lines) line rest a b = absurd b
+next_of keys [] (t ∷ ss) [] line rest a b = absurd b
+next_of keys (s ∷ all) (t ∷ ss) [] line rest a b = absurd b
+next_of keys [] (t ∷ ss) (l ∷ lines) line rest a b = absurd a
+next_of keys (s ∷ all) (t ∷ ss) (l ∷ lines) line rest a b =
+    let later = next_of keys all ss lines line rest a.1 b.1 in
+    record { next = later.next; more = later.more; is = ap (λ (x : Saying). x ∷ all) (one_saying keys s t l a.0 b.0) ∙ ap (λ k. t ∷ k) later.is; spells = later.spells }
 
 -- ---- blocks
 
@@ -141,17 +143,17 @@ parts_opened (p ∷ parts) lanes more are e = block_opened p.together p.lanes la
 
 -- ---- going on
 
-front_append : (class : ClassName) (ss tt2 : List Saying) (lines more : List (List ℕ)) → SaysFrom class ss lines → AllZip (Spells (has_texts class)) tt2 more → SaysFrom class (ss ++ tt2) (lines ++ more)
+front_append : (class : ClassLine) (ss tt2 : List Saying) (lines more : List (List ℕ)) → SaysFrom class ss lines → AllZip (Spells (keys_of class)) tt2 more → SaysFrom class (ss ++ tt2) (lines ++ more)
 front_append class ss tt2 [] more spoken spelled = absurd spoken
 front_append class ss tt2 (line ∷ lines) more is spelled = (is.0, zip ss lines is.1)
   where
-    zip : (ss : List Saying) (lines : List (List ℕ)) → AllZip (Spells (has_texts class)) ss lines → AllZip (Spells (has_texts class)) (ss ++ tt2) (lines ++ more)
+    zip : (ss : List Saying) (lines : List (List ℕ)) → AllZip (Spells (keys_of class)) ss lines → AllZip (Spells (keys_of class)) (ss ++ tt2) (lines ++ more)
     zip [] [] all = spelled
     zip [] (l ∷ lines) all = absurd all
     zip (s ∷ ss) [] all = absurd all
     zip (s ∷ ss) (l ∷ lines) all = (all.0, zip ss lines all.1)
 
-spoken_script : (class : ClassName) (parts : List Part) (spoken : List (List ℕ)) → SaysFrom class (sayings parts) spoken → AllByRecursion IsPart parts → AreSpoken spoken (script_at class parts)
+spoken_script : (class : ClassLine) (parts : List Part) (spoken : List (List ℕ)) → SaysFrom class (sayings parts) spoken → AllByRecursion IsPart parts → AreSpoken spoken (script_at class parts)
 spoken_script class parts [] spoken are = absurd spoken
 spoken_script class parts (line ∷ lines) spoken are = (spoken.0, are, spoken.1)
 
@@ -164,8 +166,8 @@ each_append P [] ys each more = more
 each_append P (x ∷ xs) ys each more = (each.0, each_append P xs ys each.1 more)
 
 -- a block that is closed by these sayings
-close : (class : ClassName) (parts : List Part) (lanes whole : List (List Command)) (lines : List (List ℕ)) (last : List Saying) (more : List (List ℕ)) → LeadTo (inside class parts lanes) (filter says_something lines)
-    → lane_sayings lanes ++ last ≡ lane_sayings whole ++ block_ends ∷ [] → IsBlock true whole → AllZip (Spells (has_texts class)) last more → filter says_something more ≡ more → CanGoOn lines
+close : (class : ClassLine) (parts : List Part) (lanes whole : List (List Command)) (lines : List (List ℕ)) (last : List Saying) (more : List (List ℕ)) → LeadTo (inside class parts lanes) (filter says_something lines)
+    → lane_sayings lanes ++ last ≡ lane_sayings whole ++ block_ends ∷ [] → IsBlock true whole → AllZip (Spells (keys_of class)) last more → filter says_something more ≡ more → CanGoOn lines
 close class parts lanes whole lines last more lead is block spelled all =
     let p : Part = record { together = true; lanes = whole } in
     let front = front_append class (sayings parts ++ block_opens ∷ lane_sayings lanes) last (filter says_something lines) more lead.0 spelled in
@@ -192,37 +194,37 @@ goes_on (inside class parts (lane ∷ lanes)) lines lead =
 -- ---- a line that is refused
 
 -- the script of lines that go on has the class, and its sayings begin with what was said
-pub record GoesOn (class : ClassName) (ss : List Saying) (line : List ℕ) : Type 0 where
+pub record GoesOn (class : ClassLine) (ss : List Saying) (line : List ℕ) : Type 0 where
   pub parts : List Part
   pub are : AllByRecursion IsPart parts
-  pub next : Next (has_texts class) (sayings parts) ss line
+  pub next : Next (keys_of class) (sayings parts) ss line
 
-going : (class : ClassName) (ss : List Saying) (spoken : List (List ℕ)) (line : List ℕ) (rest : List (List ℕ)) (script : Script) → SaysFrom class ss spoken → AreSpoken (spoken ++ line ∷ rest) script → GoesOn class ss line
+going : (class : ClassLine) (ss : List Saying) (spoken : List (List ℕ)) (line : List ℕ) (rest : List (List ℕ)) (script : Script) → SaysFrom class ss spoken → AreSpoken (spoken ++ line ∷ rest) script → GoesOn class ss line
 going class ss [] line rest script said spoken = absurd said
 going class ss (l ∷ lines) line rest script said spoken =
     let same : script.class ≡ class = same_class script.class class (sym spoken.0 ∙ said.0) in
-    record { parts = script.parts; are = spoken.1; next = next_of (has_texts class) (sayings script.parts) ss lines line rest (subst (λ (k : ClassName). AllZip (Spells (has_texts k)) (sayings script.parts) (lines ++ line ∷ rest)) same spoken.2) said.1 }
+    record { parts = script.parts; are = spoken.1; next = next_of (keys_of class) (sayings script.parts) ss lines line rest (subst (λ (k : ClassLine). AllZip (Spells (keys_of k)) (sayings script.parts) (lines ++ line ∷ rest)) same spoken.2) said.1 }
 
-refused_between : (class : ClassName) (parts : List Part) (line : List ℕ) → AllByRecursion IsPart parts → Refuses (between class parts) line → GoesOn class (sayings parts) line → ⊥
+refused_between : (class : ClassLine) (parts : List Part) (line : List ℕ) → AllByRecursion IsPart parts → Refuses (between class parts) line → GoesOn class (sayings parts) line → ⊥
 refused_between class parts line are refuses g =
     let rest = behind g.parts parts (g.next.next ∷ g.next.more) g.are are g.next.is in
     elim (parts_begin rest.later g.next.next g.next.more rest.are rest.says) [
-      | inl opens ↦ refuses.0 (subst (λ (s : Saying). Spells (has_texts class) s line) opens g.next.spells)
-      | inr command ↦ refuses.1 command.0 (subst (λ (s : Saying). Spells (has_texts class) s line) command.1 g.next.spells)
+      | inl opens ↦ refuses.0 (subst (λ (s : Saying). Spells (keys_of class) s line) opens g.next.spells)
+      | inr command ↦ refuses.1 command.0 (subst (λ (s : Saying). Spells (keys_of class) s line) command.1 g.next.spells)
     ]
 
 no_lanes : (lanes : List (List Command)) → lanes ≡ [] → 0 < length lanes → ⊥
 no_lanes lanes none some = absurd (omega (arith, ap length none, some))
 
-refused_inside : (class : ClassName) (parts : List Part) (lanes : List (List Command)) (line : List ℕ) → AllByRecursion IsPart parts → Refuses (inside class parts lanes) line → GoesOn class (sayings parts ++ block_opens ∷ lane_sayings lanes) line → ⊥
+refused_inside : (class : ClassLine) (parts : List Part) (lanes : List (List Command)) (line : List ℕ) → AllByRecursion IsPart parts → Refuses (inside class parts lanes) line → GoesOn class (sayings parts ++ block_opens ∷ lane_sayings lanes) line → ⊥
 refused_inside class parts lanes line are refuses g =
     let rest = behind g.parts parts (block_opens ∷ (lane_sayings lanes ++ g.next.next ∷ g.next.more)) g.are are (g.next.is ∙ append_assoc (sayings parts) (block_opens ∷ lane_sayings lanes) (g.next.next ∷ g.next.more)) in
     let o = parts_opened rest.later lanes (g.next.next ∷ g.next.more) rest.are rest.says in
     elim o.follows [
-      | inl ends ↦ no_lanes lanes (refuses.1 (subst (λ (s : Saying). Spells (has_texts class) s line) ends.0 g.next.spells)) (subst (λ (l : List (List Command)). 0 < length l) ends.1 o.some)
+      | inl ends ↦ no_lanes lanes (refuses.1 (subst (λ (s : Saying). Spells (keys_of class) s line) ends.0 g.next.spells)) (subst (λ (l : List (List Command)). 0 < length l) ends.1 o.some)
       | inr other ↦ elim other [
-        | inl opens ↦ absurd (omega (arith, o.few, opens.1, refuses.0 (subst (λ (s : Saying). Spells (has_texts class) s line) opens.0 g.next.spells)))
-        | inr command ↦ no_lanes lanes (refuses.2 command.0 (subst (λ (s : Saying). Spells (has_texts class) s line) command.1 g.next.spells) command.2) command.3
+        | inl opens ↦ absurd (omega (arith, o.few, opens.1, refuses.0 (subst (λ (s : Saying). Spells (keys_of class) s line) opens.0 g.next.spells)))
+        | inr command ↦ no_lanes lanes (refuses.2 command.0 (subst (λ (s : Saying). Spells (keys_of class) s line) command.1 g.next.spells) command.2) command.3
       ]
     ]
 
@@ -236,12 +238,12 @@ bad (inside class parts lanes) lines line lead some refuses (more, script, are) 
 
 -- ---- the end
 
-open_no_script : (class : ClassName) (parts : List Part) (lanes : List (List Command)) (spoken : List (List ℕ)) (script : Script) → AllByRecursion IsPart parts → SaysFrom class (sayings parts ++ block_opens ∷ lane_sayings lanes) spoken → AreSpoken spoken script → ⊥
+open_no_script : (class : ClassLine) (parts : List Part) (lanes : List (List Command)) (spoken : List (List ℕ)) (script : Script) → AllByRecursion IsPart parts → SaysFrom class (sayings parts ++ block_opens ∷ lane_sayings lanes) spoken → AreSpoken spoken script → ⊥
 open_no_script class parts lanes [] script are said spoken = said
 open_no_script class parts lanes (l ∷ lines) script are said spoken =
     let same : script.class ≡ class = same_class script.class class (sym spoken.0 ∙ said.0) in
     let all : sayings script.parts ≡ sayings parts ++ block_opens ∷ lane_sayings lanes =
-    one_list (has_texts class) (sayings script.parts) (sayings parts ++ block_opens ∷ lane_sayings lanes) lines (subst (λ (k : ClassName). AllZip (Spells (has_texts k)) (sayings script.parts) lines) same spoken.2) said.1 in
+    one_list (keys_of class) (sayings script.parts) (sayings parts ++ block_opens ∷ lane_sayings lanes) lines (subst (λ (k : ClassLine). AllZip (Spells (keys_of k)) (sayings script.parts) lines) same spoken.2) said.1 in
     let rest = behind script.parts parts (block_opens ∷ lane_sayings lanes) spoken.1 are all in
     (parts_opened rest.later lanes [] rest.are (rest.says ∙ ap (λ l. block_opens ∷ l) (sym (append-nil (lane_sayings lanes))))).follows
 
@@ -292,23 +294,23 @@ spoken p lines line some lead =
     let same : filter says_something (lines ++ line ∷ []) ≡ filter says_something lines ++ line ∷ [] = spoken_append lines (line ∷ []) ∙ ap (λ (t : Bool). filter says_something lines ++ cond t (line ∷ []) []) some in
     subst (LeadTo p) (sym same) lead
 
-class_line : (k : ClassName) (spoken : List (List ℕ)) → LeadTo at_start spoken → LeadTo (between k []) (spoken ++ class_text k ∷ [])
+class_line : (k : ClassLine) (spoken : List (List ℕ)) → LeadTo at_start spoken → LeadTo (between k []) (spoken ++ class_text k ∷ [])
 class_line k spoken lead = subst (λ (l : List (List ℕ)). LeadTo (between k []) (l ++ class_text k ∷ [])) (sym lead) ((refl, tt), tt)
 
-command_line : (k : ClassName) (parts : List Part) (c : Command) (spoken : List (List ℕ)) (line : List ℕ) → LeadTo (between k parts) spoken → SpellsCommand (has_texts k) c line → LeadTo (between k (parts ++ alone_part c ∷ [])) (spoken ++ line ∷ [])
+command_line : (k : ClassLine) (parts : List Part) (c : Command) (spoken : List (List ℕ)) (line : List ℕ) → LeadTo (between k parts) spoken → SpellsCommand (keys_of k) c line → LeadTo (between k (parts ++ alone_part c ∷ [])) (spoken ++ line ∷ [])
 command_line k parts c spoken line lead spelled = (
   subst (λ (ss : List Saying). SaysFrom k ss (spoken ++ line ∷ [])) (sym (sayings_append parts (alone_part c ∷ []))) (front_append k (sayings parts) (says c ∷ []) spoken (line ∷ []) lead.0 (spelled, tt)),
   each_append IsPart parts (alone_part c ∷ []) lead.1 ((c, refl), tt),
 )
 
-opens_line : (k : ClassName) (parts : List Part) (spoken : List (List ℕ)) → LeadTo (between k parts) spoken → LeadTo (inside k parts []) (spoken ++ codes "together" ∷ [])
+opens_line : (k : ClassLine) (parts : List Part) (spoken : List (List ℕ)) → LeadTo (between k parts) spoken → LeadTo (inside k parts []) (spoken ++ codes "together" ∷ [])
 opens_line k parts spoken lead = (front_append k (sayings parts) (block_opens ∷ []) spoken (codes "together" ∷ []) lead.0 (refl, tt), lead.1, omega arith, tt)
 
 lanes_append : (ls ms : List (List Command)) → lane_sayings (ls ++ ms) ≡ lane_sayings ls ++ lane_sayings ms
 lanes_append [] ms = refl
 lanes_append (l ∷ ls) ms = ap (λ k. lane_opens ∷ (map says l ++ k)) (lanes_append ls ms) ∙ ap (λ k. lane_opens ∷ k) (sym (append_assoc (map says l) (lane_sayings ls) (lane_sayings ms)))
 
-lane_line : (k : ClassName) (parts : List Part) (lanes : List (List Command)) (spoken : List (List ℕ)) → LeadTo (inside k parts lanes) spoken → length lanes < 32 → LeadTo (inside k parts (lanes ++ [] ∷ [])) (spoken ++ codes "lane" ∷ [])
+lane_line : (k : ClassLine) (parts : List Part) (lanes : List (List Command)) (spoken : List (List ℕ)) → LeadTo (inside k parts lanes) spoken → length lanes < 32 → LeadTo (inside k parts (lanes ++ [] ∷ [])) (spoken ++ codes "lane" ∷ [])
 lane_line k parts lanes spoken lead few =
     let front = front_append k (sayings parts ++ block_opens ∷ lane_sayings lanes) (lane_opens ∷ []) spoken (codes "lane" ∷ []) lead.0 (refl, tt) in
     let said : (sayings parts ++ block_opens ∷ lane_sayings lanes) ++ lane_opens ∷ [] ≡ sayings parts ++ block_opens ∷ lane_sayings (lanes ++ [] ∷ []) =
@@ -319,7 +321,7 @@ map_push : (lane : List Command) (c : Command) → map says (lane ++ c ∷ []) �
 map_push [] c = refl
 map_push (d ∷ lane) c = ap (λ l. says d ∷ l) (map_push lane c)
 
-in_lane_line : (k : ClassName) (parts : List Part) (front : List (List Command)) (lane : List Command) (c : Command) (spoken : List (List ℕ)) (line : List ℕ) → LeadTo (inside k parts (front ++ lane ∷ [])) spoken → IsLaneCommand c → SpellsCommand (has_texts k) c line
+in_lane_line : (k : ClassLine) (parts : List Part) (front : List (List Command)) (lane : List Command) (c : Command) (spoken : List (List ℕ)) (line : List ℕ) → LeadTo (inside k parts (front ++ lane ∷ [])) spoken → IsLaneCommand c → SpellsCommand (keys_of k) c line
     → LeadTo (inside k parts (front ++ (lane ++ c ∷ []) ∷ [])) (spoken ++ line ∷ [])
 in_lane_line k parts front lane c spoken line lead is spelled =
     let longer = front_append k (sayings parts ++ block_opens ∷ lane_sayings (front ++ lane ∷ [])) (says c ∷ []) spoken (line ∷ []) lead.0 (spelled, tt) in
@@ -338,7 +340,7 @@ in_lane_line k parts front lane c spoken line lead is spelled =
     last_lane [] each = (each_append IsLaneCommand lane (c ∷ []) each.0 (is, tt), tt)
     last_lane (l ∷ front) each = (each.0, last_lane front each.1)
 
-end_line : (k : ClassName) (parts : List Part) (lanes : List (List Command)) (spoken : List (List ℕ)) → LeadTo (inside k parts lanes) spoken → 1 ≤ length lanes → LeadTo (between k (parts ++ block_part lanes ∷ [])) (spoken ++ codes "end" ∷ [])
+end_line : (k : ClassLine) (parts : List Part) (lanes : List (List Command)) (spoken : List (List ℕ)) → LeadTo (inside k parts lanes) spoken → 1 ≤ length lanes → LeadTo (between k (parts ++ block_part lanes ∷ [])) (spoken ++ codes "end" ∷ [])
 end_line k parts lanes spoken lead some =
     let front = front_append k (sayings parts ++ block_opens ∷ lane_sayings lanes) (block_ends ∷ []) spoken (codes "end" ∷ []) lead.0 (refl, tt) in
     let said : (sayings parts ++ block_opens ∷ lane_sayings lanes) ++ block_ends ∷ [] ≡ sayings (parts ++ block_part lanes ∷ []) =

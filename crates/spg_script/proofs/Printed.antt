@@ -1,14 +1,15 @@
 -- What is printed spells what is said.
-use Rattle.std.proofs.Common.{◌≡◌, inl, inr, ◌<◌, ◌≤◌, ◌+◌, ◌/◌, ◌%◌, ◌==◌, ◌&&◌, ℕ, zero, suc, Bool, true, false, cond, List, [], ◌∷◌, ◌++◌, length, Option, Some, None, ℤ, FitsSigned, refl, sym, ap, ◌∙◌, subst, arith, append-nil}
+use Rattle.std.proofs.Common.{◌≡◌, inl, inr, ◌<◌, ◌≤◌, ◌^◌, ◌+◌, ◌/◌, ◌%◌, ◌==◌, ◌&&◌, ℕ, zero, suc, Bool, true, false, cond, List, [], ◌∷◌, ◌++◌, length, Option, Some, None, ℤ, FitsSigned, refl, sym, ap, ◌∙◌, subst, arith, append-nil}
 use Rattle.std.specs.Prelude.{codes, nat_lt, nat_le, option_and_then, option_map}
 use Rattle.std.specs.Int.{w32}
-use Rattle.std.specs.Fmt.{signed_decimal}
+use Rattle.std.specs.Fmt.{decimal, signed_decimal}
 use Rattle.std.proofs.lemmas.Option.{same_Some}
 use Rattle.std.specs.List.{AllByRecursion, flat_map}
 use Rattle.std.proofs.lemmas.Bool.{ltb-true, leb-true}
 use Rattle.std.proofs.lemmas.Bool.Decides.{eqb_tells}
 use Rattle.std.proofs.lemmas.List.{append_assoc}
 use Rattle.spg_base.specs.Text.{point_text}
+use Rattle.spg_base.specs.declared.point.Point.{Point}
 use Rattle.spg_base.specs.declared.point.PointCond.{PointCond}
 use Rattle.spg_base.specs.declared.point.PointCond.TheVariants.{Eq, Left, Right, Below, Above, Inside}
 use Rattle.spg_opclass.specs.declared.query.Query.{Query}
@@ -17,6 +18,9 @@ use Rattle.spg_radix.specs.declared.condition.TextCond.TheVariants as text_cond
 use Rattle.spg_radix.specs.declared.condition.TextCond.{TextCond}
 use Rattle.spg_radix.specs.Texts.{is_bytes, is_text}
 use Rattle.spg_radix.specs.Conditions.{named}
+use Rattle.spg_range.specs.declared.range.RangeCond.{RangeCond}
+use Rattle.spg_range.specs.declared.range.RangeCond.TheVariants as range_cond
+use Rattle.spg_script.specs.declared.key_form.KeyForm.{KeyForm}
 use Rattle.spg_script.specs.declared.any_key.AnyKey.{AnyKey}
 use Rattle.spg_script.specs.declared.any_key.AnyKey.TheVariants as any_key
 use Rattle.spg_script.specs.declared.any_cond.AnyCond.{AnyCond}
@@ -24,13 +28,13 @@ use Rattle.spg_script.specs.declared.any_cond.AnyCond.TheVariants as any_cond
 use Rattle.spg_script.specs.declared.any_query.AnyQuery.{AnyQuery}
 use Rattle.spg_script.specs.declared.any_query.AnyQuery.TheVariants.{All, Null, Where}
 use Rattle.spg_script.specs.Quoted.{hex_of, hex_digit, is_plain, escaped, first_byte, byte_text, quoted, SpellsText, IsQuoted}
-use Rattle.spg_script.specs.Spelling.{IsCond, cond_text, conds_text}
-use Rattle.spg_script.specs.Line.{word_of, SpellsKeyOrNull, SpellsCond, SpellsConds, SpellsQuery}
+use Rattle.spg_script.specs.Spelling.{IsCond, IsRange, cond_text, conds_text, value_text, range_text, range_word, range_named}
+use Rattle.spg_script.specs.Line.{word_of, SpellsAnyKey, SpellsKeyOrNull, SpellsAnyCond, SpellsCond, SpellsConds, SpellsQuery}
 use Rattle.spg_script.specs.Speech.{Speech, SpeaksAsPrinted, key_or_null_in, conds_in, query_in, key_or_null_text, query_text, any_key_text, any_cond_text, any_key_or_null_text, any_query_text}
-use Rattle.spg_script.proofs.Digits.{HasNo, HasNo-cons, HasNo-append, HasNo-signed, byte_other}
-use Rattle.spg_script.specs.Laws.{IsKeyOrNull, IsAnyCond, IsQuery}
+use Rattle.spg_script.proofs.Digits.{HasNo, HasNo-cons, HasNo-append, HasNo-decimal, HasNo-signed, byte_other, point_apart}
+use Rattle.spg_script.specs.Laws.{IsSoundKey, IsKeyOrNull, IsSoundCond, IsAnyCond, IsQuery}
 
--- ---- texts
+-- ---- keys
 
 hex_back : (n : ℕ) → n < 16 → hex_of (hex_digit n) ≡ Some n
 hex_back zero _ = refl
@@ -103,28 +107,34 @@ quoted_printed text left is =
 
 -- ---- keys, conditions and queries
 
-pub key_printed : (texts : Bool) (key : Option AnyKey) → IsKeyOrNull texts key → SpellsKeyOrNull texts key (any_key_or_null_text key)
-key_printed texts None is = refl
-key_printed false (Some (any_key.Point point)) is = (refl, is)
-key_printed false (Some (any_key.Text text)) is = absurd is
-key_printed true (Some (any_key.Point point)) is = absurd is
-key_printed true (Some (any_key.Text text)) is = subst (λ (l : List ℕ). IsQuoted text l []) (append-nil (quoted text)) (quoted_printed text [] is)
+any_key_printed : (key : AnyKey) → IsSoundKey key → SpellsAnyKey key (any_key_text key)
+any_key_printed (any_key.Point point) is = (refl, is)
+any_key_printed (any_key.Text text) is = subst (λ (l : List ℕ). IsQuoted text l []) (append-nil (quoted text)) (quoted_printed text [] is)
+any_key_printed (any_key.PointValue point value) is = (refl, is.0, is.1)
+any_key_printed (any_key.TextValue text value) is = (quoted_printed text (value_text value) is.0, is.1)
+any_key_printed (any_key.Range range) is = (refl, is)
 
-pub cond_printed : (texts : Bool) (c : AnyCond) (left : List ℕ) → IsAnyCond texts c → SpellsCond texts c (any_cond_text c ++ left) left
-cond_printed false (any_cond.Point c) left is = (refl, is)
-cond_printed false (any_cond.Text c) left is = absurd is
-cond_printed true (any_cond.Point c) left is = absurd is
-cond_printed true (any_cond.Text c) left is = (quoted (named c) ++ left, append_assoc (word_of c) (32 ∷ quoted (named c)) left, quoted_printed (named c) left is)
+pub key_printed : (keys : KeyForm) (key : Option AnyKey) → IsKeyOrNull keys key → SpellsKeyOrNull keys key (any_key_or_null_text key)
+key_printed keys None is = refl
+key_printed keys (Some key) is = (is.0, any_key_printed key is.1)
 
-conds_printed : (texts : Bool) (word : List ℕ) (conds : List AnyCond) → AllByRecursion (IsAnyCond texts) conds → SpellsConds texts word conds (conds_text any_cond_text word conds)
-conds_printed texts word [] is = refl
-conds_printed texts word (c ∷ conds) is =
-    (any_cond_text c ++ conds_text any_cond_text (codes " and ") conds, conds_text any_cond_text (codes " and ") conds, append_assoc word (any_cond_text c) (conds_text any_cond_text (codes " and ") conds), cond_printed texts c (conds_text any_cond_text (codes " and ") conds) is.0, conds_printed texts (codes " and ") conds is.1)
+any_cond_printed : (c : AnyCond) (left : List ℕ) → IsSoundCond c → SpellsAnyCond c (any_cond_text c ++ left) left
+any_cond_printed (any_cond.Point c) left is = (refl, is)
+any_cond_printed (any_cond.Text c) left is = (quoted (named c) ++ left, append_assoc (word_of c) (32 ∷ quoted (named c)) left, quoted_printed (named c) left is)
+any_cond_printed (any_cond.Range c) left is = (refl, is)
 
-pub query_printed : (texts : Bool) (query : AnyQuery) → IsQuery texts query → SpellsQuery texts query (any_query_text query)
-query_printed texts All is = refl
-query_printed texts Null is = refl
-query_printed texts (Where conds) is = (conds_printed texts (codes "where ") conds is.0, is.1, is.2)
+pub cond_printed : (keys : KeyForm) (c : AnyCond) (left : List ℕ) → IsAnyCond keys c → SpellsCond keys c (any_cond_text c ++ left) left
+cond_printed keys c left is = (is.0, any_cond_printed c left is.1)
+
+conds_printed : (keys : KeyForm) (word : List ℕ) (conds : List AnyCond) → AllByRecursion (IsAnyCond keys) conds → SpellsConds keys word conds (conds_text any_cond_text word conds)
+conds_printed keys word [] is = refl
+conds_printed keys word (c ∷ conds) is =
+    (any_cond_text c ++ conds_text any_cond_text (codes " and ") conds, conds_text any_cond_text (codes " and ") conds, append_assoc word (any_cond_text c) (conds_text any_cond_text (codes " and ") conds), cond_printed keys c (conds_text any_cond_text (codes " and ") conds) is.0, conds_printed keys (codes " and ") conds is.1)
+
+pub query_printed : (keys : KeyForm) (query : AnyQuery) → IsQuery keys query → SpellsQuery keys query (any_query_text query)
+query_printed keys All is = refl
+query_printed keys Null is = refl
+query_printed keys (Where conds) is = (conds_printed keys (codes "where ") conds is.0, is.1, is.2)
 
 -- ---- no line ends within
 
@@ -164,12 +174,23 @@ signed_no_lf z fits = HasNo-signed 10 z (omega arith) fits
 comma_no_lf : (z : ℤ) (more : List ℕ) → FitsSigned w32 z → HasNo 10 more → HasNo 10 (signed_decimal z ++ 44 ∷ more)
 comma_no_lf z more fits rest = HasNo-append 10 (signed_decimal z) (44 ∷ more) (signed_no_lf z fits) (HasNo-cons 10 44 more refl rest)
 
-pub key_no_lf : (texts : Bool) (key : Option AnyKey) → IsKeyOrNull texts key → HasNo 10 (any_key_or_null_text key)
-key_no_lf texts None is = refl
-key_no_lf false (Some (any_key.Point p)) is = comma_no_lf p.x (signed_decimal p.y) is.x (signed_no_lf p.y is.y)
-key_no_lf false (Some (any_key.Text text)) is = absurd is
-key_no_lf true (Some (any_key.Point point)) is = absurd is
-key_no_lf true (Some (any_key.Text text)) is = quoted_no_lf text
+value_no_lf : (value : ℕ) → value < 2 ^ 64 → HasNo 10 (value_text value)
+value_no_lf value small = HasNo-append 10 (codes " value ") (decimal value) refl (HasNo-decimal 10 value (omega arith) small)
+
+range_no_lf : (range : Option Point) → IsRange range → HasNo 10 (range_text range)
+range_no_lf None is = refl
+range_no_lf (Some ends) is = HasNo-cons 10 91 (point_text ends ++ 93 ∷ []) refl (HasNo-append 10 (point_text ends) (93 ∷ []) (point_apart 10 ends (omega arith) is.0) refl)
+
+any_key_no_lf : (key : AnyKey) → IsSoundKey key → HasNo 10 (any_key_text key)
+any_key_no_lf (any_key.Point p) is = point_apart 10 p (omega arith) is
+any_key_no_lf (any_key.Text text) is = quoted_no_lf text
+any_key_no_lf (any_key.PointValue p value) is = HasNo-append 10 (point_text p) (value_text value) (point_apart 10 p (omega arith) is.0) (value_no_lf value is.1)
+any_key_no_lf (any_key.TextValue text value) is = HasNo-append 10 (quoted text) (value_text value) (quoted_no_lf text) (value_no_lf value is.1)
+any_key_no_lf (any_key.Range range) is = range_no_lf range is
+
+pub key_no_lf : (keys : KeyForm) (key : Option AnyKey) → IsKeyOrNull keys key → HasNo 10 (any_key_or_null_text key)
+key_no_lf keys None is = refl
+key_no_lf keys (Some key) is = any_key_no_lf key is.1
 
 word_no_lf : (c : TextCond) → HasNo 10 (word_of c)
 word_no_lf (text_cond.Eq t) = refl
@@ -187,23 +208,33 @@ point_cond_no_lf (Below y) is = HasNo-append 10 (codes "below ") (signed_decimal
 point_cond_no_lf (Above y) is = HasNo-append 10 (codes "above ") (signed_decimal y) refl (signed_no_lf y is)
 point_cond_no_lf (Inside x1 y1 x2 y2) is = HasNo-append 10 (codes "in ") _ refl (comma_no_lf x1 _ is.0.x (comma_no_lf y1 _ is.0.y (comma_no_lf x2 _ is.1.x (signed_no_lf y2 is.1.y))))
 
-pub cond_no_lf : (texts : Bool) (c : AnyCond) → IsAnyCond texts c → HasNo 10 (any_cond_text c)
-cond_no_lf false (any_cond.Point c) is = point_cond_no_lf c is
-cond_no_lf false (any_cond.Text c) is = absurd is
-cond_no_lf true (any_cond.Point c) is = absurd is
-cond_no_lf true (any_cond.Text c) is = HasNo-append 10 (word_of c) (32 ∷ quoted (named c)) (word_no_lf c) (HasNo-cons 10 32 (quoted (named c)) refl (quoted_no_lf (named c)))
+range_word_no_lf : (c : RangeCond) → HasNo 10 (range_word c)
+range_word_no_lf (range_cond.Eq r) = refl
+range_word_no_lf (range_cond.Overlap r) = refl
+range_word_no_lf (range_cond.Contains r) = refl
+range_word_no_lf (range_cond.Within r) = refl
+range_word_no_lf (range_cond.Left r) = refl
+range_word_no_lf (range_cond.Right r) = refl
 
-conds_no_lf : (texts : Bool) (word : List ℕ) (conds : List AnyCond) → HasNo 10 word → AllByRecursion (IsAnyCond texts) conds → HasNo 10 (conds_text any_cond_text word conds)
-conds_no_lf texts word [] before is = refl
-conds_no_lf texts word (c ∷ conds) before is =
-    HasNo-append 10 (word ++ any_cond_text c) (conds_text any_cond_text (codes " and ") conds) (HasNo-append 10 word (any_cond_text c) before (cond_no_lf texts c is.0)) (conds_no_lf texts (codes " and ") conds refl is.1)
+any_cond_no_lf : (c : AnyCond) → IsSoundCond c → HasNo 10 (any_cond_text c)
+any_cond_no_lf (any_cond.Point c) is = point_cond_no_lf c is
+any_cond_no_lf (any_cond.Text c) is = HasNo-append 10 (word_of c) (32 ∷ quoted (named c)) (word_no_lf c) (HasNo-cons 10 32 (quoted (named c)) refl (quoted_no_lf (named c)))
+any_cond_no_lf (any_cond.Range c) is = HasNo-append 10 (range_word c) (32 ∷ range_text (range_named c)) (range_word_no_lf c) (HasNo-cons 10 32 (range_text (range_named c)) refl (range_no_lf (range_named c) is))
 
-pub query_no_lf : (texts : Bool) (query : AnyQuery) → IsQuery texts query → HasNo 10 (any_query_text query)
-query_no_lf texts All is = refl
-query_no_lf texts Null is = refl
-query_no_lf texts (Where conds) is = conds_no_lf texts (codes "where ") conds refl is.0
+pub cond_no_lf : (keys : KeyForm) (c : AnyCond) → IsAnyCond keys c → HasNo 10 (any_cond_text c)
+cond_no_lf keys c is = any_cond_no_lf c is.1
 
--- ---- a class's texts are the printed ones
+conds_no_lf : (keys : KeyForm) (word : List ℕ) (conds : List AnyCond) → HasNo 10 word → AllByRecursion (IsAnyCond keys) conds → HasNo 10 (conds_text any_cond_text word conds)
+conds_no_lf keys word [] before is = refl
+conds_no_lf keys word (c ∷ conds) before is =
+    HasNo-append 10 (word ++ any_cond_text c) (conds_text any_cond_text (codes " and ") conds) (HasNo-append 10 word (any_cond_text c) before (cond_no_lf keys c is.0)) (conds_no_lf keys (codes " and ") conds refl is.1)
+
+pub query_no_lf : (keys : KeyForm) (query : AnyQuery) → IsQuery keys query → HasNo 10 (any_query_text query)
+query_no_lf keys All is = refl
+query_no_lf keys Null is = refl
+query_no_lf keys (Where conds) is = conds_no_lf keys (codes "where ") conds refl is.0
+
+-- ---- a class's keys are the printed ones
 
 module _ {Key Cond : Type 0} (speech : Speech Key Cond) (law : SpeaksAsPrinted speech) where
   pub key_text_is : (key : Option AnyKey) (k : Option Key) → key_or_null_in speech key ≡ Some k → key_or_null_text speech k ≡ any_key_or_null_text key

@@ -9,33 +9,34 @@ use Rattle.std.proofs.lemmas.List.{append_assoc}
 use Rattle.spg_base.specs.Row.{RowAt}
 use Rattle.spg_base.specs.Text.{row_text, point_text}
 use Rattle.std.specs.Fmt.{decimal}
-use Rattle.spg_script.specs.declared.class_name.ClassName.{ClassName}
-use Rattle.spg_script.specs.declared.class_name.ClassName.TheVariants.{Quad, Kd, Radix}
+use Rattle.spg_script.specs.declared.key_form.KeyForm.{KeyForm}
+use Rattle.spg_script.specs.declared.class_line.ClassLine.{ClassLine}
+use Rattle.spg_script.specs.declared.class_line.ClassLine.TheVariants.{Quad, Kd, Radix, QuadValue, KdValue, RadixValue, Range}
 use Rattle.spg_script.specs.declared.command.Command.{Command}
 use Rattle.spg_script.specs.declared.command.Command.TheVariants.{Insert, Delete, Find, Vacuum, Save, Stat, Near}
 use Rattle.spg_script.specs.Blocks.{Part, Script}
 use Rattle.spg_script.specs.Spelling.{class_text, IsRow}
-use Rattle.spg_script.specs.Line.{has_texts, is_first_of_name, is_in_name, is_name, SpellsCommand}
+use Rattle.spg_script.specs.Line.{keys_of, is_first_of_name, is_in_name, is_name, SpellsCommand}
 use Rattle.spg_script.specs.Reading.{len_before, command_of}
 use Rattle.spg_script.specs.Speech.{any_key_or_null_text, any_query_text}
 use Rattle.spg_script.specs.Laws.{IsCommand}
 use Rattle.spg_script.specs.Script.{onto_first, lines_of, says_something, Saying, block_opens, lane_opens, block_ends, says, lane_sayings, block_sayings, sayings, IsBlock, IsPart, Spells, AreSpoken, IsScript, IsFirstBad, command_text, saying_text, printed_lines, printed, AreCommands, IsTidy, ScriptsAreExact}
-use Rattle.spg_script.proofs.Digits.{HasNo, HasNo-cons, HasNo-append, HasNo-decimal}
-use Rattle.spg_script.proofs.CommandLines.{point_apart, command_of-spelled}
+use Rattle.spg_script.proofs.ClassLines.{same_class}
+use Rattle.spg_script.proofs.Digits.{HasNo, HasNo-cons, HasNo-append, HasNo-decimal, point_apart}
+use Rattle.spg_script.proofs.CommandLines.{command_of-spelled}
 use Rattle.spg_script.proofs.Tidy.{script_tidy}
 use Rattle.spg_script.proofs.Printed.{key_printed, query_printed, key_no_lf, query_no_lf}
 
 -- ---- what is printed
 
-command_printed : (texts : Bool) (c : Command) → IsCommand texts c → SpellsCommand texts c (command_text c)
-command_printed texts (Insert row key) is = (any_key_or_null_text key, refl, is.0, key_printed texts key is.1)
-command_printed texts (Delete row) is = (refl, is)
-command_printed texts (Find query) is = (any_query_text query, refl, query_printed texts query is)
-command_printed texts Vacuum is = refl
-command_printed texts (Save name) is = (refl, is)
-command_printed texts Stat is = refl
-command_printed false (Near target limit) is = (refl, is.0, is.1, is.2)
-command_printed true (Near target limit) is = absurd is
+command_printed : (keys : KeyForm) (c : Command) → IsCommand keys c → SpellsCommand keys c (command_text c)
+command_printed keys (Insert row key) is = (any_key_or_null_text key, refl, is.0, key_printed keys key is.1)
+command_printed keys (Delete row) is = (refl, is)
+command_printed keys (Find query) is = (any_query_text query, refl, query_printed keys query is)
+command_printed keys Vacuum is = refl
+command_printed keys (Save name) is = (refl, is)
+command_printed keys Stat is = refl
+command_printed keys (Near target limit) is = (is.0, refl, is.1, is.2, is.3)
 
 row_no_lf : (row : RowAt) → IsRow row → HasNo 10 (row_text row)
 row_no_lf row is = HasNo-append 10 (decimal row.block) (46 ∷ decimal row.offset) (HasNo-decimal 10 row.block (omega arith) (omega (arith, is.block)))
@@ -68,26 +69,25 @@ name_no_lf (b ∷ name) is = go (is_first_of_name b) refl (list_all is_in_name n
     go true e false f h = (cc)
     go false e u f h = (cc)
 
-command_no_lf : (texts : Bool) (c : Command) → IsCommand texts c → HasNo 10 (command_text c)
-command_no_lf texts (Insert row key) is = HasNo-append 10 (codes "insert ") (row_text row ++ 32 ∷ any_key_or_null_text key) refl
-    (HasNo-append 10 (row_text row) (32 ∷ any_key_or_null_text key) (row_no_lf row is.0) (HasNo-cons 10 32 (any_key_or_null_text key) refl (key_no_lf texts key is.1)))
-command_no_lf texts (Delete row) is = HasNo-append 10 (codes "delete ") (row_text row) refl (row_no_lf row is)
-command_no_lf texts (Find query) is = HasNo-append 10 (codes "find ") (any_query_text query) refl (query_no_lf texts query is)
-command_no_lf texts Vacuum is = refl
-command_no_lf texts (Save name) is = HasNo-append 10 (codes "save ") name refl (name_no_lf name is)
-command_no_lf texts Stat is = refl
-command_no_lf false (Near target limit) is = HasNo-append 10 (codes "near ") (point_text target ++ 32 ∷ decimal limit) refl
-    (HasNo-append 10 (point_text target) (32 ∷ decimal limit) (point_apart 10 target (omega arith) is.0) (HasNo-cons 10 32 (decimal limit) refl (HasNo-decimal 10 limit (omega arith) (omega (arith, is.2)))))
-command_no_lf true (Near target limit) is = absurd is
+command_no_lf : (keys : KeyForm) (c : Command) → IsCommand keys c → HasNo 10 (command_text c)
+command_no_lf keys (Insert row key) is = HasNo-append 10 (codes "insert ") (row_text row ++ 32 ∷ any_key_or_null_text key) refl
+    (HasNo-append 10 (row_text row) (32 ∷ any_key_or_null_text key) (row_no_lf row is.0) (HasNo-cons 10 32 (any_key_or_null_text key) refl (key_no_lf keys key is.1)))
+command_no_lf keys (Delete row) is = HasNo-append 10 (codes "delete ") (row_text row) refl (row_no_lf row is)
+command_no_lf keys (Find query) is = HasNo-append 10 (codes "find ") (any_query_text query) refl (query_no_lf keys query is)
+command_no_lf keys Vacuum is = refl
+command_no_lf keys (Save name) is = HasNo-append 10 (codes "save ") name refl (name_no_lf name is)
+command_no_lf keys Stat is = refl
+command_no_lf keys (Near target limit) is = HasNo-append 10 (codes "near ") (point_text target ++ 32 ∷ decimal limit) refl
+    (HasNo-append 10 (point_text target) (32 ∷ decimal limit) (point_apart 10 target (omega arith) is.1) (HasNo-cons 10 32 (decimal limit) refl (HasNo-decimal 10 limit (omega arith) (omega (arith, is.3)))))
 
 -- a line says this as it is printed, does not end within, and says something
-record IsGood (texts : Bool) (s : Saying) : Type 0 where
-  spelled : Spells texts s (saying_text s)
+record IsGood (keys : KeyForm) (s : Saying) : Type 0 where
+  spelled : Spells keys s (saying_text s)
   whole : HasNo 10 (saying_text s)
   something : says_something (saying_text s) ≡ true
 
-good_command : (texts : Bool) (c : Command) → IsCommand texts c → IsGood texts (says c)
-good_command texts c is = record { spelled = command_printed texts c is; whole = command_no_lf texts c is; something = some c }
+good_command : (keys : KeyForm) (c : Command) → IsCommand keys c → IsGood keys (says c)
+good_command keys c is = record { spelled = command_printed keys c is; whole = command_no_lf keys c is; something = some c }
   where
     some : (c : Command) → says_something (command_text c) ≡ true
     some (Insert row key) = refl
@@ -102,26 +102,26 @@ each_append : {A : Type 0} (P : A → Type 0) (xs ys : List A) → AllByRecursio
 each_append P [] ys each more = more
 each_append P (x ∷ xs) ys each more = (each.0, each_append P xs ys each.1 more)
 
-good_lane : (texts : Bool) (lane : List Command) → AllByRecursion (IsCommand texts) lane → AllByRecursion (IsGood texts) (map says lane)
-good_lane texts [] each = tt
-good_lane texts (c ∷ lane) each = (good_command texts c each.0, good_lane texts lane each.1)
+good_lane : (keys : KeyForm) (lane : List Command) → AllByRecursion (IsCommand keys) lane → AllByRecursion (IsGood keys) (map says lane)
+good_lane keys [] each = tt
+good_lane keys (c ∷ lane) each = (good_command keys c each.0, good_lane keys lane each.1)
 
-good_lanes : (texts : Bool) (lanes : List (List Command)) → AllByRecursion (AllByRecursion (IsCommand texts)) lanes → AllByRecursion (IsGood texts) (lane_sayings lanes)
-good_lanes texts [] each = tt
-good_lanes texts (lane ∷ lanes) each = (record { spelled = refl; whole = refl; something = refl }, each_append (IsGood texts) (map says lane) (lane_sayings lanes) (good_lane texts lane each.0) (good_lanes texts lanes each.1))
+good_lanes : (keys : KeyForm) (lanes : List (List Command)) → AllByRecursion (AllByRecursion (IsCommand keys)) lanes → AllByRecursion (IsGood keys) (lane_sayings lanes)
+good_lanes keys [] each = tt
+good_lanes keys (lane ∷ lanes) each = (record { spelled = refl; whole = refl; something = refl }, each_append (IsGood keys) (map says lane) (lane_sayings lanes) (good_lane keys lane each.0) (good_lanes keys lanes each.1))
 
-good_alone : (texts : Bool) (lanes : List (List Command)) → AllByRecursion (AllByRecursion (IsCommand texts)) lanes → AllByRecursion (IsGood texts) (flat_map (map says) lanes)
-good_alone texts [] each = tt
-good_alone texts (lane ∷ lanes) each = each_append (IsGood texts) (map says lane) (flat_map (map says) lanes) (good_lane texts lane each.0) (good_alone texts lanes each.1)
+good_alone : (keys : KeyForm) (lanes : List (List Command)) → AllByRecursion (AllByRecursion (IsCommand keys)) lanes → AllByRecursion (IsGood keys) (flat_map (map says) lanes)
+good_alone keys [] each = tt
+good_alone keys (lane ∷ lanes) each = each_append (IsGood keys) (map says lane) (flat_map (map says) lanes) (good_lane keys lane each.0) (good_alone keys lanes each.1)
 
-good_block : (texts : Bool) (together : Bool) (lanes : List (List Command)) → AllByRecursion (AllByRecursion (IsCommand texts)) lanes → AllByRecursion (IsGood texts) (block_sayings together lanes)
-good_block texts true lanes each =
-    (record { spelled = refl; whole = refl; something = refl }, each_append (IsGood texts) (lane_sayings lanes) (block_ends ∷ []) (good_lanes texts lanes each) (record { spelled = refl; whole = refl; something = refl }, tt))
-good_block texts false lanes each = good_alone texts lanes each
+good_block : (keys : KeyForm) (together : Bool) (lanes : List (List Command)) → AllByRecursion (AllByRecursion (IsCommand keys)) lanes → AllByRecursion (IsGood keys) (block_sayings together lanes)
+good_block keys true lanes each =
+    (record { spelled = refl; whole = refl; something = refl }, each_append (IsGood keys) (lane_sayings lanes) (block_ends ∷ []) (good_lanes keys lanes each) (record { spelled = refl; whole = refl; something = refl }, tt))
+good_block keys false lanes each = good_alone keys lanes each
 
-good_parts : (texts : Bool) (parts : List Part) → AreCommands texts parts → AllByRecursion (IsGood texts) (sayings parts)
-good_parts texts [] each = tt
-good_parts texts (p ∷ parts) each = each_append (IsGood texts) (block_sayings p.together p.lanes) (sayings parts) (good_block texts p.together p.lanes each.0) (good_parts texts parts each.1)
+good_parts : (keys : KeyForm) (parts : List Part) → AreCommands keys parts → AllByRecursion (IsGood keys) (sayings parts)
+good_parts keys [] each = tt
+good_parts keys (p ∷ parts) each = each_append (IsGood keys) (block_sayings p.together p.lanes) (sayings parts) (good_block keys p.together p.lanes each.0) (good_parts keys parts each.1)
 
 -- ---- lines
 
@@ -138,94 +138,91 @@ lines_printed [] each = refl
 lines_printed (line ∷ lines) each =
     ap lines_of (append_assoc line (10 ∷ []) (flat_map (λ l. l ++ 10 ∷ []) lines)) ∙ first_line line (flat_map (λ l. l ++ 10 ∷ []) lines) each.0 ∙ ap (λ l. line ∷ l) (lines_printed lines each.1)
 
-good_lines : (texts : Bool) (ss : List Saying) → AllByRecursion (IsGood texts) ss → AllByRecursion (HasNo 10) (map saying_text ss)
-good_lines texts [] each = tt
-good_lines texts (s ∷ ss) each = (each.0.whole, good_lines texts ss each.1)
+good_lines : (keys : KeyForm) (ss : List Saying) → AllByRecursion (IsGood keys) ss → AllByRecursion (HasNo 10) (map saying_text ss)
+good_lines keys [] each = tt
+good_lines keys (s ∷ ss) each = (each.0.whole, good_lines keys ss each.1)
 
-good_spells : (texts : Bool) (ss : List Saying) → AllByRecursion (IsGood texts) ss → AllZip (Spells texts) ss (map saying_text ss)
-good_spells texts [] each = tt
-good_spells texts (s ∷ ss) each = (each.0.spelled, good_spells texts ss each.1)
+good_spells : (keys : KeyForm) (ss : List Saying) → AllByRecursion (IsGood keys) ss → AllZip (Spells keys) ss (map saying_text ss)
+good_spells keys [] each = tt
+good_spells keys (s ∷ ss) each = (each.0.spelled, good_spells keys ss each.1)
 
-all_spoken : (texts : Bool) (ss : List Saying) → AllByRecursion (IsGood texts) ss → filter says_something (map saying_text ss) ≡ map saying_text ss
-all_spoken texts [] each = refl
-all_spoken texts (s ∷ ss) each = rw each.0.something (ap (λ l. saying_text s ∷ l) (all_spoken texts ss each.1))
+all_spoken : (keys : KeyForm) (ss : List Saying) → AllByRecursion (IsGood keys) ss → filter says_something (map saying_text ss) ≡ map saying_text ss
+all_spoken keys [] each = refl
+all_spoken keys (s ∷ ss) each = rw each.0.something (ap (λ l. saying_text s ∷ l) (all_spoken keys ss each.1))
 
-class_no_lf : (class : ClassName) → HasNo 10 (class_text class)
+class_no_lf : (class : ClassLine) → HasNo 10 (class_text class)
 class_no_lf Quad = refl
 class_no_lf Kd = refl
 class_no_lf Radix = refl
+class_no_lf QuadValue = refl
+class_no_lf KdValue = refl
+class_no_lf RadixValue = refl
+class_no_lf Range = refl
 
-class_said : (class : ClassName) → says_something (class_text class) ≡ true
+class_said : (class : ClassLine) → says_something (class_text class) ≡ true
 class_said Quad = refl
 class_said Kd = refl
 class_said Radix = refl
+class_said QuadValue = refl
+class_said KdValue = refl
+class_said RadixValue = refl
+class_said Range = refl
 
 printed_is : (script : Script) → IsTidy script → IsScript (printed script) script
 printed_is script tidy =
-    let texts = has_texts script.class in
-    let good = good_parts texts script.parts tidy.commands in
-    let lines : lines_of (printed script) ≡ printed_lines script = lines_printed (printed_lines script) (class_no_lf script.class, good_lines texts (sayings script.parts) good) in
+    let keys = keys_of script.class in
+    let good = good_parts keys script.parts tidy.commands in
+    let lines : lines_of (printed script) ≡ printed_lines script = lines_printed (printed_lines script) (class_no_lf script.class, good_lines keys (sayings script.parts) good) in
     let spoken : filter says_something (printed_lines script) ≡ printed_lines script =
     ap (λ (t : Bool). cond t (class_text script.class ∷ filter says_something (map saying_text (sayings script.parts))) (filter says_something (map saying_text (sayings script.parts)))) (class_said script.class)
-    ∙ ap (λ l. class_text script.class ∷ l) (all_spoken texts (sayings script.parts) good) in
-    subst (λ (l : List (List ℕ)). AreSpoken l script) (sym (ap (filter says_something) lines ∙ spoken)) (refl, tidy.parts, good_spells texts (sayings script.parts) good)
+    ∙ ap (λ l. class_text script.class ∷ l) (all_spoken keys (sayings script.parts) good) in
+    subst (λ (l : List (List ℕ)). AreSpoken l script) (sym (ap (filter says_something) lines ∙ spoken)) (refl, tidy.parts, good_spells keys (sayings script.parts) good)
 
 -- ---- one script
 
-pub same_class : (a b : ClassName) → class_text a ≡ class_text b → a ≡ b
-same_class Quad Quad is = refl
-same_class Kd Kd is = refl
-same_class Radix Radix is = refl
-same_class Quad Kd is = (cc)
-same_class Quad Radix is = (cc)
-same_class Kd Quad is = (cc)
-same_class Kd Radix is = (cc)
-same_class Radix Quad is = (cc)
-same_class Radix Kd is = (cc)
-
 -- a line that is no command's says no command
-no_command : (texts : Bool) (c : Command) (line word : List ℕ) → line ≡ word → command_of texts word ≡ None → SpellsCommand texts c line → ⊥
-no_command texts c line word is none spelled = let clash : None ≡ Some c = sym none ∙ ap (command_of texts) (sym is) ∙ command_of-spelled texts c line spelled in (cc)
+no_command : (keys : KeyForm) (c : Command) (line word : List ℕ) → line ≡ word → command_of keys word ≡ None → SpellsCommand keys c line → ⊥
+no_command keys c line word is none spelled = let clash : None ≡ Some c = sym none ∙ ap (command_of keys) (sym is) ∙ command_of-spelled keys c line spelled in (cc)
 
-together_is_none : (texts : Bool) → command_of texts (codes "together") ≡ None
+together_is_none : (keys : KeyForm) → command_of keys (codes "together") ≡ None
 unfolding command_of
-together_is_none texts = refl
+together_is_none keys = refl
 
-lane_is_none : (texts : Bool) → command_of texts (codes "lane") ≡ None
+lane_is_none : (keys : KeyForm) → command_of keys (codes "lane") ≡ None
 unfolding command_of
-lane_is_none texts = refl
+lane_is_none keys = refl
 
-end_is_none : (texts : Bool) → command_of texts (codes "end") ≡ None
+end_is_none : (keys : KeyForm) → command_of keys (codes "end") ≡ None
 unfolding command_of
-end_is_none texts = refl
+end_is_none keys = refl
 
-pub one_saying : (texts : Bool) (s t : Saying) (line : List ℕ) → Spells texts s line → Spells texts t line → s ≡ t
-one_saying texts block_opens block_opens line a b = refl
-one_saying texts lane_opens lane_opens line a b = refl
-one_saying texts block_ends block_ends line a b = refl
-one_saying texts block_opens lane_opens line a b = let clash : codes "together" ≡ codes "lane" = sym a ∙ b in (cc)
-one_saying texts block_opens block_ends line a b = let clash : codes "together" ≡ codes "end" = sym a ∙ b in (cc)
-one_saying texts lane_opens block_opens line a b = let clash : codes "lane" ≡ codes "together" = sym a ∙ b in (cc)
-one_saying texts lane_opens block_ends line a b = let clash : codes "lane" ≡ codes "end" = sym a ∙ b in (cc)
-one_saying texts block_ends block_opens line a b = let clash : codes "end" ≡ codes "together" = sym a ∙ b in (cc)
-one_saying texts block_ends lane_opens line a b = let clash : codes "end" ≡ codes "lane" = sym a ∙ b in (cc)
-one_saying texts block_opens (says d) line a b = absurd (no_command texts d line (codes "together") a (together_is_none texts) b)
-one_saying texts lane_opens (says d) line a b = absurd (no_command texts d line (codes "lane") a (lane_is_none texts) b)
-one_saying texts block_ends (says d) line a b = absurd (no_command texts d line (codes "end") a (end_is_none texts) b)
-one_saying texts (says c) block_opens line a b = absurd (no_command texts c line (codes "together") b (together_is_none texts) a)
-one_saying texts (says c) lane_opens line a b = absurd (no_command texts c line (codes "lane") b (lane_is_none texts) a)
-one_saying texts (says c) block_ends line a b = absurd (no_command texts c line (codes "end") b (end_is_none texts) a)
-one_saying texts (says c) (says d) line a b = ap says (same_Some c d (sym (command_of-spelled texts c line a) ∙ command_of-spelled texts d line b))
+pub one_saying : (keys : KeyForm) (s t : Saying) (line : List ℕ) → Spells keys s line → Spells keys t line → s ≡ t
+one_saying keys block_opens block_opens line a b = refl
+one_saying keys lane_opens lane_opens line a b = refl
+one_saying keys block_ends block_ends line a b = refl
+one_saying keys block_opens lane_opens line a b = let clash : codes "together" ≡ codes "lane" = sym a ∙ b in (cc)
+one_saying keys block_opens block_ends line a b = let clash : codes "together" ≡ codes "end" = sym a ∙ b in (cc)
+one_saying keys lane_opens block_opens line a b = let clash : codes "lane" ≡ codes "together" = sym a ∙ b in (cc)
+one_saying keys lane_opens block_ends line a b = let clash : codes "lane" ≡ codes "end" = sym a ∙ b in (cc)
+one_saying keys block_ends block_opens line a b = let clash : codes "end" ≡ codes "together" = sym a ∙ b in (cc)
+one_saying keys block_ends lane_opens line a b = let clash : codes "end" ≡ codes "lane" = sym a ∙ b in (cc)
+one_saying keys block_opens (says d) line a b = absurd (no_command keys d line (codes "together") a (together_is_none keys) b)
+one_saying keys lane_opens (says d) line a b = absurd (no_command keys d line (codes "lane") a (lane_is_none keys) b)
+one_saying keys block_ends (says d) line a b = absurd (no_command keys d line (codes "end") a (end_is_none keys) b)
+one_saying keys (says c) block_opens line a b = absurd (no_command keys c line (codes "together") b (together_is_none keys) a)
+one_saying keys (says c) lane_opens line a b = absurd (no_command keys c line (codes "lane") b (lane_is_none keys) a)
+one_saying keys (says c) block_ends line a b = absurd (no_command keys c line (codes "end") b (end_is_none keys) a)
+one_saying keys (says c) (says d) line a b = ap says (same_Some c d (sym (command_of-spelled keys c line a) ∙ command_of-spelled keys d line b))
 
-pub one_list : (texts : Bool) (ss ts : List Saying) (lines : List (List ℕ)) → AllZip (Spells texts) ss lines → AllZip (Spells texts) ts lines → ss ≡ ts
-one_list texts [] [] [] a b = refl
-one_list texts [] [] (line ∷ lines) a b = refl
-one_list texts [] (t ∷ ts) [] a b = absurd b
-one_list texts [] (t ∷ ts) (line ∷ lines) a b = absurd a
-one_list texts (s ∷ ss) [] [] a b = absurd a
-one_list texts (s ∷ ss) [] (line ∷ lines) a b = absurd b
-one_list texts (s ∷ ss) (t ∷ ts) [] a b = absurd a
-one_list texts (s ∷ ss) (t ∷ ts) (line ∷ lines) a b = ap (λ (x : Saying). x ∷ ss) (one_saying texts s t line a.0 b.0) ∙ ap (λ l. t ∷ l) (one_list texts ss ts lines a.1 b.1)
+pub one_list : (keys : KeyForm) (ss ts : List Saying) (lines : List (List ℕ)) → AllZip (Spells keys) ss lines → AllZip (Spells keys) ts lines → ss ≡ ts
+one_list keys [] [] [] a b = refl
+one_list keys [] [] (line ∷ lines) a b = refl
+one_list keys [] (t ∷ ts) [] a b = absurd b
+one_list keys [] (t ∷ ts) (line ∷ lines) a b = absurd a
+one_list keys (s ∷ ss) [] [] a b = absurd a
+one_list keys (s ∷ ss) [] (line ∷ lines) a b = absurd b
+one_list keys (s ∷ ss) (t ∷ ts) [] a b = absurd a
+one_list keys (s ∷ ss) (t ∷ ts) (line ∷ lines) a b = ap (λ (x : Saying). x ∷ ss) (one_saying keys s t line a.0 b.0) ∙ ap (λ l. t ∷ l) (one_list keys ss ts lines a.1 b.1)
 
 -- the front of a list is no command
 abbrev pub IsNoCommand : List Saying → Type 0
@@ -307,9 +304,9 @@ one_spoken : (lines : List (List ℕ)) (a b : Script) → AreSpoken lines a → 
 one_spoken [] a b x y = absurd x
 one_spoken (line ∷ lines) a b x y =
     let class : a.class ≡ b.class = same_class a.class b.class (sym x.0 ∙ y.0) in
-    let spelled : AllZip (Spells (has_texts b.class)) (sayings a.parts) lines = subst (λ (k : ClassName). AllZip (Spells (has_texts k)) (sayings a.parts) lines) class x.2 in
-    let parts : a.parts ≡ b.parts = same_parts a.parts b.parts x.1 y.1 (one_list (has_texts b.class) (sayings a.parts) (sayings b.parts) lines spelled y.2) in
-    ap (λ (k : ClassName). record { class = k; parts = a.parts }) class ∙ ap (λ (l : List Part). record { class = b.class; parts = l }) parts
+    let spelled : AllZip (Spells (keys_of b.class)) (sayings a.parts) lines = subst (λ (k : ClassLine). AllZip (Spells (keys_of k)) (sayings a.parts) lines) class x.2 in
+    let parts : a.parts ≡ b.parts = same_parts a.parts b.parts x.1 y.1 (one_list (keys_of b.class) (sayings a.parts) (sayings b.parts) lines spelled y.2) in
+    ap (λ (k : ClassLine). record { class = k; parts = a.parts }) class ∙ ap (λ (l : List Part). record { class = b.class; parts = l }) parts
 
 -- bytes with a first bad line are no script
 no_script : (bytes : List ℕ) (n : ℕ) → IsFirstBad bytes n → (script : Script) → IsScript bytes script → ⊥

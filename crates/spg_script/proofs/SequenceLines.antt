@@ -1,23 +1,25 @@
 -- A script of commands outside lanes is read line by line.
-use Rattle.std.proofs.Common.{◌≡◌, ◌<◌, ◌⊎◌, inl, inr, ◌≤◌, ◌+◌, ◌-◌, ◌^◌, ℕ, suc, Bool, true, false, List, [], ◌∷◌, ◌++◌, length, map, take, drop, take-append-drop, refl, sym, ap, ◌∙◌, subst, arith, append-nil, length-append}
+use Rattle.std.proofs.Common.{◌≡◌, ◌<◌, inl, inr, ◌+◌, ◌-◌, ℕ, suc, Bool, true, false, List, [], ◌∷◌, ◌++◌, length, map, take, drop, take-append-drop, refl, sym, ap, ◌∙◌, subst, arith, append-nil, length-append}
 use Rattle.std.specs.Prelude.{filter}
 use Rattle.std.specs.List.{AllZip, AllByRecursion}
 use Rattle.std.proofs.lemmas.Bool.{cases_lt}
 use Rattle.std.proofs.lemmas.List.{append_assoc, map-append, take_at, take_all}
-use Rattle.spg_script.specs.declared.class_name.ClassName.{ClassName}
-use Rattle.spg_script.specs.declared.class_name.ClassName.TheVariants.{Quad}
+use Rattle.spg_script.specs.declared.key_form.KeyForm.{KeyForm}
+use Rattle.spg_script.specs.declared.class_line.ClassLine.{ClassLine}
+use Rattle.spg_script.specs.declared.class_line.ClassLine.TheVariants.{Quad}
 use Rattle.spg_script.specs.declared.command.Command.{Command}
 use Rattle.spg_script.specs.declared.sequence.Sequence.{Sequence}
 use Rattle.spg_script.specs.declared.sequence.SequenceReader.{SequenceReader}
 use Rattle.spg_script.specs.declared.sequence.SequenceReader.TheVariants.{Start, Named}
 use Rattle.spg_script.specs.declared.refused.ScriptRefused.TheVariants.{BadLine}
-use Rattle.spg_script.specs.Blocks.{Part, alone_part, Script}
+use Rattle.spg_script.specs.Blocks.{Part, alone_part}
 use Rattle.spg_script.specs.Spelling.{class_text}
-use Rattle.spg_script.specs.Line.{has_texts, SpellsCommand}
-use Rattle.spg_script.specs.Script.{lines_of, says_something, says, sayings, IsLaneCommand, IsPart, Spells, AreSpoken, AreLines, IsScript}
-use Rattle.spg_script.specs.Reader.{Place, at_start, between, SaysFrom, LeadTo, script_at}
+use Rattle.spg_script.specs.Line.{keys_of, SpellsCommand}
+use Rattle.spg_script.specs.Script.{lines_of, says_something, says, sayings, IsLaneCommand, IsPart, Spells, AreSpoken, AreLines}
+use Rattle.spg_script.specs.Reader.{between, SaysFrom, LeadTo, script_at}
 use Rattle.spg_script.specs.Sequences.{script_of, IsSequence, CanRunOn, IsFirstForeign, IsSequenceCause, place_between, sequence_place, commands_of, RefusesForeign, TakesOn, StepsInSequence, GoesOnInSequence}
-use Rattle.spg_script.proofs.Scripts.{same_class, one_saying, same_command}
+use Rattle.spg_script.proofs.ClassLines.{same_class}
+use Rattle.spg_script.proofs.Scripts.{one_saying, same_command}
 use Rattle.spg_script.proofs.Places.{spoken_with, go_on}
 use Rattle.spg_script.proofs.ReadLines.{ReadSoFar, read_more}
 
@@ -27,22 +29,22 @@ all_more : (commands : List Command) (c : Command) → AllByRecursion IsLaneComm
 all_more [] c are is = (is, tt)
 all_more (d ∷ commands) c are is = (are.0, all_more commands c are.1 is)
 
-command_taken : (class : ClassName) (commands longer : List Command) (c : Command) (line : List ℕ) → longer ≡ commands ++ c ∷ [] → SpellsCommand (has_texts class) c line
+command_taken : (class : ClassLine) (commands longer : List Command) (c : Command) (line : List ℕ) → longer ≡ commands ++ c ∷ [] → SpellsCommand (keys_of class) c line
     → (spoken : List (List ℕ)) → LeadTo (between class (map alone_part commands)) spoken → LeadTo (between class (map alone_part longer)) (spoken ++ line ∷ [])
 command_taken class commands longer c line pushed spelled =
     let all : map alone_part longer ≡ map alone_part commands ++ alone_part c ∷ [] = ap (map alone_part) pushed ∙ map-append alone_part commands (c ∷ []) in
     λ spoken lead. subst (λ (parts : List Part). LeadTo (between class parts) (spoken ++ line ∷ [])) (sym all) (go_on.command class (map alone_part commands) c spoken line lead spelled)
 
 -- a line that says a command that is taken leads on, and one that says another is refused
-pub sequence_steps : (old new : Sequence) (c : Command) (line : List ℕ) (taken : Bool) → SpellsCommand (has_texts old.class) c line → TakesOn old c taken new → StepsInSequence old line taken new
+pub sequence_steps : (old new : Sequence) (c : Command) (line : List ℕ) (taken : Bool) → SpellsCommand (keys_of old.class) c line → TakesOn old c taken new → StepsInSequence old line taken new
 sequence_steps old new c line true spelled (is, same, pushed) = (
-  subst (λ (k : ClassName). (spoken : List (List ℕ)) → LeadTo (place_between old) spoken → LeadTo (between k (map alone_part new.commands)) (spoken ++ line ∷ [])) (sym same)
+  subst (λ (k : ClassLine). (spoken : List (List ℕ)) → LeadTo (place_between old) spoken → LeadTo (between k (map alone_part new.commands)) (spoken ++ line ∷ [])) (sym same)
       (command_taken old.class old.commands new.commands c line pushed spelled),
   λ are. subst (λ (cs : List Command). AllByRecursion IsLaneCommand cs) (sym pushed) (all_more old.commands c are is),
 )
-sequence_steps old new c line false spelled other = λ d is spells. other (subst IsLaneCommand (sym (same_command c d (one_saying (has_texts old.class) (says c) (says d) line spelled spells))) is)
+sequence_steps old new c line false spelled other = λ d is spells. other (subst IsLaneCommand (sym (same_command c d (one_saying (keys_of old.class) (says c) (says d) line spelled spells))) is)
 
-pub class_named : (class : ClassName) (commands : List Command) (line : List ℕ) (reader : SequenceReader) → reader ≡ Named (record { class = class; commands = commands }) → commands ≡ [] → line ≡ class_text class → says_something line ≡ true
+pub class_named : (class : ClassLine) (commands : List Command) (line : List ℕ) (reader : SequenceReader) → reader ≡ Named (record { class = class; commands = commands }) → commands ≡ [] → line ≡ class_text class → says_something line ≡ true
     → GoesOnInSequence Start line true reader
 class_named class commands line reader now none is some =
     let all : reader ≡ Named (record { class = class; commands = [] }) = now ∙ ap (λ (cs : List Command). Named (record { class = class; commands = cs })) none in
@@ -60,7 +62,7 @@ says_nothing r line none = (λ lines lead. go_on.silent (sequence_place r) lines
 
 -- ---- what some such script begins with
 
-said_script : (class : ClassName) (parts : List Part) (spoken : List (List ℕ)) → SaysFrom class (sayings parts) spoken → AllByRecursion IsPart parts → AreSpoken spoken (script_at class parts)
+said_script : (class : ClassLine) (parts : List Part) (spoken : List (List ℕ)) → SaysFrom class (sayings parts) spoken → AllByRecursion IsPart parts → AreSpoken spoken (script_at class parts)
 said_script class parts [] said are = said
 said_script class parts (line ∷ lines) said are = (said.0, are, said.1)
 
@@ -72,12 +74,12 @@ goes_on (Named s) lines lead are =
     ([], s, subst (λ (l : List (List ℕ)). AreLines l (script_of s)) (sym (append-nil lines)) (said_script s.class (map alone_part s.commands) (filter says_something lines) lead.0 lead.1), are)
 
 -- each line behind the class line is a command
-said_next : (texts : Bool) (commands : List Command) (lines : List (List ℕ)) (line : List ℕ) (rest : List (List ℕ)) → AllZip (Spells texts) (sayings (map alone_part commands)) (lines ++ line ∷ rest) → AllByRecursion IsLaneCommand commands
-    → (c : Command) × IsLaneCommand c × SpellsCommand texts c line
-said_next texts [] [] line rest a are = absurd a
-said_next texts [] (l ∷ lines) line rest a are = absurd a
-said_next texts (c ∷ commands) [] line rest a are = (c, are.0, a.0)
-said_next texts (c ∷ commands) (l ∷ lines) line rest a are = said_next texts commands lines line rest a.1 are.1
+said_next : (keys : KeyForm) (commands : List Command) (lines : List (List ℕ)) (line : List ℕ) (rest : List (List ℕ)) → AllZip (Spells keys) (sayings (map alone_part commands)) (lines ++ line ∷ rest) → AllByRecursion IsLaneCommand commands
+    → (c : Command) × IsLaneCommand c × SpellsCommand keys c line
+said_next keys [] [] line rest a are = absurd a
+said_next keys [] (l ∷ lines) line rest a are = absurd a
+said_next keys (c ∷ commands) [] line rest a are = (c, are.0, a.0)
+said_next keys (c ∷ commands) (l ∷ lines) line rest a are = said_next keys commands lines line rest a.1 are.1
 
 bad : (r : SequenceReader) (lines : List (List ℕ)) (line : List ℕ) → LeadTo (sequence_place r) (filter says_something lines) → says_something line ≡ true → RefusesForeign (sequence_place r) line → CanRunOn (lines ++ line ∷ []) → ⊥
 bad Start lines line lead some refuses (more, s, are, lane) =
@@ -88,8 +90,8 @@ bad (Named x) lines line lead some refuses (more, s, are, lane) = by (filter say
     by [] said are = said
     by (l ∷ ls) said are =
         let same : s.class ≡ x.class = same_class s.class x.class (sym are.0 ∙ said.0) in
-        let next = said_next (has_texts s.class) s.commands ls line (filter says_something more) are.2 lane in
-        refuses next.0 next.1 (subst (λ (k : ClassName). SpellsCommand (has_texts k) next.0 line) same next.2)
+        let next = said_next (keys_of s.class) s.commands ls line (filter says_something more) are.2 lane in
+        refuses next.0 next.1 (subst (λ (k : ClassLine). SpellsCommand (keys_of k) next.0 line) same next.2)
 
 first_foreign : (r : SequenceReader) (bytes : List ℕ) (lines : List (List ℕ)) (line : List ℕ) (rest : List (List ℕ)) → lines_of bytes ≡ lines ++ line ∷ rest → LeadTo (sequence_place r) (filter says_something lines) → AllByRecursion IsLaneCommand (commands_of r)
     → says_something line ≡ true → RefusesForeign (sequence_place r) line → IsFirstForeign bytes (length lines + 1)

@@ -6,6 +6,7 @@ use Rattle.std.proofs.lemmas.Option.{same_Some}
 use Rattle.std.proofs.lemmas.Bool.{ltb-true, leb-true, lt-ltb, le-leb}
 use Rattle.spg_radix.specs.Texts.{is_bytes, is_text}
 use Rattle.spg_radix.specs.Conditions.{named}
+use Rattle.spg_script.specs.declared.key_form.KeyForm.{KeyForm}
 use Rattle.spg_script.specs.declared.any_key.AnyKey.{AnyKey}
 use Rattle.spg_script.specs.declared.any_key.AnyKey.TheVariants as any_key
 use Rattle.spg_script.specs.declared.any_cond.AnyCond.{AnyCond}
@@ -17,9 +18,9 @@ use Rattle.spg_script.specs.declared.command.Command.TheVariants.{Insert, Delete
 use Rattle.spg_script.specs.Blocks.{Part, Script}
 use Rattle.spg_base.specs.Text.{row_text}
 use Rattle.spg_script.specs.Quoted.{hex_of, is_plain, escaped, first_byte, SpellsText, IsQuoted}
-use Rattle.spg_script.specs.Spelling.{cond_text}
-use Rattle.spg_script.specs.Line.{has_texts, word_of, SpellsKeyOrNull, SpellsCond, SpellsConds, SpellsQuery, SpellsCommand}
-use Rattle.spg_script.specs.Laws.{IsKeyOrNull, IsAnyCond, IsQuery, IsCommand}
+use Rattle.spg_script.specs.Spelling.{cond_text, value_text, range_cond_text}
+use Rattle.spg_script.specs.Line.{keys_of, word_of, SpellsAnyKey, SpellsKeyOrNull, SpellsAnyCond, SpellsConds, SpellsQuery, SpellsCommand}
+use Rattle.spg_script.specs.Laws.{IsSoundKey, IsKeyOrNull, IsSoundCond, IsAnyCond, IsQuery, IsCommand}
 use Rattle.spg_script.specs.Script.{onto_first, lines_of, says_something, Saying, block_opens, lane_opens, block_ends, says, lane_sayings, block_sayings, sayings, Spells, AreSpoken, IsScript, AreCommands, IsTidy}
 
 abbrev pub AreBytes : List ℕ → Type 0
@@ -41,7 +42,7 @@ back : (front rest : List ℕ) → AreBytes (front ++ rest) → AreBytes rest
 back [] rest are = are
 back (b ∷ front) rest are = back front rest are.1
 
--- ---- texts
+-- ---- keys
 
 both : (a b : Bool) → (a && b) ≡ true → (a ≡ true) × (b ≡ true)
 both true b is = (refl, is)
@@ -110,44 +111,46 @@ quoted_is text bytes left are q =
     let one = text_small text q.inner left inner.1 q.spelled in
     record { is = rw (bytes_are text one.bytes, le-leb (length text) 3900 q.short) refl; rest = one.rest }
 
-key_is : (texts : Bool) (key : Option AnyKey) (bytes : List ℕ) → AreBytes bytes → SpellsKeyOrNull texts key bytes → IsKeyOrNull texts key
-key_is texts None bytes are is = tt
-key_is false (Some (any_key.Point point)) bytes are is = is.1
-key_is false (Some (any_key.Text text)) bytes are is = absurd is
-key_is true (Some (any_key.Point point)) bytes are is = absurd is
-key_is true (Some (any_key.Text text)) bytes are is = (quoted_is text bytes [] are is).is
+any_key_is : (key : AnyKey) (bytes : List ℕ) → AreBytes bytes → SpellsAnyKey key bytes → IsSoundKey key
+any_key_is (any_key.Point point) bytes are is = is.1
+any_key_is (any_key.Text text) bytes are is = (quoted_is text bytes [] are is).is
+any_key_is (any_key.PointValue point value) bytes are is = (is.1, is.2)
+any_key_is (any_key.TextValue text value) bytes are is = ((quoted_is text bytes (value_text value) are is.0).is, is.1)
+any_key_is (any_key.Range range) bytes are is = is.1
 
-record IsCondAnd (texts : Bool) (c : AnyCond) (left : List ℕ) : Type 0 where
-  is : IsAnyCond texts c
+key_is : (keys : KeyForm) (key : Option AnyKey) (bytes : List ℕ) → AreBytes bytes → SpellsKeyOrNull keys key bytes → IsKeyOrNull keys key
+key_is keys None bytes are is = tt
+key_is keys (Some key) bytes are is = (is.0, any_key_is key bytes are is.1)
+
+record IsCondAnd (c : AnyCond) (left : List ℕ) : Type 0 where
+  is : IsSoundCond c
   rest : AreBytes left
 
-cond_is : (texts : Bool) (c : AnyCond) (bytes left : List ℕ) → AreBytes bytes → SpellsCond texts c bytes left → IsCondAnd texts c left
-cond_is false (any_cond.Point c) bytes left are is = record { is = is.1; rest = back (cond_text c) left (subst AreBytes is.0 are) }
-cond_is false (any_cond.Text c) bytes left are is = absurd is
-cond_is true (any_cond.Point c) bytes left are is = absurd is
-cond_is true (any_cond.Text c) bytes left are (text, all, q) =
+cond_is : (c : AnyCond) (bytes left : List ℕ) → AreBytes bytes → SpellsAnyCond c bytes left → IsCondAnd c left
+cond_is (any_cond.Point c) bytes left are is = record { is = is.1; rest = back (cond_text c) left (subst AreBytes is.0 are) }
+cond_is (any_cond.Range c) bytes left are is = record { is = is.1; rest = back (range_cond_text c) left (subst AreBytes is.0 are) }
+cond_is (any_cond.Text c) bytes left are (text, all, q) =
     let one = quoted_is (named c) text left (back (word_of c) (32 ∷ text) (subst AreBytes all are)).1 q in record { is = one.is; rest = one.rest }
 
-conds_are : (texts : Bool) (word : List ℕ) (conds : List AnyCond) (bytes : List ℕ) → AreBytes bytes → SpellsConds texts word conds bytes → AllByRecursion (IsAnyCond texts) conds
-conds_are texts word [] bytes are is = tt
-conds_are texts word (c ∷ conds) bytes are (more, left, all, one, later) =
-    let first = cond_is texts c more left (back word more (subst AreBytes all are)) one in
-    (first.is, conds_are texts (codes " and ") conds left first.rest later)
+conds_are : (keys : KeyForm) (word : List ℕ) (conds : List AnyCond) (bytes : List ℕ) → AreBytes bytes → SpellsConds keys word conds bytes → AllByRecursion (IsAnyCond keys) conds
+conds_are keys word [] bytes are is = tt
+conds_are keys word (c ∷ conds) bytes are (more, left, all, one, later) =
+    let first = cond_is c more left (back word more (subst AreBytes all are)) one.1 in
+    ((one.0, first.is), conds_are keys (codes " and ") conds left first.rest later)
 
-query_is : (texts : Bool) (query : AnyQuery) (bytes : List ℕ) → AreBytes bytes → SpellsQuery texts query bytes → IsQuery texts query
-query_is texts All bytes are is = tt
-query_is texts Null bytes are is = tt
-query_is texts (Where conds) bytes are is = (conds_are texts (codes "where ") conds bytes are is.0, is.1, is.2)
+query_is : (keys : KeyForm) (query : AnyQuery) (bytes : List ℕ) → AreBytes bytes → SpellsQuery keys query bytes → IsQuery keys query
+query_is keys All bytes are is = tt
+query_is keys Null bytes are is = tt
+query_is keys (Where conds) bytes are is = (conds_are keys (codes "where ") conds bytes are is.0, is.1, is.2)
 
-command_is : (texts : Bool) (c : Command) (line : List ℕ) → AreBytes line → SpellsCommand texts c line → IsCommand texts c
-command_is texts (Insert row key) line are (bytes, all, row_is, spelled) = (row_is, key_is texts key bytes (back (row_text row) (32 ∷ bytes) (back (codes "insert ") (row_text row ++ 32 ∷ bytes) (subst AreBytes (all ∙ refl) are))).1 spelled)
-command_is texts (Delete row) line are is = is.1
-command_is texts (Find query) line are (bytes, all, spelled) = query_is texts query bytes (back (codes "find ") bytes (subst AreBytes all are)) spelled
-command_is texts Vacuum line are is = tt
-command_is texts (Save name) line are is = is.1
-command_is texts Stat line are is = tt
-command_is false (Near target limit) line are is = (is.1, is.2, is.3)
-command_is true (Near target limit) line are is = absurd is
+command_is : (keys : KeyForm) (c : Command) (line : List ℕ) → AreBytes line → SpellsCommand keys c line → IsCommand keys c
+command_is keys (Insert row key) line are (bytes, all, row_is, spelled) = (row_is, key_is keys key bytes (back (row_text row) (32 ∷ bytes) (back (codes "insert ") (row_text row ++ 32 ∷ bytes) (subst AreBytes (all ∙ refl) are))).1 spelled)
+command_is keys (Delete row) line are is = is.1
+command_is keys (Find query) line are (bytes, all, spelled) = query_is keys query bytes (back (codes "find ") bytes (subst AreBytes all are)) spelled
+command_is keys Vacuum line are is = tt
+command_is keys (Save name) line are is = is.1
+command_is keys Stat line are is = tt
+command_is keys (Near target limit) line are is = (is.0, is.2, is.3, is.4)
 
 -- ---- scripts
 
@@ -169,23 +172,23 @@ spoken_bytes (line ∷ lines) each = go (says_something line) (spoken_bytes line
     go false rest = rest
 
 -- what a saying names is well formed
-abbrev IsSaid : Bool → Saying → Type 0
-IsSaid texts block_opens = ⊤
-IsSaid texts lane_opens = ⊤
-IsSaid texts block_ends = ⊤
-IsSaid texts (says c) = IsCommand texts c
+abbrev IsSaid : KeyForm → Saying → Type 0
+IsSaid keys block_opens = ⊤
+IsSaid keys lane_opens = ⊤
+IsSaid keys block_ends = ⊤
+IsSaid keys (says c) = IsCommand keys c
 
-said_is : (texts : Bool) (s : Saying) (line : List ℕ) → AreBytes line → Spells texts s line → IsSaid texts s
-said_is texts block_opens line are is = tt
-said_is texts lane_opens line are is = tt
-said_is texts block_ends line are is = tt
-said_is texts (says c) line are is = command_is texts c line are is
+said_is : (keys : KeyForm) (s : Saying) (line : List ℕ) → AreBytes line → Spells keys s line → IsSaid keys s
+said_is keys block_opens line are is = tt
+said_is keys lane_opens line are is = tt
+said_is keys block_ends line are is = tt
+said_is keys (says c) line are is = command_is keys c line are is
 
-all_said : (texts : Bool) (ss : List Saying) (lines : List (List ℕ)) → AllByRecursion AreBytes lines → AllZip (Spells texts) ss lines → AllByRecursion (IsSaid texts) ss
-all_said texts [] [] each all = tt
-all_said texts [] (line ∷ lines) each all = absurd all
-all_said texts (s ∷ ss) [] each all = absurd all
-all_said texts (s ∷ ss) (line ∷ lines) each all = (said_is texts s line each.0 all.0, all_said texts ss lines each.1 all.1)
+all_said : (keys : KeyForm) (ss : List Saying) (lines : List (List ℕ)) → AllByRecursion AreBytes lines → AllZip (Spells keys) ss lines → AllByRecursion (IsSaid keys) ss
+all_said keys [] [] each all = tt
+all_said keys [] (line ∷ lines) each all = absurd all
+all_said keys (s ∷ ss) [] each all = absurd all
+all_said keys (s ∷ ss) (line ∷ lines) each all = (said_is keys s line each.0 all.0, all_said keys ss lines each.1 all.1)
 
 each_left : {A : Type 0} (P : A → Type 0) (xs ys : List A) → AllByRecursion P (xs ++ ys) → AllByRecursion P xs
 each_left P [] ys each = tt
@@ -195,29 +198,29 @@ each_right : {A : Type 0} (P : A → Type 0) (xs ys : List A) → AllByRecursion
 each_right P [] ys each = each
 each_right P (x ∷ xs) ys each = each_right P xs ys each.1
 
-lane_said : (texts : Bool) (lane : List Command) → AllByRecursion (IsSaid texts) (map says lane) → AllByRecursion (IsCommand texts) lane
-lane_said texts [] each = tt
-lane_said texts (c ∷ lane) each = (each.0, lane_said texts lane each.1)
+lane_said : (keys : KeyForm) (lane : List Command) → AllByRecursion (IsSaid keys) (map says lane) → AllByRecursion (IsCommand keys) lane
+lane_said keys [] each = tt
+lane_said keys (c ∷ lane) each = (each.0, lane_said keys lane each.1)
 
-lanes_said : (texts : Bool) (lanes : List (List Command)) → AllByRecursion (IsSaid texts) (lane_sayings lanes) → AllByRecursion (AllByRecursion (IsCommand texts)) lanes
-lanes_said texts [] each = tt
-lanes_said texts (lane ∷ lanes) each = (lane_said texts lane (each_left (IsSaid texts) (map says lane) (lane_sayings lanes) each.1), lanes_said texts lanes (each_right (IsSaid texts) (map says lane) (lane_sayings lanes) each.1))
+lanes_said : (keys : KeyForm) (lanes : List (List Command)) → AllByRecursion (IsSaid keys) (lane_sayings lanes) → AllByRecursion (AllByRecursion (IsCommand keys)) lanes
+lanes_said keys [] each = tt
+lanes_said keys (lane ∷ lanes) each = (lane_said keys lane (each_left (IsSaid keys) (map says lane) (lane_sayings lanes) each.1), lanes_said keys lanes (each_right (IsSaid keys) (map says lane) (lane_sayings lanes) each.1))
 
-alone_said : (texts : Bool) (lanes : List (List Command)) → AllByRecursion (IsSaid texts) (flat_map (map says) lanes) → AllByRecursion (AllByRecursion (IsCommand texts)) lanes
-alone_said texts [] each = tt
-alone_said texts (lane ∷ lanes) each = (lane_said texts lane (each_left (IsSaid texts) (map says lane) (flat_map (map says) lanes) each), alone_said texts lanes (each_right (IsSaid texts) (map says lane) (flat_map (map says) lanes) each))
+alone_said : (keys : KeyForm) (lanes : List (List Command)) → AllByRecursion (IsSaid keys) (flat_map (map says) lanes) → AllByRecursion (AllByRecursion (IsCommand keys)) lanes
+alone_said keys [] each = tt
+alone_said keys (lane ∷ lanes) each = (lane_said keys lane (each_left (IsSaid keys) (map says lane) (flat_map (map says) lanes) each), alone_said keys lanes (each_right (IsSaid keys) (map says lane) (flat_map (map says) lanes) each))
 
-block_said : (texts : Bool) (together : Bool) (lanes : List (List Command)) → AllByRecursion (IsSaid texts) (block_sayings together lanes) → AllByRecursion (AllByRecursion (IsCommand texts)) lanes
-block_said texts true lanes each = lanes_said texts lanes (each_left (IsSaid texts) (lane_sayings lanes) (block_ends ∷ []) each.1)
-block_said texts false lanes each = alone_said texts lanes each
+block_said : (keys : KeyForm) (together : Bool) (lanes : List (List Command)) → AllByRecursion (IsSaid keys) (block_sayings together lanes) → AllByRecursion (AllByRecursion (IsCommand keys)) lanes
+block_said keys true lanes each = lanes_said keys lanes (each_left (IsSaid keys) (lane_sayings lanes) (block_ends ∷ []) each.1)
+block_said keys false lanes each = alone_said keys lanes each
 
-parts_said : (texts : Bool) (parts : List Part) → AllByRecursion (IsSaid texts) (sayings parts) → AreCommands texts parts
-parts_said texts [] each = tt
-parts_said texts (p ∷ parts) each = (block_said texts p.together p.lanes (each_left (IsSaid texts) (block_sayings p.together p.lanes) (sayings parts) each), parts_said texts parts (each_right (IsSaid texts) (block_sayings p.together p.lanes) (sayings parts) each))
+parts_said : (keys : KeyForm) (parts : List Part) → AllByRecursion (IsSaid keys) (sayings parts) → AreCommands keys parts
+parts_said keys [] each = tt
+parts_said keys (p ∷ parts) each = (block_said keys p.together p.lanes (each_left (IsSaid keys) (block_sayings p.together p.lanes) (sayings parts) each), parts_said keys parts (each_right (IsSaid keys) (block_sayings p.together p.lanes) (sayings parts) each))
 
 spoken_tidy : (lines : List (List ℕ)) (script : Script) → AllByRecursion AreBytes lines → AreSpoken lines script → IsTidy script
 spoken_tidy [] script each is = absurd is
-spoken_tidy (line ∷ lines) script each is = record { parts = is.1; commands = parts_said (has_texts script.class) script.parts (all_said (has_texts script.class) (sayings script.parts) lines each.1 is.2) }
+spoken_tidy (line ∷ lines) script each is = record { parts = is.1; commands = parts_said (keys_of script.class) script.parts (all_said (keys_of script.class) (sayings script.parts) lines each.1 is.2) }
 
 pub script_tidy : (bytes : List ℕ) (script : Script) → is_bytes bytes ≡ true → IsScript bytes script → IsTidy script
 script_tidy bytes script are is = spoken_tidy (filter says_something (lines_of bytes)) script (spoken_bytes (lines_of bytes) (lines_bytes bytes (are_bytes bytes are))) is

@@ -22,12 +22,12 @@ great value (b ∷ bytes) over = go (ltb b 48 || ltb 57 b) (great (value * 10 + 
     go true later = refl
     go false later = later
 
-pub value_from-small : (value : ℕ) (bytes : List ℕ) → value < 2 ^ 32 → value_from value bytes ≡ if_small (spelled_from value bytes)
+pub value_from-small : (value : ℕ) (bytes : List ℕ) → value < 2 ^ 32 → value_from (2 ^ 32) value bytes ≡ if_small (spelled_from value bytes)
 value_from-small value [] small = rw (lt-ltb value (2 ^ 32) small) refl
 value_from-small value (b ∷ bytes) small = go (ltb b 48 || ltb 57 b) (value * 10 + (b - 48)) (value_from-small (value * 10 + (b - 48)) bytes)
   where
-    go : (t : Bool) (next : ℕ) → (next < 2 ^ 32 → value_from next bytes ≡ if_small (spelled_from next bytes))
-        → cond t None (cond (ltb next (2 ^ 32)) (value_from next bytes) None) ≡ if_small (cond t None (spelled_from next bytes))
+    go : (t : Bool) (next : ℕ) → (next < 2 ^ 32 → value_from (2 ^ 32) next bytes ≡ if_small (spelled_from next bytes))
+        → cond t None (cond (ltb next (2 ^ 32)) (value_from (2 ^ 32) next bytes) None) ≡ if_small (cond t None (spelled_from next bytes))
     go true next later = refl
     go false next later = elim (cases_lt next (2 ^ 32)) [
       | inl low ↦ rw (lt-ltb next (2 ^ 32) low) (later low)

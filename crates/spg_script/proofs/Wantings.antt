@@ -1,5 +1,5 @@
 -- What would have fitted, found line by line.
-use Rattle.std.proofs.Common.{◌≡◌, ◌-◌, ℕ, zero, suc, true, false, List, [], ◌∷◌, take, drop, Option, Some, None, refl, sym, ap, ◌∙◌}
+use Rattle.std.proofs.Common.{◌≡◌, ◌-◌, ℕ, zero, suc, true, false, List, [], ◌∷◌, take, drop, Option, Some, None, refl, ◌∙◌}
 use Rattle.std.specs.Prelude.{nat_eq, codes, slice_index_or}
 use Rattle.std.specs.List.{starts_with}
 use Rattle.spg_base.specs.declared.point.PointCond.{PointCond}

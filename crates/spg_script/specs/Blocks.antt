@@ -1,6 +1,6 @@
 -- A script as contracts see it.
 use Rattle.std.specs.Prelude.{Bool, true, false, List, [], ◌∷◌}
-use Rattle.spg_script.specs.declared.class_name.ClassName.{ClassName}
+use Rattle.spg_script.specs.declared.class_line.ClassLine.{ClassLine}
 use Rattle.spg_script.specs.declared.command.Command.{Command}
 
 -- a block: whether it was written with `together`, and its lanes, of which lane i has seat i; a command outside `together` is one lane of one command
@@ -16,5 +16,5 @@ block_part lanes = record { together = true; lanes = lanes }
 
 -- a class, and blocks in order
 pub record Script : Type 0 where
-  pub class : ClassName
+  pub class : ClassLine
   pub parts : List Part

@@ -1,11 +1,13 @@
 -- The script of generated load.
-use Rattle.std.specs.Prelude.{◌+◌, ◌*◌, ◌/◌, ◌%◌, ◌==◌, ℕ, pos, if◌then◌else◌, List, [], ◌∷◌, ◌++◌, filter, map, Some, codes}
+use Rattle.std.specs.Prelude.{◌+◌, ◌*◌, ◌/◌, ◌%◌, ◌==◌, ℕ, pos, if◌then◌else◌, List, [], ◌∷◌, ◌++◌, filter, map, Some, None, codes}
 use Rattle.std.specs.List.{flat_map, range_with_len}
 use Rattle.spg_base.specs.Row.{RowAt}
 use Rattle.spg_base.specs.declared.point.PointCond.TheVariants.{Left, Below}
 use Rattle.spg_radix.specs.declared.condition.TextCond.TheVariants.{Starts, Ge}
 use Rattle.spg_script.specs.declared.class_name.ClassName.{ClassName}
-use Rattle.spg_script.specs.declared.class_name.ClassName.TheVariants.{Quad, Kd, Radix}
+use Rattle.spg_script.specs.declared.class_name.ClassName.TheVariants.{Quad, Kd, Radix, Range}
+use Rattle.spg_script.specs.declared.class_line.ClassLine.{ClassLine}
+use Rattle.spg_script.specs.declared.class_line.ClassLine.TheVariants as line
 use Rattle.spg_script.specs.declared.any_key.AnyKey.{AnyKey}
 use Rattle.spg_script.specs.declared.any_key.AnyKey.TheVariants as any_key
 use Rattle.spg_script.specs.declared.any_cond.AnyCond.TheVariants as any_cond
@@ -30,11 +32,12 @@ three_digits n = (48 + n / 100) ∷ (48 + n / 10 % 10) ∷ (48 + n % 10) ∷ []
 abbrev pub address : ℕ → ℕ → List ℕ
 address x y = codes "street " ++ (three_digits x ++ (codes " house " ++ three_digits y))
 
--- key number `i`: a point, or its address
+-- key number `i`: a point, or its address; no load is of ranges
 abbrev pub load_key : ClassName → ℕ → ℕ → AnyKey
 load_key Quad seed i = any_key.Point (record { x = pos (load_x seed i); y = pos (load_y seed i) })
 load_key Kd seed i = any_key.Point (record { x = pos (load_x seed i); y = pos (load_y seed i) })
 load_key Radix seed i = any_key.Text (address (load_x seed i) (load_y seed i))
+load_key Range seed i = any_key.Range None
 
 -- row number `i`: a hundred to a block
 abbrev pub load_row : ℕ → RowAt
@@ -63,12 +66,14 @@ abbrev pub first_query : ClassName → AnyQuery
 first_query Quad = Where (any_cond.Point (Left (pos 100)) ∷ [])
 first_query Kd = Where (any_cond.Point (Left (pos 100)) ∷ [])
 first_query Radix = Where (any_cond.Text (Starts (codes "street 0")) ∷ [])
+first_query Range = All
 
 -- points below, or greater texts
 abbrev pub second_query : ClassName → AnyQuery
 second_query Quad = Where (any_cond.Point (Below (pos 500)) ∷ [])
 second_query Kd = Where (any_cond.Point (Below (pos 500)) ∷ [])
 second_query Radix = Where (any_cond.Text (Ge (codes "street 500")) ∷ [])
+second_query Range = All
 
 -- the load in lanes, then a vacuum, a find of all, and the two queries
 abbrev pub load_parts : ClassName → ℕ → ℕ → ℕ → List Part
@@ -80,5 +85,12 @@ load_parts class count seed lanes =
     ∷ alone_part (Find (second_query class))
     ∷ []
 
+-- the class line of a load
+abbrev pub load_class : ClassName → ClassLine
+load_class Quad = line.Quad
+load_class Kd = line.Kd
+load_class Radix = line.Radix
+load_class Range = line.Range
+
 unfoldable pub generated : ℕ → ℕ → ℕ → ClassName → Script
-generated count seed lanes class = record { class = class; parts = load_parts class count seed lanes }
+generated count seed lanes class = record { class = load_class class; parts = load_parts class count seed lanes }

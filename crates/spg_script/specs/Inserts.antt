@@ -2,7 +2,7 @@
 use Rattle.std.specs.Prelude.{◌≡◌, ◌≤◌, ◌+◌, ◌-◌, ℕ, Bool, true, false, List, ◌∷◌, [], ◌++◌, filter, take, length, map, Option, ⊤}
 use Rattle.spg_base.specs.Row.{RowAt}
 use Rattle.spg_script.specs.declared.any_key.AnyKey.{AnyKey}
-use Rattle.spg_script.specs.declared.class_name.ClassName.{ClassName}
+use Rattle.spg_script.specs.declared.class_line.ClassLine.{ClassLine}
 use Rattle.spg_script.specs.declared.command.Command.{Command}
 use Rattle.spg_script.specs.declared.command.Command.TheVariants as command
 use Rattle.spg_script.specs.declared.inserts.Insert.{Insert}
@@ -13,7 +13,7 @@ use Rattle.spg_script.specs.declared.refused.ScriptRefused.{ScriptRefused}
 use Rattle.spg_script.specs.declared.refused.ScriptRefused.TheVariants.{BadLine, Memory}
 use Rattle.spg_script.specs.Blocks.{Part, alone_part, Script}
 use Rattle.spg_script.specs.Spelling.{class_text}
-use Rattle.spg_script.specs.Line.{has_texts, SpellsCommand}
+use Rattle.spg_script.specs.Line.{keys_of, SpellsCommand}
 use Rattle.spg_script.specs.Script.{lines_of, says_something, AreLines, IsScript}
 use Rattle.spg_script.specs.Reader.{Place, at_start, between, LeadTo}
 
@@ -54,8 +54,8 @@ insert_place (Named i) = between i.class (map insert_part i.rows)
 
 -- the line names no class, or is no insert of the class that was named
 abbrev pub RefusesInsert : Place → List ℕ → Type 0
-RefusesInsert at_start line = (class : ClassName) → line ≡ class_text class → ⊥
-RefusesInsert (between class parts) line = (row : RowAt) (key : Option AnyKey) → SpellsCommand (has_texts class) (command.Insert row key) line → ⊥
+RefusesInsert at_start line = (class : ClassLine) → line ≡ class_text class → ⊥
+RefusesInsert (between class parts) line = (row : RowAt) (key : Option AnyKey) → SpellsCommand (keys_of class) (command.Insert row key) line → ⊥
 RefusesInsert place line = ⊥
 
 -- the command is an insert, which comes behind the others; or it is none

@@ -1,6 +1,6 @@
 -- What each part of the reader makes of bytes. The lemmas show that it is what the bytes spell, and that nothing that
 -- is spelled is missed.
-use Rattle.std.specs.Prelude.{◌≡◌, ◌≤◌, ℕ, zero, suc, Bool, ◌+◌, ◌-◌, ◌*◌, ◌^◌, List, [], ◌∷◌, ◌++◌, length, take, drop, Option, Some, None, option_and_then, if◌then◌else◌, ◌==◌, nat_lt, nat_eq, ◌||◌, ◌&&◌, ℤ, pos, neg_ℤ, int_le, codes, bytes_eq}
+use Rattle.std.specs.Prelude.{◌≡◌, ◌≤◌, ℕ, zero, suc, ◌+◌, ◌-◌, ◌*◌, ◌^◌, List, [], ◌∷◌, ◌++◌, length, take, drop, Option, Some, None, option_and_then, if◌then◌else◌, ◌==◌, nat_lt, nat_eq, ◌||◌, ◌&&◌, ℤ, pos, neg_ℤ, int_le, codes, bytes_eq}
 use Rattle.std.specs.List.{starts_with}
 use Rattle.std.specs.Borrow.{Bor}
 use Rattle.spg_base.specs.Row.{RowAt}
@@ -9,6 +9,10 @@ use Rattle.spg_base.specs.declared.point.PointCond.{PointCond}
 use Rattle.spg_base.specs.declared.point.PointCond.TheVariants.{Eq, Left, Right, Below, Above, Inside}
 use Rattle.spg_radix.specs.declared.condition.TextCond.{TextCond}
 use Rattle.spg_radix.specs.declared.condition.TextCond.TheVariants as text_cond
+use Rattle.spg_range.specs.declared.range.RangeCond.{RangeCond}
+use Rattle.spg_range.specs.declared.range.RangeCond.TheVariants as range_cond
+use Rattle.spg_script.specs.declared.key_form.KeyForm.{KeyForm}
+use Rattle.spg_script.specs.declared.key_form.KeyForm.TheVariants as form
 use Rattle.spg_script.specs.declared.any_key.AnyKey.{AnyKey}
 use Rattle.spg_script.specs.declared.any_key.AnyKey.TheVariants as any_key
 use Rattle.spg_script.specs.declared.any_cond.AnyCond.{AnyCond}
@@ -17,7 +21,7 @@ use Rattle.spg_script.specs.declared.any_query.AnyQuery.TheVariants.{All, Null, 
 use Rattle.spg_script.specs.declared.command.Command.{Command}
 use Rattle.spg_script.specs.declared.command.Command.TheVariants.{Insert, Delete, Find, Vacuum, Save, Stat, Near}
 use Rattle.spg_script.specs.Quoted.{first_byte}
-use Rattle.spg_script.specs.Line.{is_name}
+use Rattle.spg_script.specs.Line.{bare_form, is_name}
 
 infixl 10 ◌>>=◌
 abbrev pub ◌>>=◌ : {A B : Type 0} → Option A → (A → Option B) → Option B
@@ -28,11 +32,11 @@ abbrev pub len_before : ℕ → List ℕ → ℕ
 len_before stop [] = 0
 len_before stop (b ∷ bytes) = if b == stop then 0 else len_before stop bytes + 1
 
--- the number that the digits go on to spell, below 2 ^ 32
-abbrev pub value_from : ℕ → List ℕ → Option ℕ
-value_from value [] = Some value
-value_from value (b ∷ bytes) =
-    if nat_lt b 48 || nat_lt 57 b then None else (if nat_lt (value * 10 + (b - 48)) (2 ^ 32) then value_from (value * 10 + (b - 48)) bytes else None)
+-- the number that the digits go on to spell, below top
+abbrev pub value_from : ℕ → ℕ → List ℕ → Option ℕ
+value_from top value [] = Some value
+value_from top value (b ∷ bytes) =
+    if nat_lt b 48 || nat_lt 57 b then None else (if nat_lt (value * 10 + (b - 48)) top then value_from top (value * 10 + (b - 48)) bytes else None)
 
 -- the parts before and after the first byte that is stop
 unfoldable pub split_at : ℕ → List ℕ → Option (List ℕ × List ℕ)
@@ -43,10 +47,13 @@ abbrev pub parts_of : Option (Bor (List ℕ) × Bor (List ℕ)) → Option (List
 parts_of None = None
 parts_of (Some parts) = Some (parts.0.now, parts.1.now)
 
--- a number without a leading zero
+-- a number below top without a leading zero
+abbrev pub number_below : ℕ → List ℕ → Option ℕ
+number_below top [] = None
+number_below top (b ∷ bytes) = if b == 48 then (if length bytes == 0 then Some 0 else None) else value_from top 0 (b ∷ bytes)
+
 abbrev pub number_of : List ℕ → Option ℕ
-number_of [] = None
-number_of (b ∷ bytes) = if b == 48 then (if length bytes == 0 then Some 0 else None) else value_from 0 (b ∷ bytes)
+number_of bytes = number_below (2 ^ 32) bytes
 
 abbrev pub positive_of : List ℕ → Option ℤ
 positive_of bytes = number_of bytes >>= λ n. if nat_lt n (2 ^ 31) then Some (pos n) else None
@@ -100,6 +107,34 @@ cond_of kind bytes =
     else (if bytes_eq kind (codes "above") then (coordinate_of bytes >>= λ y. Some (Above y))
     else (if bytes_eq kind (codes "in") then inside_of bytes else None)))))
 
+-- what follows this front
+abbrev pub after : List ℕ → List ℕ → Option (List ℕ)
+after front bytes = if starts_with nat_eq bytes front then Some (drop (length front) bytes) else None
+
+-- what stands between brackets, with nothing behind them
+unfoldable pub bracketed : List ℕ → Option (List ℕ)
+bracketed bytes = do
+  inner ← after (codes "[") bytes
+  parts ← split_at 93 inner
+  if length parts.1 == 0 then Some parts.0 else None
+
+-- a range whose ends are in order
+abbrev pub range_from : Point → Option (Option Point)
+range_from ends = if int_le ends.x ends.y then Some (Some ends) else None
+
+unfoldable pub range_of : List ℕ → Option (Option Point)
+range_of bytes = if bytes_eq bytes (codes "empty") then Some None else (bracketed bytes >>= λ inner. point_of inner >>= λ ends. range_from ends)
+
+-- a condition on ranges, of a kind
+unfoldable pub range_cond_of : List ℕ → Option Point → Option RangeCond
+range_cond_of kind range =
+    if bytes_eq kind (codes "eq") then Some (range_cond.Eq range)
+    else (if bytes_eq kind (codes "overlap") then Some (range_cond.Overlap range)
+    else (if bytes_eq kind (codes "contains") then Some (range_cond.Contains range)
+    else (if bytes_eq kind (codes "within") then Some (range_cond.Within range)
+    else (if bytes_eq kind (codes "left") then Some (range_cond.Left range)
+    else (if bytes_eq kind (codes "right") then Some (range_cond.Right range) else None)))))
+
 -- a byte, and the text behind it
 abbrev pub byte_and_text : (List ℕ → Option (List ℕ × List ℕ)) → Option (ℕ × List ℕ) → Option (List ℕ × List ℕ)
 byte_and_text read first = first >>= λ one. read one.1 >>= λ more. Some (one.0 ∷ more.0, more.1)
@@ -134,7 +169,7 @@ pub record ReadsOn (text bytes longer rest : List ℕ) : Type 0 where
 unfoldable pub quoted_of : List ℕ → Option (List ℕ × List ℕ)
 quoted_of bytes = after_quote bytes >>= λ inner. text_of 3901 inner
 
--- a condition on texts, of a kind
+-- a condition on keys, of a kind
 unfoldable pub text_cond_of : List ℕ → List ℕ → Option TextCond
 text_cond_of kind text =
     if bytes_eq kind (codes "eq") then Some (text_cond.Eq text)
@@ -158,20 +193,30 @@ text_cond_then bytes = do
   cond ← text_cond_of parts.0 text.0
   Some (cond, text.1)
 
-unfoldable pub cond_then : Bool → List ℕ → Option (AnyCond × List ℕ)
-cond_then texts bytes =
-    if texts then (text_cond_then bytes >>= λ first. Some (any_cond.Text first.0, first.1)) else (point_cond_then bytes >>= λ first. Some (any_cond.Point first.0, first.1))
+unfoldable pub range_cond_then : List ℕ → Option (RangeCond × List ℕ)
+range_cond_then bytes = do
+  parts ← split_at 32 bytes
+  range ← range_of (take (len_before 32 parts.1) parts.1)
+  cond ← range_cond_of parts.0 range
+  Some (cond, drop (len_before 32 parts.1) parts.1)
 
--- what follows this front
-abbrev pub after : List ℕ → List ℕ → Option (List ℕ)
-after front bytes = if starts_with nat_eq bytes front then Some (drop (length front) bytes) else None
+-- a condition on keys of a form without numbers
+abbrev pub bare_cond_then : KeyForm → List ℕ → Option (AnyCond × List ℕ)
+bare_cond_then form.Point bytes = point_cond_then bytes >>= λ first. Some (any_cond.Point first.0, first.1)
+bare_cond_then form.Text bytes = text_cond_then bytes >>= λ first. Some (any_cond.Text first.0, first.1)
+bare_cond_then form.PointValue bytes = None
+bare_cond_then form.TextValue bytes = None
+bare_cond_then form.Range bytes = range_cond_then bytes >>= λ first. Some (any_cond.Range first.0, first.1)
+
+unfoldable pub cond_then : KeyForm → List ℕ → Option (AnyCond × List ℕ)
+cond_then keys bytes = bare_cond_then (bare_form keys) bytes
 
 -- a condition, and what follows its `and`, where one follows
 abbrev pub cond_and : AnyCond → List ℕ → Option (AnyCond × Option (List ℕ))
 cond_and cond left = if length left == 0 then Some (cond, None) else (after (codes " and ") left >>= λ more. Some (cond, Some more))
 
-unfoldable pub first_cond_of : Bool → List ℕ → Option (AnyCond × Option (List ℕ))
-first_cond_of texts bytes = cond_then texts bytes >>= λ first. cond_and first.0 first.1
+unfoldable pub first_cond_of : KeyForm → List ℕ → Option (AnyCond × Option (List ℕ))
+first_cond_of keys bytes = cond_then keys bytes >>= λ first. cond_and first.0 first.1
 
 -- a slice as the list in it
 abbrev pub now_of : Option (Bor (List ℕ)) → Option (List ℕ)
@@ -198,31 +243,54 @@ abbrev pub put_before : List AnyCond → Option (List AnyCond) → Option (List 
 put_before front None = None
 put_before front (Some conds) = Some (front ++ conds)
 
-unfoldable pub conds_of : Bool → ℕ → List ℕ → Option (List AnyCond)
-conds_of texts zero bytes = None
-conds_of texts (suc n) bytes = more_conds (conds_of texts n) (first_cond_of texts bytes)
+unfoldable pub conds_of : KeyForm → ℕ → List ℕ → Option (List AnyCond)
+conds_of keys zero bytes = None
+conds_of keys (suc n) bytes = more_conds (conds_of keys n) (first_cond_of keys bytes)
 
 -- a text between quotes, and nothing behind it
 unfoldable pub whole_text_of : List ℕ → Option (List ℕ)
 whole_text_of bytes = quoted_of bytes >>= λ text. if length text.1 == 0 then Some text.0 else None
 
-unfoldable pub key_of : Bool → List ℕ → Option (Option AnyKey)
-key_of texts bytes =
-    if bytes_eq bytes (codes "null") then Some None
-    else (if texts then (whole_text_of bytes >>= λ t. Some (Some (any_key.Text t))) else (point_of bytes >>= λ p. Some (Some (any_key.Point p))))
+-- the number beside a key, behind it
+unfoldable pub value_behind : List ℕ → Option ℕ
+value_behind bytes = after (codes " value ") bytes >>= λ digits. number_below (2 ^ 64) digits
 
-unfoldable pub insert_of : Bool → List ℕ → Option Command
-insert_of texts bytes = do
+-- a point and the number beside it
+unfoldable pub point_value_of : List ℕ → Option AnyKey
+point_value_of bytes = do
+  point ← point_of (take (len_before 32 bytes) bytes)
+  value ← value_behind (drop (len_before 32 bytes) bytes)
+  Some (any_key.PointValue point value)
+
+-- a text and the number beside it
+unfoldable pub text_value_of : List ℕ → Option AnyKey
+text_value_of bytes = do
+  text ← quoted_of bytes
+  value ← value_behind text.1
+  Some (any_key.TextValue text.0 value)
+
+unfoldable pub any_key_of : KeyForm → List ℕ → Option AnyKey
+any_key_of form.Point bytes = point_of bytes >>= λ point. Some (any_key.Point point)
+any_key_of form.Text bytes = whole_text_of bytes >>= λ text. Some (any_key.Text text)
+any_key_of form.PointValue bytes = point_value_of bytes
+any_key_of form.TextValue bytes = text_value_of bytes
+any_key_of form.Range bytes = range_of bytes >>= λ range. Some (any_key.Range range)
+
+unfoldable pub key_of : KeyForm → List ℕ → Option (Option AnyKey)
+key_of keys bytes = if bytes_eq bytes (codes "null") then Some None else (any_key_of keys bytes >>= λ key. Some (Some key))
+
+unfoldable pub insert_of : KeyForm → List ℕ → Option Command
+insert_of keys bytes = do
   parts ← split_at 32 bytes
   row ← row_of parts.0
-  key ← key_of texts parts.1
+  key ← key_of keys parts.1
   Some (Insert row key)
 
-unfoldable pub find_of : Bool → List ℕ → Option Command
-find_of texts bytes =
+unfoldable pub find_of : KeyForm → List ℕ → Option Command
+find_of keys bytes =
     if bytes_eq bytes (codes "all") then Some (Find All)
     else (if bytes_eq bytes (codes "null") then Some (Find Null)
-    else (if starts_with nat_eq bytes (codes "where ") then (conds_of texts 8 (drop 6 bytes) >>= λ conds. Some (Find (Where conds))) else None))
+    else (if starts_with nat_eq bytes (codes "where ") then (conds_of keys 8 (drop 6 bytes) >>= λ conds. Some (Find (Where conds))) else None))
 
 unfoldable pub delete_of : List ℕ → Option Command
 delete_of bytes = row_of bytes >>= λ row. Some (Delete row)
@@ -234,15 +302,23 @@ save_of bytes = if is_name bytes then Some (Save bytes) else None
 abbrev pub near_at : Point → ℕ → Option Command
 near_at target limit = if limit == 0 || nat_lt 65535 limit then None else Some (Near target limit)
 
-unfoldable pub near_of : Bool → List ℕ → Option Command
-near_of texts bytes = if texts then None else (split_at 32 bytes >>= λ parts. point_of parts.0 >>= λ target. number_of parts.1 >>= λ limit. near_at target limit)
+abbrev pub near_behind : List ℕ → Option Command
+near_behind bytes = split_at 32 bytes >>= λ parts. point_of parts.0 >>= λ target. number_of parts.1 >>= λ limit. near_at target limit
 
-unfoldable pub command_of : Bool → List ℕ → Option Command
-command_of texts bytes =
-    if starts_with nat_eq bytes (codes "insert ") then insert_of texts (drop 7 bytes)
-    else (if starts_with nat_eq bytes (codes "find ") then find_of texts (drop 5 bytes)
+-- of points without numbers alone
+unfoldable pub near_of : KeyForm → List ℕ → Option Command
+near_of form.Point bytes = near_behind bytes
+near_of form.Text bytes = None
+near_of form.PointValue bytes = None
+near_of form.TextValue bytes = None
+near_of form.Range bytes = None
+
+unfoldable pub command_of : KeyForm → List ℕ → Option Command
+command_of keys bytes =
+    if starts_with nat_eq bytes (codes "insert ") then insert_of keys (drop 7 bytes)
+    else (if starts_with nat_eq bytes (codes "find ") then find_of keys (drop 5 bytes)
     else (if starts_with nat_eq bytes (codes "delete ") then delete_of (drop 7 bytes)
-    else (if starts_with nat_eq bytes (codes "near ") then near_of texts (drop 5 bytes)
+    else (if starts_with nat_eq bytes (codes "near ") then near_of keys (drop 5 bytes)
     else (if starts_with nat_eq bytes (codes "save ") then save_of (drop 5 bytes)
     else (if bytes_eq bytes (codes "vacuum") then Some Vacuum
     else (if bytes_eq bytes (codes "stat") then Some Stat else None))))))

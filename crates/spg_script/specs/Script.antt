@@ -3,11 +3,12 @@ use Rattle.std.specs.Prelude.{◌≡◌, ◌≤◌, ◌+◌, ◌-◌, ◌^◌, �
 use Rattle.std.specs.List.{AllZip, AllByRecursion, flat_map}
 use Rattle.spg_base.specs.Text.{row_text}
 use Rattle.spg_radix.specs.Texts.{is_bytes}
+use Rattle.spg_script.specs.declared.key_form.KeyForm.{KeyForm}
 use Rattle.spg_script.specs.declared.command.Command.{Command}
 use Rattle.spg_script.specs.declared.command.Command.TheVariants.{Insert, Delete, Find, Vacuum, Save, Stat, Near}
 use Rattle.spg_script.specs.Blocks.{Part, Script}
 use Rattle.spg_script.specs.Spelling.{class_text, near_text}
-use Rattle.spg_script.specs.Line.{has_texts, SpellsCommand}
+use Rattle.spg_script.specs.Line.{keys_of, SpellsCommand}
 use Rattle.spg_script.specs.Speech.{any_key_or_null_text, any_query_text}
 use Rattle.spg_script.specs.Laws.{IsCommand}
 
@@ -64,17 +65,17 @@ IsBlock false lanes = (c : Command) × (lanes ≡ (c ∷ []) ∷ [])
 abbrev pub IsPart : Part → Type 0
 IsPart p = IsBlock p.together p.lanes
 
--- a line says this, in a script of a class with texts or with points
-abbrev pub Spells : Bool → Saying → List ℕ → Type 0
-Spells texts block_opens line = line ≡ codes "together"
-Spells texts lane_opens line = line ≡ codes "lane"
-Spells texts block_ends line = line ≡ codes "end"
-Spells texts (says c) line = SpellsCommand texts c line
+-- a line says this, in a script of a class with such keys
+abbrev pub Spells : KeyForm → Saying → List ℕ → Type 0
+Spells keys block_opens line = line ≡ codes "together"
+Spells keys lane_opens line = line ≡ codes "lane"
+Spells keys block_ends line = line ≡ codes "end"
+Spells keys (says c) line = SpellsCommand keys c line
 
 -- the first line that says something names the class, and the others say the blocks
 abbrev pub AreSpoken : List (List ℕ) → Script → Type 0
 AreSpoken [] script = ⊥
-AreSpoken (line ∷ lines) script = (line ≡ class_text script.class) × AllByRecursion IsPart script.parts × AllZip (Spells (has_texts script.class)) (sayings script.parts) lines
+AreSpoken (line ∷ lines) script = (line ≡ class_text script.class) × AllByRecursion IsPart script.parts × AllZip (Spells (keys_of script.class)) (sayings script.parts) lines
 
 abbrev pub AreLines : List (List ℕ) → Script → Type 0
 AreLines lines script = AreSpoken (filter says_something lines) script
@@ -120,13 +121,13 @@ abbrev pub printed : Script → List ℕ
 printed script = flat_map (λ line. line ++ 10 ∷ []) (printed_lines script)
 
 -- each command of each lane of each block
-abbrev pub AreCommands : Bool → List Part → Type 0
-AreCommands texts parts = AllByRecursion (λ (p : Part). AllByRecursion (AllByRecursion (IsCommand texts)) p.lanes) parts
+abbrev pub AreCommands : KeyForm → List Part → Type 0
+AreCommands keys parts = AllByRecursion (λ (p : Part). AllByRecursion (AllByRecursion (IsCommand keys)) p.lanes) parts
 
 -- a script that can be printed
 pub record IsTidy (script : Script) : Type 0 where
   pub parts : AllByRecursion IsPart script.parts
-  pub commands : AreCommands (has_texts script.class) script.parts
+  pub commands : AreCommands (keys_of script.class) script.parts
 
 -- what is printed spells the script, and bytes are at most one script; so a reader that gives a script exactly where there is one gives the printed one back
 pub record ScriptsAreExact : Type 0 where

@@ -1,7 +1,7 @@
 -- Scripts without lanes whose commands insert, delete, find or are vacuums.
 use Rattle.std.specs.Prelude.{◌≡◌, ◌≤◌, ◌+◌, ◌-◌, ℕ, Bool, true, false, List, ◌∷◌, [], ◌++◌, filter, take, length, map, ⊤}
 use Rattle.std.specs.List.{AllByRecursion}
-use Rattle.spg_script.specs.declared.class_name.ClassName.{ClassName}
+use Rattle.spg_script.specs.declared.class_line.ClassLine.{ClassLine}
 use Rattle.spg_script.specs.declared.command.Command.{Command}
 use Rattle.spg_script.specs.declared.sequence.Sequence.{Sequence}
 use Rattle.spg_script.specs.declared.sequence.SequenceReader.{SequenceReader}
@@ -10,7 +10,7 @@ use Rattle.spg_script.specs.declared.refused.ScriptRefused.{ScriptRefused}
 use Rattle.spg_script.specs.declared.refused.ScriptRefused.TheVariants.{BadLine, Memory}
 use Rattle.spg_script.specs.Blocks.{alone_part, Script}
 use Rattle.spg_script.specs.Spelling.{class_text}
-use Rattle.spg_script.specs.Line.{has_texts, SpellsCommand}
+use Rattle.spg_script.specs.Line.{keys_of, SpellsCommand}
 use Rattle.spg_script.specs.Script.{lines_of, says_something, IsLaneCommand, AreLines, IsScript}
 use Rattle.spg_script.specs.Reader.{Place, at_start, between, LeadTo}
 
@@ -57,8 +57,8 @@ commands_of (Named s) = s.commands
 
 -- the line names no class, or is no such command of the class that was named
 abbrev pub RefusesForeign : Place → List ℕ → Type 0
-RefusesForeign at_start line = (class : ClassName) → line ≡ class_text class → ⊥
-RefusesForeign (between class parts) line = (c : Command) → IsLaneCommand c → SpellsCommand (has_texts class) c line → ⊥
+RefusesForeign at_start line = (class : ClassLine) → line ≡ class_text class → ⊥
+RefusesForeign (between class parts) line = (c : Command) → IsLaneCommand c → SpellsCommand (keys_of class) c line → ⊥
 RefusesForeign place line = ⊥
 
 -- the command comes behind the others; or it is none of these

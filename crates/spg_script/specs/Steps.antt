@@ -1,6 +1,6 @@
 -- How far a reader of lines has come, as its code keeps it, and how it goes on by a line.
 use Rattle.std.specs.Prelude.{◌≡◌, ℕ, Bool, true, false, List, [], ◌∷◌, ◌++◌, Option, Some, None, filter}
-use Rattle.spg_script.specs.declared.class_name.ClassName.{ClassName}
+use Rattle.spg_script.specs.declared.class_line.ClassLine.{ClassLine}
 use Rattle.spg_script.specs.declared.command.Command.{Command}
 use Rattle.spg_script.specs.declared.open_block.OpenBlock.{OpenBlock}
 use Rattle.spg_script.specs.declared.open_block.OpenBlock.TheVariants.{Empty, InLane}
@@ -16,7 +16,7 @@ abbrev pub lanes_of : OpenBlock → List (List Command)
 lanes_of Empty = []
 lanes_of (InLane ended lane) = ended ++ lane ∷ []
 
-abbrev pub place_at : ClassName → List Part → Option OpenBlock → Place
+abbrev pub place_at : ClassLine → List Part → Option OpenBlock → Place
 place_at class parts None = between class parts
 place_at class parts (Some block) = inside class parts (lanes_of block)
 

@@ -1,26 +1,44 @@
 -- What would have fitted where a script goes wrong.
-use Rattle.std.specs.Prelude.{ℕ, zero, suc, Bool, true, false, List, [], ◌∷◌, take, drop, Option, Some, None, option_and_then, if◌then◌else◌, ◌||◌, ◌&&◌, ◌-◌, ℤ, codes, bytes_eq, nat_eq, slice_index_or}
+use Rattle.std.specs.Prelude.{ℕ, zero, suc, Bool, List, [], ◌∷◌, take, drop, Option, Some, None, if◌then◌else◌, ◌||◌, ◌&&◌, ◌-◌, ℤ, codes, bytes_eq, nat_eq, slice_index_or}
 use Rattle.std.specs.List.{starts_with}
 use Rattle.std.specs.Option.{is_some}
 use Rattle.spg_base.specs.declared.point.PointCond.{PointCond}
+use Rattle.spg_script.specs.declared.class_line.ClassLine.{ClassLine}
+use Rattle.spg_script.specs.declared.class_line.ClassLine.TheVariants as class
+use Rattle.spg_script.specs.declared.key_form.KeyForm.{KeyForm}
+use Rattle.spg_script.specs.declared.key_form.KeyForm.TheVariants as form
 use Rattle.spg_script.specs.declared.spot.Spot.{Spot}
 use Rattle.spg_script.specs.declared.spot.Spot.TheVariants.{Start, Between, Block, Lane}
 use Rattle.spg_script.specs.declared.wanted.Wanted.{Wanted}
 use Rattle.spg_script.specs.declared.wanted.Wanted.TheVariants as wanted
+use Rattle.spg_script.specs.Line.{keys_of}
 use Rattle.spg_script.specs.Reading.{◌>>=◌, len_before, split_at, coordinate_of, row_of, point_cond_then}
 
+-- what a line names
+abbrev pub class_named : List ℕ → Option ClassLine
+class_named line =
+    if bytes_eq line (codes "class quad") then Some class.Quad
+    else (if bytes_eq line (codes "class kd") then Some class.Kd
+    else (if bytes_eq line (codes "class radix") then Some class.Radix
+    else (if bytes_eq line (codes "class quad value") then Some class.QuadValue
+    else (if bytes_eq line (codes "class kd value") then Some class.KdValue
+    else (if bytes_eq line (codes "class radix value") then Some class.RadixValue
+    else (if bytes_eq line (codes "class range") then Some class.Range else None))))))
+
 -- behind a line that names a class no block is open
+abbrev pub spot_behind : Option ClassLine → Spot
+spot_behind None = Start
+spot_behind (Some line) = Between (keys_of line)
+
 abbrev pub class_spot : List ℕ → Spot
-class_spot line =
-    if bytes_eq line (codes "class quad") || bytes_eq line (codes "class kd") then Between false
-    else (if bytes_eq line (codes "class radix") then Between true else Start)
+class_spot line = spot_behind (class_named line)
 
 -- what has come before the line behind this one
 abbrev pub next_spot : Spot → List ℕ → Spot
 next_spot Start line = class_spot line
-next_spot (Between texts) line = if bytes_eq line (codes "together") then Block texts else Between texts
-next_spot (Block texts) line = if bytes_eq line (codes "lane") then Lane texts else Block texts
-next_spot (Lane texts) line = if bytes_eq line (codes "end") then Between texts else Lane texts
+next_spot (Between keys) line = if bytes_eq line (codes "together") then Block keys else Between keys
+next_spot (Block keys) line = if bytes_eq line (codes "lane") then Lane keys else Block keys
+next_spot (Lane keys) line = if bytes_eq line (codes "end") then Between keys else Lane keys
 
 -- what has come behind these lines
 unfoldable pub spot_after : Spot → List (List ℕ) → Spot
@@ -60,48 +78,64 @@ unfoldable pub conds_want : ℕ → List ℕ → Wanted
 conds_want zero bytes = wanted.FewerConditions
 conds_want (suc n) bytes = behind_cond (conds_want n) bytes (point_cond_then bytes)
 
+-- where bytes are no key
+abbrev pub key_wants : KeyForm → Wanted
+key_wants form.Point = wanted.PointKey
+key_wants form.Text = wanted.TextKey
+key_wants form.PointValue = wanted.PointValueKey
+key_wants form.TextValue = wanted.TextValueKey
+key_wants form.Range = wanted.RangeKey
+
 -- where bytes are no row and key
-unfoldable pub insert_wants : Bool → List ℕ → Wanted
-insert_wants texts bytes = if is_some (row_of (first_word bytes)) then (if texts then wanted.TextKey else wanted.PointKey) else wanted.InsertRow
+unfoldable pub insert_wants : KeyForm → List ℕ → Wanted
+insert_wants keys bytes = if is_some (row_of (first_word bytes)) then key_wants keys else wanted.InsertRow
+
+-- where bytes are no conditions on keys of a form
+abbrev pub all_conds_want : KeyForm → List ℕ → Wanted
+all_conds_want form.Point bytes = conds_want 8 bytes
+all_conds_want form.Text bytes = wanted.TextConditions
+all_conds_want form.PointValue bytes = conds_want 8 bytes
+all_conds_want form.TextValue bytes = wanted.TextConditions
+all_conds_want form.Range bytes = wanted.RangeConditions
 
 -- where bytes are no query
-unfoldable pub find_wants : Bool → List ℕ → Wanted
-find_wants texts bytes =
-    if starts_with nat_eq bytes (codes "where ") then (if texts then wanted.TextConditions else conds_want 8 (drop 6 bytes))
+unfoldable pub find_wants : KeyForm → List ℕ → Wanted
+find_wants keys bytes =
+    if starts_with nat_eq bytes (codes "where ") then all_conds_want keys (drop 6 bytes)
     else wanted.Query
 
 -- where a line is no command; `other` where it begins as none that has more words than one
-unfoldable pub command_wants : Bool → Wanted → List ℕ → Wanted
-command_wants texts other line =
-    if starts_with nat_eq line (codes "insert ") then insert_wants texts (drop 7 line)
-    else (if starts_with nat_eq line (codes "find ") then find_wants texts (drop 5 line)
+unfoldable pub command_wants : KeyForm → Wanted → List ℕ → Wanted
+command_wants keys other line =
+    if starts_with nat_eq line (codes "insert ") then insert_wants keys (drop 7 line)
+    else (if starts_with nat_eq line (codes "find ") then find_wants keys (drop 5 line)
     else (if starts_with nat_eq line (codes "delete ") then wanted.DeleteRow
     else (if starts_with nat_eq line (codes "near ") then wanted.Near
     else (if starts_with nat_eq line (codes "save ") then wanted.Name else other))))
 
 -- in place of a line outside blocks
-unfoldable pub between_wants : Bool → List ℕ → Wanted
-between_wants texts line = if bytes_eq line (codes "lane") || bytes_eq line (codes "end") then wanted.Together else command_wants texts wanted.Command line
+unfoldable pub between_wants : KeyForm → List ℕ → Wanted
+between_wants keys line = if bytes_eq line (codes "lane") || bytes_eq line (codes "end") then wanted.Together else command_wants keys wanted.Command line
 
 -- in place of a line of a lane
-unfoldable pub lane_wants : Bool → List ℕ → Wanted
-lane_wants texts line =
+unfoldable pub lane_wants : KeyForm → List ℕ → Wanted
+lane_wants keys line =
     if bytes_eq line (codes "lane") then wanted.FewerLanes
-    else (if bytes_eq line (codes "stat") || starts_with nat_eq line (codes "save ") || starts_with nat_eq line (codes "near ") then wanted.NoLane else command_wants texts wanted.LaneCommand line)
+    else (if bytes_eq line (codes "stat") || starts_with nat_eq line (codes "save ") || starts_with nat_eq line (codes "near ") then wanted.NoLane else command_wants keys wanted.LaneCommand line)
 
 -- in place of a line that is bad behind what has come
 abbrev pub line_wants : Spot → List ℕ → Wanted
 line_wants Start line = wanted.ClassLine
-line_wants (Between texts) line = between_wants texts line
-line_wants (Block texts) line = wanted.FirstLane
-line_wants (Lane texts) line = lane_wants texts line
+line_wants (Between keys) line = between_wants keys line
+line_wants (Block keys) line = wanted.FirstLane
+line_wants (Lane keys) line = lane_wants keys line
 
 -- where a script ends too early behind what has come
 abbrev pub end_wants : Spot → Wanted
 end_wants Start = wanted.ClassLine
-end_wants (Between texts) = wanted.Command
-end_wants (Block texts) = wanted.EndOfBlock
-end_wants (Lane texts) = wanted.EndOfBlock
+end_wants (Between keys) = wanted.Command
+end_wants (Block keys) = wanted.EndOfBlock
+end_wants (Lane keys) = wanted.EndOfBlock
 
 -- the line of a number, counted from 1; nothing behind the last
 abbrev pub line_at : List (List ℕ) → ℕ → List ℕ

@@ -4,7 +4,7 @@ ghost use Rattle.spg_script.specs.Script.{IsLaneCommand};
 ghost use Rattle.spg_script.specs.Reader.{between, inside};
 ghost use Rattle.spg_script.specs.Steps.{lanes_of, place_of_blocks, Steps};
 
-use crate::class_name::ClassName;
+use crate::class_line::ClassLine;
 use crate::command::Command;
 use crate::commands::read_command;
 use crate::open_block::OpenBlock;
@@ -19,7 +19,7 @@ const MOST_LANES: usize = 32;
 #[derive(Drop)]
 pub struct Blocks {
     /// The class.
-    pub class: ClassName,
+    pub class: ClassLine,
     /// The blocks that have ended.
     pub parts: List<Part>,
     /// The block that goes on, where one does.
@@ -39,7 +39,7 @@ fn is_for_lanes(command: &Command) -> bool
 
 impl Blocks {
     /// The class line was read.
-    pub fn new(alloc: Global, class: ClassName) -> Blocks
+    pub fn new(alloc: Global, class: ClassLine) -> Blocks
         ensures { place_of_blocks result ≡ between class [] }
     {
         Blocks {

@@ -1,4 +1,4 @@
-/// The operator class of a script.
+/// The operator class of a script, apart from a number beside its keys.
 #[derive(Clone, Copy, Debug, PartialEq, Eq)]
 pub enum ClassName {
     /// Points, by quadrants.
@@ -7,4 +7,6 @@ pub enum ClassName {
     Kd,
     /// Texts, by their bytes.
     Radix,
+    /// Ranges of whole numbers, by quadrants of their ends.
+    Range,
 }

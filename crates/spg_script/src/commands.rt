@@ -1,47 +1,26 @@
 ghost use Rattle.std.specs.Prelude.{◌≡◌, IfOk, IfSome, IfNone};
-ghost use Rattle.spg_script.specs.Line.{SpellsCommand, has_texts};
-ghost use Rattle.spg_script.specs.Reading.{key_of, insert_of, delete_of, find_of, save_of, near_at, near_of, command_of};
+ghost use Rattle.spg_script.specs.Line.{SpellsCommand, keys_of};
+ghost use Rattle.spg_script.specs.Reading.{insert_of, delete_of, find_of, save_of, near_at, near_of, command_of};
 ghost use Rattle.spg_script.specs.declared.command.Command.{Command};
 
-use crate::any_key::AnyKey;
 use crate::any_query::AnyQuery;
 use crate::bytes::split;
-use crate::class_name::ClassName;
+use crate::class_line::ClassLine;
 use crate::command::Command;
 use crate::conditions::conds;
+use crate::key_form::KeyForm;
+use crate::keys::key;
 use crate::names::is_name;
 use crate::numbers::{number, point, row};
-use crate::texts::whole_text;
 use spg_base::{Bytes, Memory, Point};
 use std::alloc::Global;
 
 /// The greatest number of rows that a search for the nearest is asked for.
 const MOST_NEAR: u32 = 65_535;
 
-/// The key that the bytes spell: a text, or else a point, or a null.
-#[tactic(auto, unfolding(crate::specs::Reading::key_of))]
-fn key(alloc: Global, texts: bool, bytes: &[u8]) -> Result<Option<Option<AnyKey>>, Memory>
-    ensures { IfOk result (λ found. found ≡ key_of texts bytes.now) }
-{
-    if bytes == b"null".as_slice() {
-        return Ok(Some(None));
-    }
-    if texts {
-        match whole_text(alloc, bytes)? {
-            Some(text) => Ok(Some(Some(AnyKey::Text(text)))),
-            None => Ok(None),
-        }
-    } else {
-        match point(bytes) {
-            Some(point) => Ok(Some(Some(AnyKey::Point(point)))),
-            None => Ok(None),
-        }
-    }
-}
-
 #[tactic(auto, unfolding(crate::specs::Reading::insert_of))]
-fn insert(alloc: Global, texts: bool, bytes: &[u8]) -> Result<Option<Command>, Memory>
-    ensures { IfOk result (λ found. found ≡ insert_of texts bytes.now) }
+fn insert(alloc: Global, keys: KeyForm, bytes: &[u8]) -> Result<Option<Command>, Memory>
+    ensures { IfOk result (λ found. found ≡ insert_of keys bytes.now) }
 {
     let Some((front, back)) = split(bytes, b' ') else {
         return Ok(None);
@@ -49,7 +28,7 @@ fn insert(alloc: Global, texts: bool, bytes: &[u8]) -> Result<Option<Command>, M
     let Some(row) = row(front) else {
         return Ok(None);
     };
-    match key(alloc, texts, back)? {
+    match key(alloc, keys, back)? {
         Some(key) => Ok(Some(Command::Insert { row, key })),
         None => Ok(None),
     }
@@ -63,8 +42,8 @@ fn delete(bytes: &[u8]) -> Option<Command>
 }
 
 #[tactic(auto, unfolding(crate::specs::Reading::find_of))]
-fn find(alloc: Global, texts: bool, bytes: &[u8]) -> Result<Option<Command>, Memory>
-    ensures { IfOk result (λ found. found ≡ find_of texts bytes.now) }
+fn find(alloc: Global, keys: KeyForm, bytes: &[u8]) -> Result<Option<Command>, Memory>
+    ensures { IfOk result (λ found. found ≡ find_of keys bytes.now) }
 {
     if bytes == b"all".as_slice() {
         return Ok(Some(Command::Find {
@@ -79,7 +58,7 @@ fn find(alloc: Global, texts: bool, bytes: &[u8]) -> Result<Option<Command>, Mem
     if !bytes.starts_with(b"where ") {
         return Ok(None);
     }
-    match conds(alloc, texts, &bytes[6..])? {
+    match conds(alloc, keys, &bytes[6..])? {
         Some(conds) => Ok(Some(Command::Find {
             query: AnyQuery::Where(conds),
         })),
@@ -113,12 +92,12 @@ fn near_at(target: Point, limit: u32) -> Option<Command>
     }
 }
 
-/// The search for the nearest rows. There is none of texts.
+/// The search for the nearest rows, which is of points without numbers alone.
 #[tactic(auto, unfolding(crate::specs::Reading::near_of))]
-fn near(texts: bool, bytes: &[u8]) -> Option<Command>
-    ensures { result ≡ near_of texts bytes.now }
+fn near(keys: KeyForm, bytes: &[u8]) -> Option<Command>
+    ensures { result ≡ near_of keys bytes.now }
 {
-    if texts {
+    if keys != KeyForm::Point {
         return None;
     }
     let (target, limit) = split(bytes, b' ')?;
@@ -128,17 +107,17 @@ fn near(texts: bool, bytes: &[u8]) -> Option<Command>
 }
 
 #[tactic(auto, unfolding(crate::specs::Reading::command_of))]
-fn command(alloc: Global, texts: bool, line: &[u8]) -> Result<Option<Command>, Memory>
-    ensures { IfOk result (λ found. found ≡ command_of texts line.now) }
+fn command(alloc: Global, keys: KeyForm, line: &[u8]) -> Result<Option<Command>, Memory>
+    ensures { IfOk result (λ found. found ≡ command_of keys line.now) }
 {
     if line.starts_with(b"insert ") {
-        insert(alloc, texts, &line[7..])
+        insert(alloc, keys, &line[7..])
     } else if line.starts_with(b"find ") {
-        find(alloc, texts, &line[5..])
+        find(alloc, keys, &line[5..])
     } else if line.starts_with(b"delete ") {
         Ok(delete(&line[7..]))
     } else if line.starts_with(b"near ") {
-        Ok(near(texts, &line[5..]))
+        Ok(near(keys, &line[5..]))
     } else if line.starts_with(b"save ") {
         save(alloc, &line[5..])
     } else if line == b"vacuum".as_slice() {
@@ -151,9 +130,9 @@ fn command(alloc: Global, texts: bool, line: &[u8]) -> Result<Option<Command>, M
 }
 
 /// The command that the line spells in a script of a class. None exactly where it spells none.
-pub fn read_command(alloc: Global, class: ClassName, line: &[u8]) -> Result<Option<Command>, Memory>
-    ensures found { IfOk result (λ found. IfSome found (λ c. SpellsCommand (has_texts class) c line.now)) }
-    ensures none { IfOk result (λ found. IfNone found ((c : Command) → SpellsCommand (has_texts class) c line.now → ⊥)) }
+pub fn read_command(alloc: Global, class: ClassLine, line: &[u8]) -> Result<Option<Command>, Memory>
+    ensures found { IfOk result (λ found. IfSome found (λ c. SpellsCommand (keys_of class) c line.now)) }
+    ensures none { IfOk result (λ found. IfNone found ((c : Command) → SpellsCommand (keys_of class) c line.now → ⊥)) }
 {
-    command(alloc, class.has_texts(), line)
+    command(alloc, class.keys(), line)
 }

@@ -1,12 +1,15 @@
 ghost use Rattle.std.specs.Prelude.{◌≡◌, IfOk};
-ghost use Rattle.spg_script.specs.Reading.{inside_of, cond_of, text_cond_of, point_cond_then, text_cond_then, cond_then, first_cond_of, told, told_cond, conds_of};
+ghost use Rattle.spg_script.specs.Reading.{inside_of, cond_of, text_cond_of, range_cond_of, point_cond_then, text_cond_then, range_cond_then, cond_then, first_cond_of, told, told_cond, conds_of};
 
 use crate::any_cond::AnyCond;
 use crate::bytes::{len_before, split};
+use crate::key_form::KeyForm;
 use crate::numbers::{coordinate, point};
+use crate::ranges::range;
 use crate::texts::quoted_text;
 use spg_base::{List, Memory, PointCond};
 use spg_radix::{ByteText, TextCond};
+use spg_range::{Range32, RangeCond};
 use std::alloc::Global;
 
 /// The greatest number of conditions of a query.
@@ -103,21 +106,58 @@ fn text_cond_then(alloc: Global, bytes: &[u8]) -> Result<Option<(TextCond, &[u8]
     }
 }
 
-/// The first condition of a class of texts or of points, and what is left behind it.
-#[tactic(auto, unfolding(crate::specs::Reading::cond_then))]
-fn cond_then(alloc: Global, texts: bool, bytes: &[u8]) -> Result<Option<(AnyCond, &[u8])>, Memory>
-    ensures { IfOk result (λ found. told found ≡ cond_then texts bytes.now) }
+/// The condition on ranges, of a kind.
+#[tactic(auto, unfolding(crate::specs::Reading::range_cond_of))]
+fn range_cond(kind: &[u8], range: Range32) -> Option<RangeCond>
+    ensures { result ≡ range_cond_of kind.now range }
 {
-    if !texts {
-        return match point_cond_then(bytes) {
+    if kind == b"eq".as_slice() {
+        Some(RangeCond::Eq(range))
+    } else if kind == b"overlap".as_slice() {
+        Some(RangeCond::Overlap(range))
+    } else if kind == b"contains".as_slice() {
+        Some(RangeCond::Contains(range))
+    } else if kind == b"within".as_slice() {
+        Some(RangeCond::Within(range))
+    } else if kind == b"left".as_slice() {
+        Some(RangeCond::Left(range))
+    } else if kind == b"right".as_slice() {
+        Some(RangeCond::Right(range))
+    } else {
+        None
+    }
+}
+
+/// The first condition on ranges, and what is left behind it, from a space on.
+#[tactic(auto, unfolding(crate::specs::Reading::range_cond_then))]
+fn range_cond_then(bytes: &[u8]) -> Option<(RangeCond, &[u8])>
+    ensures { told result ≡ range_cond_then bytes.now }
+{
+    let (kind, rest) = split(bytes, b' ')?;
+    let at = len_before(rest, b' ');
+    let range = range(&rest[..at])?;
+    let cond = range_cond(kind, range)?;
+    Some((cond, &rest[at..]))
+}
+
+/// The first condition on keys of a form, and what is left behind it.
+#[tactic(auto, unfolding(crate::specs::Reading::cond_then))]
+fn cond_then(alloc: Global, keys: KeyForm, bytes: &[u8]) -> Result<Option<(AnyCond, &[u8])>, Memory>
+    ensures { IfOk result (λ found. told found ≡ cond_then keys bytes.now) }
+{
+    match keys {
+        KeyForm::Point | KeyForm::PointValue => match point_cond_then(bytes) {
             Some((cond, left)) => Ok(Some((AnyCond::Point(cond), left))),
             None => Ok(None),
-        };
-    }
-    match text_cond_then(alloc, bytes) {
-        Ok(Some((cond, left))) => Ok(Some((AnyCond::Text(cond), left))),
-        Ok(None) => Ok(None),
-        Err(Memory) => Err(Memory),
+        },
+        KeyForm::Text | KeyForm::TextValue => match text_cond_then(alloc, bytes)? {
+            Some((cond, left)) => Ok(Some((AnyCond::Text(cond), left))),
+            None => Ok(None),
+        },
+        KeyForm::Range => match range_cond_then(bytes) {
+            Some((cond, left)) => Ok(Some((AnyCond::Range(cond), left))),
+            None => Ok(None),
+        },
     }
 }
 
@@ -125,12 +165,12 @@ fn cond_then(alloc: Global, texts: bool, bytes: &[u8]) -> Result<Option<(AnyCond
 #[tactic(auto, unfolding(crate::specs::Reading::first_cond_of))]
 fn first_cond(
     alloc: Global,
-    texts: bool,
+    keys: KeyForm,
     bytes: &[u8],
 ) -> Result<Option<(AnyCond, Option<&[u8]>)>, Memory>
-    ensures { IfOk result (λ found. told_cond found ≡ first_cond_of texts bytes.now) }
+    ensures { IfOk result (λ found. told_cond found ≡ first_cond_of keys bytes.now) }
 {
-    match cond_then(alloc, texts, bytes) {
+    match cond_then(alloc, keys, bytes) {
         Ok(Some((cond, left))) => {
             if left.is_empty() {
                 Ok(Some((cond, None)))
@@ -145,14 +185,14 @@ fn first_cond(
     }
 }
 
-/// The conditions, at most 8, that the bytes spell: on texts, or else on points.
-pub fn conds(alloc: Global, texts: bool, bytes: &[u8]) -> Result<Option<List<AnyCond>>, Memory>
-    ensures { IfOk result (λ found. found ≡ conds_of texts 8 bytes.now) }
+/// The conditions on keys of a form, at most 8, that the bytes spell.
+pub fn conds(alloc: Global, keys: KeyForm, bytes: &[u8]) -> Result<Option<List<AnyCond>>, Memory>
+    ensures { IfOk result (λ found. found ≡ conds_of keys 8 bytes.now) }
 {
     let mut conds = List::new(alloc);
     let mut rest = bytes;
     while conds.len() < MOST {
-        match first_cond(alloc, texts, rest) {
+        match first_cond(alloc, keys, rest) {
             Ok(Some((cond, more))) => {
                 conds.push(cond)?;
                 match more {

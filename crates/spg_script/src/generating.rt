@@ -1,8 +1,9 @@
-ghost use Rattle.std.specs.Prelude.{◌≡◌, ◌<◌, ◌≤◌, ◌∷◌, [], IfOk};
-ghost use Rattle.spg_script.specs.Generated.{load_lane, watching_lane, load_lanes, first_query, second_query, load_parts, generated};
+ghost use Rattle.std.specs.Prelude.{◌≡◌, ◌≢◌, ◌<◌, ◌≤◌, ◌∷◌, [], IfOk};
+ghost use Rattle.spg_script.specs.Generated.{load_lane, watching_lane, load_lanes, first_query, second_query, load_parts, load_class, generated};
 
 use crate::any_cond::AnyCond;
 use crate::any_query::AnyQuery;
+use crate::class_line::ClassLine;
 use crate::class_name::ClassName;
 use crate::command::Command;
 use crate::load::{MOST_ROWS, MOST_SEED, push_changes};
@@ -24,6 +25,7 @@ fn load_lane(
     lanes: u8,
     l: u8,
 ) -> Result<List<Command>, Memory>
+    requires no_ranges { class ≢ ClassName.Range }
     requires count { count ≤ MOST_ROWS }
     requires seed { seed ≤ MOST_SEED }
     requires some { 0 < lanes }
@@ -63,6 +65,7 @@ fn load_lanes(
     seed: u32,
     lanes: u8,
 ) -> Result<List<List<Command>>, Memory>
+    requires no_ranges { class ≢ ClassName.Range }
     requires count { count ≤ MOST_ROWS }
     requires seed { seed ≤ MOST_SEED }
     ensures { IfOk result (λ made. made ≡ load_lanes class count seed lanes) }
@@ -84,10 +87,12 @@ fn only(alloc: Global, cond: AnyCond) -> Result<AnyQuery, Memory>
 
 /// The first query behind the block.
 fn first_query(alloc: Global, class: ClassName) -> Result<AnyQuery, Memory>
+    requires { class ≢ ClassName.Range }
     ensures { IfOk result (λ query. query ≡ first_query class) }
 {
     match class {
         ClassName::Quad | ClassName::Kd => only(alloc, AnyCond::Point(PointCond::Left(100))),
+        ClassName::Range => unreachable!(),
         ClassName::Radix => {
             let text = ByteText::of_short(Bytes::copy(alloc, b"street 0")?);
             only(alloc, AnyCond::Text(TextCond::Starts(text)))
@@ -97,10 +102,12 @@ fn first_query(alloc: Global, class: ClassName) -> Result<AnyQuery, Memory>
 
 /// The second one.
 fn second_query(alloc: Global, class: ClassName) -> Result<AnyQuery, Memory>
+    requires { class ≢ ClassName.Range }
     ensures { IfOk result (λ query. query ≡ second_query class) }
 {
     match class {
         ClassName::Quad | ClassName::Kd => only(alloc, AnyCond::Point(PointCond::Below(500))),
+        ClassName::Range => unreachable!(),
         ClassName::Radix => {
             let text = ByteText::of_short(Bytes::copy(alloc, b"street 500")?);
             only(alloc, AnyCond::Text(TextCond::Ge(text)))
@@ -116,6 +123,7 @@ fn load_parts(
     seed: u32,
     lanes: u8,
 ) -> Result<List<Part>, Memory>
+    requires no_ranges { class ≢ ClassName.Range }
     requires count { count ≤ MOST_ROWS }
     requires seed { seed ≤ MOST_SEED }
     ensures { IfOk result (λ parts. parts ≡ load_parts class count seed lanes) }
@@ -133,9 +141,21 @@ fn load_parts(
     Ok(List::from_vec(Vec::from_array(alloc, parts)?))
 }
 
+/// The class line of a load.
+fn load_class(class: ClassName) -> ClassLine
+    ensures { result ≡ load_class class }
+{
+    match class {
+        ClassName::Quad => ClassLine::Quad,
+        ClassName::Kd => ClassLine::Kd,
+        ClassName::Radix => ClassLine::Radix,
+        ClassName::Range => ClassLine::Range,
+    }
+}
+
 /// The generated script: `count` rows, 1 to 200,000, inserted in `lanes` lanes, 1 to 16, each third
 /// of them deleted too, beside a lane that vacuums and finds; then a vacuum and three finds. The
-/// keys come from the seed, 0 to 999,999.
+/// keys come from the seed, 0 to 999,999; no load is of ranges.
 pub fn generate(
     alloc: Global,
     count: u32,
@@ -143,6 +163,7 @@ pub fn generate(
     lanes: u8,
     class: ClassName,
 ) -> Result<Script, Memory>
+    requires no_ranges { class ≢ ClassName.Range }
     requires some { 0 < count }
     requires count { count ≤ MOST_ROWS }
     requires seed { seed ≤ MOST_SEED }
@@ -151,5 +172,5 @@ pub fn generate(
     ensures { IfOk result (λ script. script ≡ generated count seed lanes class) }
 {
     let parts = load_parts(alloc, class, count, seed, lanes)?;
-    Ok(Script::new(class, parts))
+    Ok(Script::new(load_class(class), parts))
 }

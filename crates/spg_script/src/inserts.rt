@@ -4,7 +4,7 @@ ghost use Rattle.spg_script.specs.Reader.{between};
 ghost use Rattle.spg_script.specs.Inserts.{insert_part, script_of, insert_place, TakesInsert, StepsByInsert, GoesOnByInsert, IsInserts, IsInsertCause};
 
 use crate::any_key::AnyKey;
-use crate::class_name::ClassName;
+use crate::class_line::ClassLine;
 use crate::command::Command;
 use crate::commands::read_command;
 use crate::lines::{first_line, says_something};
@@ -22,7 +22,7 @@ pub struct Insert {
 /// A class and inserts in order: a script whose commands are these, outside lanes.
 #[derive(Debug, Drop)]
 pub struct Inserts {
-    pub class: ClassName,
+    pub class: ClassLine,
     pub rows: List<Insert>,
 }
 
@@ -77,7 +77,7 @@ impl InsertReader {
             return Ok(true);
         }
         match self {
-            InsertReader::Start => match ClassName::of_line(line) {
+            InsertReader::Start => match ClassLine::of_line(line) {
                 Some(class) => {
                     let rows = List::new(alloc);
                     *self = InsertReader::Named(Inserts { class, rows });

@@ -1,4 +1,4 @@
-ghost use Rattle.std.specs.Prelude.{◌≡◌, ◌<◌, ◌≤◌, ◌+◌, ◌++◌, IfOk, OnOk};
+ghost use Rattle.std.specs.Prelude.{◌≡◌, ◌≢◌, ◌<◌, ◌≤◌, ◌+◌, ◌++◌, IfOk, OnOk};
 ghost use Rattle.spg_script.specs.Generated.{three_digits, address, load_key, load_row, changes};
 
 use crate::any_key::AnyKey;
@@ -43,8 +43,9 @@ fn address(alloc: Global, street: u32, house: u32) -> Result<ByteText, Memory>
     Ok(ByteText::of_short(text))
 }
 
-/// Key number `i` of a load.
+/// Key number `i` of a load. No load is of ranges.
 fn key(alloc: Global, class: ClassName, seed: u32, i: u32) -> Result<AnyKey, Memory>
+    requires no_ranges { class ≢ ClassName.Range }
     requires number { i < MOST_ROWS }
     requires seed { seed ≤ MOST_SEED }
     ensures { IfOk result (λ key. key ≡ load_key class seed i) }
@@ -57,6 +58,7 @@ fn key(alloc: Global, class: ClassName, seed: u32, i: u32) -> Result<AnyKey, Mem
             y: y as i32,
         })),
         ClassName::Radix => Ok(AnyKey::Text(address(alloc, x, y)?)),
+        ClassName::Range => unreachable!(),
     }
 }
 
@@ -75,6 +77,7 @@ pub fn push_changes(
     seed: u32,
     i: u32,
 ) -> Result<(), Memory>
+    requires no_ranges { class ≢ ClassName.Range }
     requires number { i < MOST_ROWS }
     requires seed { seed ≤ MOST_SEED }
     ensures { OnOk result (lane.new ≡ lane.old ++ changes class seed i) }

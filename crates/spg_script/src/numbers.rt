@@ -1,5 +1,5 @@
-ghost use Rattle.std.specs.Prelude.{◌≡◌, ◌≤◌, length};
-ghost use Rattle.spg_script.specs.Reading.{value_from, number_of, positive_of, negative_of, coordinate_of, row_of, point_of};
+ghost use Rattle.std.specs.Prelude.{◌≡◌, ◌≤◌, ◌^◌, length};
+ghost use Rattle.spg_script.specs.Reading.{value_from, number_below, number_of, positive_of, negative_of, coordinate_of, row_of, point_of};
 
 use crate::bytes::split;
 use spg_base::{Point, Row};
@@ -10,7 +10,7 @@ const MOST_DIGITS: usize = 10;
 /// The number that the digits spell, where it is below 2^32. Leading zeros are let through.
 fn value(bytes: &[u8]) -> Option<u32>
     requires few { length bytes.now ≤ 10 }
-    ensures { result ≡ value_from 0 bytes.now }
+    ensures { result ≡ value_from (2 ^ 32) 0 bytes.now }
 {
     let mut value = 0u64;
     for b in bytes {
@@ -37,6 +37,32 @@ pub fn number(bytes: &[u8]) -> Option<u32>
         [b'0', more @ ..] => if more.is_empty() { Some(0) } else { None },
         _ if bytes.len() > MOST_DIGITS => None,
         _ => value(bytes),
+    }
+}
+
+/// The number that the digits spell, where it is below 2^64. Leading zeros are let through.
+fn wide_value(bytes: &[u8]) -> Option<u64>
+    ensures { result ≡ value_from (2 ^ 64) 0 bytes.now }
+{
+    let mut value = 0u64;
+    for b in bytes {
+        if *b < b'0' || *b > b'9' {
+            return None;
+        }
+        value = value.checked_mul(10)?.checked_add(u64::from(*b - b'0'))?;
+    }
+    Some(value)
+}
+
+/// The number that the bytes spell in decimal digits, without a leading zero. None exactly where they
+/// spell none below 2^64.
+pub fn wide_number(bytes: &[u8]) -> Option<u64>
+    ensures { result ≡ number_below (2 ^ 64) bytes.now }
+{
+    match bytes {
+        [] => None,
+        [b'0', rest @ ..] => if rest.is_empty() { Some(0) } else { None },
+        _ => wide_value(bytes),
     }
 }
 

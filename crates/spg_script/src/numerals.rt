@@ -1,9 +1,11 @@
 ghost use Rattle.std.specs.Prelude.{◌≡◌, ◌++◌, OnOk};
 ghost use Rattle.std.specs.Fmt.{signed_decimal};
 ghost use Rattle.spg_base.specs.Text.{row_text, point_text};
+ghost use Rattle.spg_script.specs.Spelling.{value_text, range_text};
 
 use crate::tail::Tail;
 use spg_base::{Bytes, Memory, Point, Row};
+use spg_range::Range32;
 
 /// Adds a coordinate in decimal digits, with `-` before a negative one.
 pub fn push_coordinate(text: &mut Bytes, z: i32) -> Result<(), Memory>
@@ -29,5 +31,29 @@ pub fn push_point(text: &mut Bytes, point: Point) -> Result<(), Memory>
 {
     let mut tail = Tail::new();
     tail.point(point);
+    text.extend(tail.as_slice())
+}
+
+/// Adds the number beside a key, behind it.
+pub fn push_value(text: &mut Bytes, value: u64) -> Result<(), Memory>
+    ensures { OnOk result (text.new ≡ text.old ++ value_text value) }
+{
+    let mut tail = Tail::new();
+    tail.number(value);
+    tail.piece(b" value ");
+    text.extend(tail.as_slice())
+}
+
+/// Adds a range: its ends between brackets, or that it is empty.
+pub fn push_range(text: &mut Bytes, range: &Range32) -> Result<(), Memory>
+    ensures { OnOk result (text.new ≡ text.old ++ range_text range.now) }
+{
+    let Some(ends) = range.ends() else {
+        return text.extend(b"empty");
+    };
+    let mut tail = Tail::new();
+    tail.byte(b']');
+    tail.point(ends);
+    tail.byte(b'[');
     text.extend(tail.as_slice())
 }

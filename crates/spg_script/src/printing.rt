@@ -120,7 +120,7 @@ pub fn print(alloc: Global, script: &Script) -> Result<Bytes, Memory>
     ensures alone { IfOk result (λ text. (other : Blocks) → IsScript text other → other ≡ script.now) }
 {
     let mut text = Bytes::new(alloc);
-    push_line(&mut text, script.class().line())?;
+    push_line(&mut text, script.line().line())?;
     push_parts(&mut text, script.parts())?;
     Ok(text)
 }

@@ -3,7 +3,7 @@ ghost use Rattle.spg_script.specs.Reader.{at_start, between, IsEnd};
 ghost use Rattle.spg_script.specs.Steps.{place_of, GoesOn};
 
 use crate::blocks::Blocks;
-use crate::class_name::ClassName;
+use crate::class_line::ClassLine;
 use crate::lines::says_something;
 use crate::part::Part;
 use spg_base::{List, Memory};
@@ -27,7 +27,7 @@ impl Reader {
             return Ok(true);
         }
         match self {
-            Reader::Start => match ClassName::of_line(line) {
+            Reader::Start => match ClassLine::of_line(line) {
                 Some(class) => {
                     *self = Reader::Named(Blocks::new(alloc, class));
                     Ok(true)
@@ -39,7 +39,7 @@ impl Reader {
     }
 
     /// What was read. None exactly where a script goes on from here.
-    pub fn end(self) -> Option<(ClassName, List<Part>)>
+    pub fn end(self) -> Option<(ClassLine, List<Part>)>
         ensures some { IfSome result (λ read. place_of self ≡ between read.0 read.1) }
         ensures none { IfNone result (IsEnd (place_of self) → ⊥) }
     {

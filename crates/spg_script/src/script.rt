@@ -1,6 +1,8 @@
 ghost use Rattle.std.specs.Prelude.{◌≡◌};
+ghost use Rattle.spg_script.specs.Spelling.{class_of, has_values};
 ghost use Rattle.spg_script.specs.Script.{IsWritten};
 
+use crate::class_line::ClassLine;
 use crate::class_name::ClassName;
 use crate::part::Part;
 use spg_base::List;
@@ -9,7 +11,7 @@ use std::marker::Model;
 /// A class, and blocks in order: the script of some bytes, at most 2^32 - 2 of them.
 #[derive(Debug, Drop)]
 pub struct Script {
-    class: ClassName,
+    class: ClassLine,
     parts: List<Part>,
 }
 
@@ -26,19 +28,33 @@ impl Model for Script {
 
 impl Script {
     /// The script of this class with these blocks, which some bytes spell.
-    pub(crate) fn new(class: ClassName, parts: List<Part>) -> Script
+    pub(crate) fn new(class: ClassLine, parts: List<Part>) -> Script
         requires { IsWritten (record { class = class; parts = parts }) }
         ensures { result ≡ record { class = class; parts = parts } }
     {
         Script { class, parts }
     }
 
-    /// Its class.
-    pub fn class(&self) -> ClassName
+    /// What its class line names.
+    pub fn line(&self) -> ClassLine
         ensures class { result ≡ self.now.class }
         ensures written { IsWritten self.now }
     {
         self.class
+    }
+
+    /// Its class, apart from numbers beside keys.
+    pub fn class(&self) -> ClassName
+        ensures { result ≡ class_of self.now.class }
+    {
+        self.class.class()
+    }
+
+    /// Whether a number stands beside each of its keys.
+    pub fn valued(&self) -> bool
+        ensures { result ≡ has_values self.now.class }
+    {
+        self.class.valued()
     }
 
     /// Its blocks, in order.

@@ -5,7 +5,7 @@ ghost use Rattle.spg_script.specs.Script.{IsWritten, IsLaneCommand};
 ghost use Rattle.spg_script.specs.Reader.{between};
 ghost use Rattle.spg_script.specs.Sequences.{script_of, sequence_place, TakesOn, StepsInSequence, GoesOnInSequence, IsSequence, IsSequenceCause};
 
-use crate::class_name::ClassName;
+use crate::class_line::ClassLine;
 use crate::command::Command;
 use crate::commands::read_command;
 use crate::lines::{first_line, says_something};
@@ -17,7 +17,7 @@ use std::alloc::Global;
 /// deletes, finds or is a vacuum.
 #[derive(Debug, Drop)]
 pub struct Sequence {
-    pub class: ClassName,
+    pub class: ClassLine,
     pub commands: List<Command>,
 }
 
@@ -72,7 +72,7 @@ impl SequenceReader {
             return Ok(true);
         }
         match self {
-            SequenceReader::Start => match ClassName::of_line(line) {
+            SequenceReader::Start => match ClassLine::of_line(line) {
                 Some(class) => {
                     let commands = List::new(alloc);
                     *self = SequenceReader::Named(Sequence { class, commands });

@@ -4,17 +4,18 @@ ghost use Rattle.std.specs.List.{flat_map};
 ghost use Rattle.spg_base.specs.declared.point.PointCond.TheVariants as point_cond;
 ghost use Rattle.spg_script.specs.Quoted.{hex_digit, byte_text, quoted};
 ghost use Rattle.spg_script.specs.Line.{word_of};
-ghost use Rattle.spg_script.specs.Spelling.{cond_text, conds_text};
-ghost use Rattle.spg_script.specs.Speech.{text_cond_text, any_key_or_null_text, any_query_text, any_cond_text};
+ghost use Rattle.spg_script.specs.Spelling.{cond_text, conds_text, range_word, range_named, range_cond_text};
+ghost use Rattle.spg_script.specs.Speech.{text_cond_text, any_key_text, any_key_or_null_text, any_query_text, any_cond_text};
 ghost use Rattle.spg_script.specs.Printing.{plain_before};
 
 use crate::any_cond::AnyCond;
 use crate::any_key::AnyKey;
 use crate::any_query::AnyQuery;
-use crate::numerals::{push_coordinate, push_point};
+use crate::numerals::{push_coordinate, push_point, push_range, push_value};
 use crate::texts::plain_before;
 use spg_base::{Bytes, Memory, Point, PointCond};
 use spg_radix::TextCond;
+use spg_range::{Range32, RangeCond};
 
 /// Adds a condition on points that names one coordinate.
 fn push_side(text: &mut Bytes, word: &[u8], z: i32) -> Result<(), Memory>
@@ -112,13 +113,68 @@ pub fn push_text_cond(text: &mut Bytes, cond: &TextCond) -> Result<(), Memory>
     push_quoted(text, cond.named())
 }
 
+/// The word of a condition on ranges.
+fn range_word(cond: &RangeCond) -> &[u8]
+    ensures { result.now ≡ range_word cond.now }
+{
+    match cond {
+        RangeCond::Eq(_) => b"eq",
+        RangeCond::Overlap(_) => b"overlap",
+        RangeCond::Contains(_) => b"contains",
+        RangeCond::Within(_) => b"within",
+        RangeCond::Left(_) => b"left",
+        RangeCond::Right(_) => b"right",
+    }
+}
+
+/// The range that a condition names.
+fn range_named(cond: &RangeCond) -> &Range32
+    ensures { result.now ≡ range_named cond.now }
+{
+    match cond {
+        RangeCond::Eq(range)
+        | RangeCond::Overlap(range)
+        | RangeCond::Contains(range)
+        | RangeCond::Within(range)
+        | RangeCond::Left(range)
+        | RangeCond::Right(range) => range,
+    }
+}
+
+/// Adds a condition on ranges.
+pub fn push_range_cond(text: &mut Bytes, cond: &RangeCond) -> Result<(), Memory>
+    ensures { OnOk result (text.new ≡ text.old ++ range_cond_text cond.now) }
+{
+    text.extend(range_word(cond))?;
+    text.push(b' ')?;
+    push_range(text, range_named(cond))
+}
+
+/// Adds a key.
+fn push_any_key(text: &mut Bytes, key: &AnyKey) -> Result<(), Memory>
+    ensures { OnOk result (text.new ≡ text.old ++ any_key_text key.now) }
+{
+    match key {
+        AnyKey::Point(point) => push_point(text, *point),
+        AnyKey::Text(key) => push_quoted(text, key.as_slice()),
+        AnyKey::PointValue { point, value } => {
+            push_point(text, *point)?;
+            push_value(text, *value)
+        }
+        AnyKey::TextValue { text: key, value } => {
+            push_quoted(text, key.as_slice())?;
+            push_value(text, *value)
+        }
+        AnyKey::Range(range) => push_range(text, range),
+    }
+}
+
 /// Adds a key or a null.
 pub fn push_key(text: &mut Bytes, key: &Option<AnyKey>) -> Result<(), Memory>
     ensures { OnOk result (text.new ≡ text.old ++ any_key_or_null_text key.now) }
 {
     match key {
-        Some(AnyKey::Point(point)) => push_point(text, *point),
-        Some(AnyKey::Text(key)) => push_quoted(text, key.as_slice()),
+        Some(key) => push_any_key(text, key),
         None => text.extend(b"null"),
     }
 }
@@ -130,6 +186,7 @@ fn push_any_cond(text: &mut Bytes, cond: &AnyCond) -> Result<(), Memory>
     match cond {
         AnyCond::Point(cond) => push_cond(text, cond),
         AnyCond::Text(cond) => push_text_cond(text, cond),
+        AnyCond::Range(cond) => push_range_cond(text, cond),
     }
 }
 

@@ -1,7 +1,8 @@
 ghost use Rattle.std.specs.Prelude.{◌≡◌};
 ghost use Rattle.spg_script.specs.Wanting.{class_spot, next_spot};
 
-use crate::class_name::ClassName;
+use crate::class_line::ClassLine;
+use crate::key_form::KeyForm;
 
 /// What has come before a line, as far as it tells what the line may be.
 #[derive(Clone, Copy, Debug, PartialEq, Eq)]
@@ -9,21 +10,19 @@ pub enum Spot {
     /// No line named a class.
     Start,
     /// No block is open.
-    Between { texts: bool },
+    Between { keys: KeyForm },
     /// A block is open, and no lane has begun.
-    Block { texts: bool },
+    Block { keys: KeyForm },
     /// A lane goes on.
-    Lane { texts: bool },
+    Lane { keys: KeyForm },
 }
 
 /// What has come before the line behind this one, where no line before named a class.
 fn class_spot(line: &[u8]) -> Spot
     ensures { result ≡ class_spot line.now }
 {
-    match ClassName::of_line(line) {
-        Some(class) => Spot::Between {
-            texts: class.has_texts(),
-        },
+    match ClassLine::of_line(line) {
+        Some(class) => Spot::Between { keys: class.keys() },
         None => Spot::Start,
     }
 }
@@ -35,9 +34,9 @@ impl Spot {
     {
         match self {
             Spot::Start => class_spot(line),
-            Spot::Between { texts } if line == b"together".as_slice() => Spot::Block { texts },
-            Spot::Block { texts } if line == b"lane".as_slice() => Spot::Lane { texts },
-            Spot::Lane { texts } if line == b"end".as_slice() => Spot::Between { texts },
+            Spot::Between { keys } if line == b"together".as_slice() => Spot::Block { keys },
+            Spot::Block { keys } if line == b"lane".as_slice() => Spot::Lane { keys },
+            Spot::Lane { keys } if line == b"end".as_slice() => Spot::Between { keys },
             spot => spot,
         }
     }

@@ -29,6 +29,12 @@ pub enum Wanted {
     PointKey,
     /// A key of a class of texts.
     TextKey,
+    /// A key of a class of points with a number beside each.
+    PointValueKey,
+    /// A key of a class of texts with a number beside each.
+    TextValueKey,
+    /// A key of a class of ranges.
+    RangeKey,
     /// A query.
     Query,
     /// A condition on points.
@@ -41,9 +47,11 @@ pub enum Wanted {
     FewerConditions,
     /// Conditions on texts.
     TextConditions,
+    /// Conditions on ranges.
+    RangeConditions,
     /// A name to save under.
     Name,
-    /// A point and a number of rows, in a class of points.
+    /// A point and a number of rows, in a class of points without numbers.
     Near,
 }
 
@@ -51,7 +59,9 @@ impl Wanted {
     /// The words that tell it.
     pub fn words(self) -> &'static str {
         match self {
-            Wanted::ClassLine => "class quad, class kd or class radix is wanted",
+            Wanted::ClassLine => {
+                "class quad, class kd, class radix, one of these with value behind it, or class range is wanted"
+            }
             Wanted::Command => {
                 "insert, find, near, delete, vacuum, save, stat or together is wanted"
             }
@@ -69,6 +79,15 @@ impl Wanted {
             Wanted::TextKey => {
                 "insert B.O KEY: a text between quotes, of at most 3900 bytes, or null is wanted"
             }
+            Wanted::PointValueKey => {
+                "insert B.O KEY: X,Y value N, N from 0 to 18446744073709551615, or null is wanted"
+            }
+            Wanted::TextValueKey => {
+                "insert B.O KEY: T value N, T a text between quotes, of at most 3900 bytes, N from 0 to 18446744073709551615, or null is wanted"
+            }
+            Wanted::RangeKey => {
+                "insert B.O KEY: a range [LO,HI], LO at most HI, empty or null is wanted"
+            }
             Wanted::Query => "find QUERY: all, null or where is wanted",
             Wanted::PointCondition => {
                 "find where: eq X,Y, left X, right X, below Y, above Y or in X1,Y1,X2,Y2 is wanted"
@@ -81,11 +100,14 @@ impl Wanted {
             Wanted::TextConditions => {
                 "find where: at most 8 of eq T, lt T, le T, gt T, ge T and starts T are wanted, T a text between quotes"
             }
+            Wanted::RangeConditions => {
+                "find where: at most 8 of eq R, overlap R, contains R, within R, left R and right R are wanted, R a range [LO,HI], LO at most HI, or empty"
+            }
             Wanted::Name => {
                 "save NAME: 1 to 64 of a to z, 0 to 9, _, - and . are wanted, the first no - or ."
             }
             Wanted::Near => {
-                "near X,Y N: a point X,Y and N from 1 to 65535 are wanted, in a class of points"
+                "near X,Y N: a point X,Y and N from 1 to 65535 are wanted, in class quad or class kd"
             }
         }
     }

@@ -1,9 +1,10 @@
 ghost use Rattle.std.specs.Prelude.{◌≡◌, take};
 ghost use Rattle.spg_script.specs.Reading.{len_before};
-ghost use Rattle.spg_script.specs.Wanting.{first_word, last_corner, are_corners, insert_wants, cond_wants, conds_want, find_wants, command_wants, between_wants, lane_wants, line_wants, end_wants, insert_wanted, standby_wanted};
+ghost use Rattle.spg_script.specs.Wanting.{first_word, last_corner, are_corners, key_wants, insert_wants, cond_wants, conds_want, all_conds_want, find_wants, command_wants, between_wants, lane_wants, line_wants, end_wants, insert_wanted, standby_wanted};
 
 use crate::bytes::{len_before, split};
 use crate::conditions::point_cond_then;
+use crate::key_form::KeyForm;
 use crate::numbers::{coordinate, row};
 use crate::spot::Spot;
 use crate::wanted::Wanted;
@@ -72,44 +73,64 @@ fn conds_want(bytes: &[u8]) -> Wanted
     Wanted::FewerConditions
 }
 
+/// What is wanted where bytes are no key.
+fn key_wants(keys: KeyForm) -> Wanted
+    ensures { result ≡ key_wants keys }
+{
+    match keys {
+        KeyForm::Point => Wanted::PointKey,
+        KeyForm::Text => Wanted::TextKey,
+        KeyForm::PointValue => Wanted::PointValueKey,
+        KeyForm::TextValue => Wanted::TextValueKey,
+        KeyForm::Range => Wanted::RangeKey,
+    }
+}
+
 /// What is wanted where bytes are no row and key.
 #[tactic(auto, unfolding(crate::specs::Wanting::insert_wants))]
-fn insert_wants(texts: bool, bytes: &[u8]) -> Wanted
-    ensures { result ≡ insert_wants texts bytes.now }
+fn insert_wants(keys: KeyForm, bytes: &[u8]) -> Wanted
+    ensures { result ≡ insert_wants keys bytes.now }
 {
     if row(first_word(bytes)).is_none() {
         Wanted::InsertRow
-    } else if texts {
-        Wanted::TextKey
     } else {
-        Wanted::PointKey
+        key_wants(keys)
+    }
+}
+
+/// What is wanted where bytes are no conditions on keys of a form.
+fn all_conds_want(keys: KeyForm, bytes: &[u8]) -> Wanted
+    ensures { result ≡ all_conds_want keys bytes.now }
+{
+    match keys {
+        KeyForm::Point | KeyForm::PointValue => conds_want(bytes),
+        KeyForm::Text | KeyForm::TextValue => Wanted::TextConditions,
+        KeyForm::Range => Wanted::RangeConditions,
     }
 }
 
 /// What is wanted where bytes are no query.
 #[tactic(auto, unfolding(crate::specs::Wanting::find_wants))]
-fn find_wants(texts: bool, bytes: &[u8]) -> Wanted
-    ensures { result ≡ find_wants texts bytes.now }
+fn find_wants(keys: KeyForm, bytes: &[u8]) -> Wanted
+    ensures { result ≡ find_wants keys bytes.now }
 {
     if !bytes.starts_with(b"where ") {
         Wanted::Query
-    } else if texts {
-        Wanted::TextConditions
     } else {
-        conds_want(&bytes[6..])
+        all_conds_want(keys, &bytes[6..])
     }
 }
 
 /// What is wanted where a line is no command. It is `other` where its first word is none of a
 /// command that has more words.
 #[tactic(auto, unfolding(crate::specs::Wanting::command_wants))]
-fn command_wants(texts: bool, other: Wanted, line: &[u8]) -> Wanted
-    ensures { result ≡ command_wants texts other line.now }
+fn command_wants(keys: KeyForm, other: Wanted, line: &[u8]) -> Wanted
+    ensures { result ≡ command_wants keys other line.now }
 {
     if line.starts_with(b"insert ") {
-        insert_wants(texts, &line[7..])
+        insert_wants(keys, &line[7..])
     } else if line.starts_with(b"find ") {
-        find_wants(texts, &line[5..])
+        find_wants(keys, &line[5..])
     } else if line.starts_with(b"delete ") {
         Wanted::DeleteRow
     } else if line.starts_with(b"near ") {
@@ -123,20 +144,20 @@ fn command_wants(texts: bool, other: Wanted, line: &[u8]) -> Wanted
 
 /// What is wanted in place of a line outside blocks.
 #[tactic(auto, unfolding(crate::specs::Wanting::between_wants))]
-fn between_wants(texts: bool, line: &[u8]) -> Wanted
-    ensures { result ≡ between_wants texts line.now }
+fn between_wants(keys: KeyForm, line: &[u8]) -> Wanted
+    ensures { result ≡ between_wants keys line.now }
 {
     if line == b"lane".as_slice() || line == b"end".as_slice() {
         Wanted::Together
     } else {
-        command_wants(texts, Wanted::Command, line)
+        command_wants(keys, Wanted::Command, line)
     }
 }
 
 /// What is wanted in place of a line of a lane.
 #[tactic(auto, unfolding(crate::specs::Wanting::lane_wants))]
-fn lane_wants(texts: bool, line: &[u8]) -> Wanted
-    ensures { result ≡ lane_wants texts line.now }
+fn lane_wants(keys: KeyForm, line: &[u8]) -> Wanted
+    ensures { result ≡ lane_wants keys line.now }
 {
     if line == b"lane".as_slice() {
         Wanted::FewerLanes
@@ -146,7 +167,7 @@ fn lane_wants(texts: bool, line: &[u8]) -> Wanted
     {
         Wanted::NoLane
     } else {
-        command_wants(texts, Wanted::LaneCommand, line)
+        command_wants(keys, Wanted::LaneCommand, line)
     }
 }
 
@@ -157,9 +178,9 @@ pub fn line_wants(spot: Spot, line: &[u8]) -> Wanted
 {
     match spot {
         Spot::Start => Wanted::ClassLine,
-        Spot::Between { texts } => between_wants(texts, line),
-        Spot::Block { texts: _ } => Wanted::FirstLane,
-        Spot::Lane { texts } => lane_wants(texts, line),
+        Spot::Between { keys } => between_wants(keys, line),
+        Spot::Block { keys: _ } => Wanted::FirstLane,
+        Spot::Lane { keys } => lane_wants(keys, line),
     }
 }
 
@@ -169,8 +190,8 @@ pub fn end_wants(spot: Spot) -> Wanted
 {
     match spot {
         Spot::Start => Wanted::ClassLine,
-        Spot::Between { texts: _ } => Wanted::Command,
-        Spot::Block { texts: _ } | Spot::Lane { texts: _ } => Wanted::EndOfBlock,
+        Spot::Between { keys: _ } => Wanted::Command,
+        Spot::Block { keys: _ } | Spot::Lane { keys: _ } => Wanted::EndOfBlock,
     }
 }
 

@@ -39,7 +39,5 @@ serves m boxing cuts narrows keys plane old new seat target limit rows met shape
   did = F.did;
   pages = F.pages;
   right = nearest_are (past_of old) _ target limit rows F.right;
-  walk = λ last r.
-      let (n, walk, is) = F.walk last r in
-      (n, subst (λ (S : Sheets). WalkWithin m point_speech S target last n) (sym F.pages.0) (walk_within m boxing (sheets_of old.table) target cuts narrows shape keys plane last n walk), is);
+  walk = λ last r. subst (λ (S : Sheets). WalkWithin m point_speech S target last met) (sym F.pages.0) (walk_within m boxing (sheets_of old.table) target cuts narrows shape keys plane last met (F.walk last r));
 }

@@ -2,9 +2,9 @@
 //! points.
 #![tactic(auto)]
 
+mod others;
 mod points;
 mod served;
-mod texts;
 
 pub use served::Served;
 pub use spg_nearest::Nearest;

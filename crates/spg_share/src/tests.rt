@@ -1,8 +1,13 @@
-use crate::{InsertAnswer, Lane, NearAnswer, Seat, Task, share};
+ghost use Rattle.std.specs.Prelude.{◌≡◌};
+ghost use Rattle.spg_share.specs.Seats.{seat_name};
+
+use crate::{InsertAnswer, Lane, NearAnswer, PagesAnswer, Seat, Task, share};
 use spg_base::{Point, Row};
+use spg_io::PlainImages;
 use spg_near::NearRow;
 use spg_quad::Quad;
 use spg_whole::Index;
+use std::alloc::Global;
 use std::sync::Wait;
 use std::test::Fail;
 
@@ -15,6 +20,17 @@ struct Corner {
     added: bool,
     three: Option<NearAnswer>,
     none: Option<NearAnswer>,
+    looks: Looks,
+    images: PlainImages,
+}
+
+/// What a seat sees of the index in one turn each.
+#[derive(Clone, Copy)]
+struct Looks {
+    leaves: u64,
+    waits: bool,
+    pages: u32,
+    saved: u32,
 }
 
 /// Whether the row was added.
@@ -26,14 +42,40 @@ fn is_added(answer: InsertAnswer) -> bool {
 }
 
 impl Corner {
-    fn at(block: u32, x: i32) -> Corner {
+    fn at(alloc: Global, block: u32, x: i32) -> Corner {
         Corner {
             block,
             x,
             added: false,
             three: None,
             none: None,
+            looks: Looks {
+                leaves: 0,
+                waits: true,
+                pages: 0,
+                saved: 0,
+            },
+            images: PlainImages::new(alloc),
         }
+    }
+}
+
+/// Looks at the counts, at the row and at a copy of the pages, and saves.
+fn look<R: Wait>(rt: &R, seat: &mut Seat<'_, Quad>, row: Row, images: &mut PlainImages) -> Looks
+    ensures { seat_name seat.new ≡ seat_name seat.old }
+{
+    let leaves = seat.stat(rt).stat.leaf;
+    let waits = seat.held_by(rt, row).by.is_some();
+    let pages = match &seat.pages(rt) {
+        PagesAnswer::Copied { pages, .. } => pages.page_count(),
+        PagesAnswer::Memory(_) => 0,
+    };
+    let saved = seat.save(rt, images, "corners").saved.unwrap_or(0);
+    Looks {
+        leaves,
+        waits,
+        pages,
+        saved,
     }
 }
 
@@ -47,6 +89,7 @@ impl Task<Quad> for Corner {
         self.added = far && late && first && null;
         self.three = Some(seat.near(rt, Point { x, y: 0 }, 3));
         self.none = Some(seat.near(rt, Point { x, y: 0 }, 0));
+        self.looks = look(rt, seat, Row::at(self.block, 1), &mut self.images);
     }
 }
 
@@ -66,8 +109,8 @@ fn near_row(row: Row, distance: u128) -> NearRow {
 fn each_thread_finds_what_is_nearest(rt: HostRuntime) -> Result<(), Fail> {
     let alloc = rt.alloc();
     let mut lanes = Vec::new(alloc);
-    lanes.push(Lane::new(Corner::at(1, 0)))?;
-    lanes.push(Lane::new(Corner::at(2, 1_000_000)))?;
+    lanes.push(Lane::new(Corner::at(alloc, 1, 0)))?;
+    lanes.push(Lane::new(Corner::at(alloc, 2, 1_000_000)))?;
     let index = Index::new(alloc, Quad, 100)?;
     let index = match share(&rt, index, lanes.as_mut_slice()) {
         Ok(index) => index,
@@ -80,9 +123,12 @@ fn each_thread_finds_what_is_nearest(rt: HostRuntime) -> Result<(), Fail> {
             added,
             three,
             none,
+            looks,
             ..
         } = &lane.task;
         assert_eq!(rt; *added, true);
+        assert_eq!(rt; looks.leaves >= 4 && !looks.waits, true);
+        assert_eq!(rt; (looks.pages, looks.saved), (3, 3));
         let nearest = [
             near_row(Row::at(*block, 2), 9),
             near_row(Row::at(*block, 4), 9),

@@ -2,6 +2,7 @@
 use Rattle.std.proofs.Common.{◌≡◌, ◌≢◌, ◌<◌, ◌≤◌, ⊎_elim, ℕ, List, [], ◌∷◌, Option, Some, None, length, drop, get_or, get_or-set_same, get_or-set_other, refl, sym, ap, ◌∙◌, subst, arith}
 use Rattle.std.specs.Prelude.{slice_index_or}
 use Rattle.std.proofs.lemmas.Bool.{cases_eq}
+use Rattle.std.proofs.lemmas.List.{set-set}
 use Rattle.spg_follow.specs.Events.{OpensFirst}
 use Rattle.spg_opclass.specs.Meaning.{Meaning}
 use Rattle.spg_opclass.specs.declared.query.Query.{Query}
@@ -13,11 +14,11 @@ use Rattle.spg_scan.specs.declared.walk.Closed.{Closed}
 use Rattle.spg_scan.specs.Scanning.{Scanning, opened}
 use Rattle.spg_core.specs.Seen.{Seen}
 use Rattle.spg_follow.specs.Step.{Step}
-use Rattle.spg_standby.specs.declared.follower.ApplyOut.TheVariants.{Applied}
+use Rattle.spg_standby.specs.declared.follower.ApplyOut.TheVariants.{Applied, Held}
 use Rattle.spg_standby.specs.Slots.{SlotReads}
 use Rattle.spg_standby.specs.Standing.{Standing, StandsAt, SlotCloses, SlotHolds, IsHolder, StillStands, AppliesOut, ReadsAt, IsReadIn, scan_at, with_scan, held_in}
 use Rattle.spg_standby.specs.Pair.{IsPaired}
-use Rattle.spg_standby.specs.Finding.{IsIdle, IsBehind, ScansFrom, IsOpenIn, ReadsOn}
+use Rattle.spg_standby.specs.Finding.{IsIdle, IsBehind, Offers, ScansFrom, IsOpenIn, ReadsOn, Finishes}
 use Rattle.spg_standby.proofs.Standings.{set_cases}
 use Rattle.spg_standby.proofs.Pairs.{pair_applies, pair_scans, pair_lags}
 
@@ -47,11 +48,28 @@ module _ {O Key Recon Cond : Type 0} (m : Meaning Key Recon Cond) (primary : See
     pub applied_one : (standby2 : Standing O Key Recon Cond) (rest : List Step) → rest ≡ drop 1 steps → AppliesOut m primary.journal standby standby2 step Applied → IsPaired m primary standby2 rest
     applied_one standby2 rest e A = subst (λ xs. IsPaired m primary standby2 xs) (sym e) ((pair_applies m).then primary standby standby2 step (drop 1 steps) its A)
 
+    -- it was offered
+    pub offered_off : (journal : List (Event O Key Recon Cond)) (standby2 : Standing O Key Recon Cond) (rest : List Step) → rest ≡ drop 1 steps → AppliesOut m journal standby standby2 step Applied → Offers m journal standby standby2 steps rest (Some Applied)
+    offered_off journal standby2 rest e A = subst (λ xs. Offers m journal standby standby2 xs rest (Some Applied)) (sym (headed steps step some first)) (A, e)
+
+    pub offered_back : (journal : List (Event O Key Recon Cond)) (standby2 : Standing O Key Recon Cond) (steps2 : List Step) (by : ℕ) → steps2 ≡ steps → AppliesOut m journal standby standby2 step (Held by) → Offers m journal standby standby2 steps steps2 (Some (Held by))
+    offered_back journal standby2 steps2 by e A = subst (λ xs. Offers m journal standby standby2 xs steps2 (Some (Held by))) (sym (headed steps step some first)) (A, e ∙ headed steps step some first)
+
   -- a call of a scan
   pub scanned : (seat : ℕ) (slot : Option (Scanning O Key Recon Cond)) (standby2 : Standing O Key Recon Cond) → standby2 ≡ with_scan standby seat slot → StillStands m standby standby2 → IsPaired m primary standby2 steps
   scanned seat slot standby2 e S = pair_scans m primary standby standby2 steps P (S primary.journal P.stands) (ap (λ (f : Standing O Key Recon Cond). f.table) e) (ap (λ (f : Standing O Key Recon Cond). f.applied) e)
 
 module _ {O Key Recon Cond : Type 0} where
+  -- none was queued
+  pub offered_none : (m : Meaning Key Recon Cond) (journal : List (Event O Key Recon Cond)) (f f2 : Standing O Key Recon Cond) (steps steps2 : List Step) → length steps ≡ 0 → f2 ≡ f → steps2 ≡ steps → Offers m journal f f2 steps steps2 None
+  offered_none m journal f f2 [] steps2 none e same = (e, same)
+  offered_none m journal f f2 (step ∷ steps) steps2 none e same = absurd (omega arith)
+
+  -- one scan is opened in place of another
+  pub opened_anew : (f f1 f2 : Standing O Key Recon Cond) (seat : ℕ) (slot : Option (Scanning O Key Recon Cond)) → f1 ≡ with_scan f seat None → f2 ≡ with_scan f1 seat slot → f2 ≡ with_scan f seat slot
+  opened_anew f f1 f2 seat slot e e2 =
+      e2 ∙ ap (λ (x : Standing O Key Recon Cond). with_scan x seat slot) e ∙ ap (λ xs. record { table = f.table; scans = xs; applied = f.applied; rows = f.rows; vacuum = f.vacuum }) (set-set f.scans seat None slot)
+
   slot_keeps : (m : Meaning Key Recon Cond) (f : Standing O Key Recon Cond) (item : ℕ) (old new : Option (Scanning O Key Recon Cond)) → SlotReads m f.table f.rows item old new → (from : ℕ) (query : Query O Key Recon Cond) → ScansFrom from query old → ScansFrom from query new
   slot_keeps m f item None new R from query h = absurd h
   slot_keeps m f item (Some s) new (s2, e, R) from query h = subst (ScansFrom from query) (sym e) (subst (λ (x : Scanning O Key Recon Cond). ScansFrom from query (Some x)) (sym R.after) h)
@@ -113,24 +131,40 @@ module _ {O Key Recon Cond : Type 0} where
       subst (λ (n : ℕ). ScanRight m (past_at n journal) (past_at to journal) query closed.rows) (sym at)
       (subst (λ (n : ℕ). ScanRight m (past_at f.applied journal) (past_at n journal) query closed.rows) (sym till) (closes_from m f2 closed journal (scan_at f2 seat) f.applied query now C T))
 
+  -- a scan that was read to its end
+  pub not_open : (m : Meaning Key Recon Cond) (journal : List (Event O Key Recon Cond)) (to : ℕ) (slot : Option (Scanning O Key Recon Cond)) → (IsOpenIn slot → ⊥) → Finishes m journal to slot None
+  not_open m journal to None closed = tt
+  not_open m journal to (Some s) closed = absurd (closed tt)
+
+  pub finished : (m : Meaning Key Recon Cond) (f2 : Standing O Key Recon Cond) (closed : Closed) (journal : List (Event O Key Recon Cond)) (seat to : ℕ) (slot : Option (Scanning O Key Recon Cond)) → IsOpenIn slot → ((from : ℕ) (query : Query O Key Recon Cond) → ScansFrom from query slot → ScansFrom from query (scan_at f2 seat)) → f2.applied ≡ to
+      → SlotCloses m f2 closed (scan_at f2 seat) → StandsAt m journal f2 → Finishes m journal to slot (Some closed)
+  finished m f2 closed journal seat to None is_open here same C T = absurd is_open
+  finished m f2 closed journal seat to (Some s) is_open here same C T =
+      subst (λ (n : ℕ). ScanRight m (past_at s.at journal) (past_at n journal) s.query closed.rows) same (closes_from m f2 closed journal (scan_at f2 seat) s.at s.query (here s.at s.query (refl, refl)) C T)
+
+  -- without the scan of the seat it is what it was
+  pub without_scan : (f f2 : Standing O Key Recon Cond) (seat : ℕ) (slot : Option (Scanning O Key Recon Cond)) → f2 ≡ with_scan f seat slot → with_scan f2 seat None ≡ with_scan f seat None
+  without_scan f f2 seat slot e =
+      ap (λ (x : Standing O Key Recon Cond). with_scan x seat None) e ∙ ap (λ xs. record { table = f.table; scans = xs; applied = f.applied; rows = f.rows; vacuum = f.vacuum }) (set-set f.scans seat slot None)
+
   from_before : (m : Meaning Key Recon Cond) (f : Standing O Key Recon Cond) (journal : List (Event O Key Recon Cond)) (seat from : ℕ) (query : Query O Key Recon Cond) → StandsAt m journal f → (slot : Option (Scanning O Key Recon Cond)) → scan_at f seat ≡ slot → ScansFrom from query slot → from ≤ f.applied
   from_before m f journal seat from query T None e h = absurd h
   from_before m f journal seat from query T (Some s) e (at, asks) = omega (arith, (T.scans seat s e).within, at)
 
-  -- it ended behind where it began
-  pub found_order : (m : Meaning Key Recon Cond) (f f1 f2 : Standing O Key Recon Cond) (journal : List (Event O Key Recon Cond)) (seat from to : ℕ) (query : Query O Key Recon Cond) → seat < length f.scans → f1 ≡ with_scan f seat (Some (opened m query f.applied f.table.clock)) → ReadsOn f1 f2 seat → StandsAt m journal f2
-      → from ≡ f.applied → to ≡ f2.applied → from ≤ to
-  found_order m f f1 f2 journal seat from to query low e R T at till =
+  -- no event is taken back while it reads
+  pub found_order : (m : Meaning Key Recon Cond) (f f1 f2 f3 : Standing O Key Recon Cond) (journal : List (Event O Key Recon Cond)) (seat : ℕ) (query : Query O Key Recon Cond) → seat < length f.scans → f1 ≡ with_scan f seat (Some (opened m query f.applied f.table.clock)) → ReadsOn f1 f2 seat → StandsAt m journal f2
+      → f3.applied ≡ f2.applied → f.applied ≤ f3.applied
+  found_order m f f1 f2 f3 journal seat query low e R T same =
       let its : Scanning O Key Recon Cond = opened m query f.applied f.table.clock in
       let here : scan_at f1 seat ≡ Some its = ap (λ (x : Standing O Key Recon Cond). scan_at x seat) e ∙ get_or-set_same f.scans seat (Some its) None low in
       let was : ScansFrom f.applied query (Some its) = (refl, refl) in
       let now : ScansFrom f.applied query (scan_at f2 seat) = R.here f.applied query (subst (ScansFrom f.applied query) (sym here) was) in
-      omega (arith, from_before m f2 journal seat f.applied query T (scan_at f2 seat) refl now, at, till)
+      omega (arith, from_before m f2 journal seat f.applied query T (scan_at f2 seat) refl now, same)
 
 -- how far behind the primary's journal the standby is
 caught_up : {O Key Recon Cond : Type 0} (m : Meaning Key Recon Cond) (primary : Seen O Key Recon Cond) (standby : Standing O Key Recon Cond) (steps : List Step) → IsPaired m primary standby steps → length steps ≡ 0 → standby.applied ≡ length primary.journal
 caught_up m primary standby [] P none = P.leads.1
 caught_up m primary standby (step ∷ steps) P none = absurd (omega arith)
 
-pub is_behind : {O Key Recon Cond : Type 0} (m : Meaning Key Recon Cond) (primary : Seen O Key Recon Cond) (standby : Standing O Key Recon Cond) (steps : List Step) (from : ℕ) → IsPaired m primary standby steps → from ≡ standby.applied → IsBehind primary.journal from (length steps)
-is_behind m primary standby steps from P at = subst (λ (n : ℕ). IsBehind primary.journal n (length steps)) (sym at) (record { few = pair_lags m primary standby steps P; none = caught_up m primary standby steps P })
+pub is_behind : {O Key Recon Cond : Type 0} (m : Meaning Key Recon Cond) (primary : Seen O Key Recon Cond) (standby : Standing O Key Recon Cond) (steps : List Step) → IsPaired m primary standby steps → IsBehind primary.journal standby.applied (length steps)
+is_behind m primary standby steps P = record { few = pair_lags m primary standby steps P; none = caught_up m primary standby steps P }

@@ -1,5 +1,5 @@
 -- What comes of writes, and what is answered.
-use Rattle.std.proofs.Common.{◌≡◌, ◌⊎◌, ◌+◌, ◌^◌, inl, inr, ℕ, List, reverse, Option, refl, sym, ◌∙◌, subst}
+use Rattle.std.proofs.Common.{◌≡◌, ◌≢◌, ◌≤◌, ◌⊎◌, ◌+◌, ◌^◌, inl, inr, ℕ, List, reverse, Option, refl, sym, ◌∙◌, subst}
 use Rattle.spg_base.specs.Row.{RowAt}
 use Rattle.spg_opclass.specs.Meaning.{Meaning}
 use Rattle.spg_rows.specs.declared.event.Event.{Event}
@@ -21,18 +21,22 @@ use Rattle.spg_whole.proofs.Alone.{OthersClosed}
 use Rattle.spg_whole.proofs.Puts.{gave_up, heavy, near, at_end}
 use Rattle.spg_standby.specs.declared.wrote.Wrote.{Wrote}
 use Rattle.spg_standby.specs.declared.wrote.Wrote.TheVariants as came
-use Rattle.spg_standby.specs.Writes.{Inserted, Deleted, Vacuumed, Answers, why_of, came_of}
+use Rattle.spg_standby.specs.Writes.{Inserted, Deleted, Vacuumed, Settles, Answers, why_of, came_of}
 
 -- ---- what is answered
 
-pub answered : (P : Wrote → Type 0) (wrote answer : Wrote) → P wrote → (answer ≡ wrote) ⊎ (answer ≡ came.Memory) → Answers P answer
-answered P wrote answer h (inl e) = inl (subst P (sym e) h)
-answered P wrote answer h (inr e) = inr (e, (wrote, h))
+pub answered : (P : Wrote → Type 0) (queued lag : ℕ) (wrote answer : Wrote) → P wrote → Settles queued lag wrote answer → Answers P queued lag answer
+answered P queued lag wrote answer h settled = (wrote, h, settled)
 
-pub used_still : (wrote answer : Wrote) → (wrote ≡ came.RowUsed) ⊎ (wrote ≡ came.Memory) → (answer ≡ wrote) ⊎ (answer ≡ came.Memory) → (answer ≡ came.RowUsed) ⊎ (answer ≡ came.Memory)
-used_still wrote answer (inl w) (inl e) = inl (e ∙ w)
-used_still wrote answer (inr w) (inl e) = inr (e ∙ w)
-used_still wrote answer h (inr e) = inr e
+-- unless it is `memory`, no more are queued than may be
+pub few_queued : (queued lag : ℕ) (wrote answer : Wrote) → Settles queued lag wrote answer → answer ≢ came.Memory → queued ≤ lag
+few_queued queued lag wrote answer (inl (few, e)) other = few
+few_queued queued lag wrote answer (inr (many, e)) other = absurd (other e)
+
+pub used_still : (queued lag : ℕ) (wrote answer : Wrote) → (wrote ≡ came.RowUsed) ⊎ (wrote ≡ came.Memory) → Settles queued lag wrote answer → (answer ≡ came.RowUsed) ⊎ (answer ≡ came.Memory)
+used_still queued lag wrote answer (inl w) (inl (few, e)) = inl (e ∙ w)
+used_still queued lag wrote answer (inr w) (inl (few, e)) = inr (e ∙ w)
+used_still queued lag wrote answer h (inr (many, e)) = inr e
 
 -- ---- an insert that is refused
 

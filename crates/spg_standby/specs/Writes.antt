@@ -1,5 +1,5 @@
 -- What comes of the writes of a pair.
-use Rattle.std.specs.Prelude.{◌≡◌, ◌⊎◌, ℕ, true, false, Option, length}
+use Rattle.std.specs.Prelude.{◌≡◌, ◌<◌, ◌≤◌, ◌⊎◌, ℕ, true, false, Option, length}
 use Rattle.spg_base.specs.Row.{RowAt}
 use Rattle.spg_base.specs.declared.names.Span.{Span}
 use Rattle.spg_opclass.specs.Meaning.{Meaning}
@@ -57,9 +57,12 @@ Vacuumed old new seat came.NotLive = ⊥
 Vacuumed old new seat (came.Vacuumed n) = Vacuums old new seat n
 Vacuumed old new seat came.Memory = VacuumsNot old new seat
 
--- what is answered: what came of the write, or `Memory` where the standby then found none to follow
-abbrev pub Answers : (Wrote → Type 0) → Wrote → Type 0
-Answers Came answer = Came answer ⊎ ((answer ≡ came.Memory) × ((wrote : Wrote) × Came wrote))
+-- what is answered where so many records are queued behind a write, and this number may be: what came of the write, or `Memory` exactly where more are queued
+abbrev pub Settles : ℕ → ℕ → Wrote → Wrote → Type 0
+Settles queued lag wrote answer = ((queued ≤ lag) × (answer ≡ wrote)) ⊎ ((lag < queued) × (answer ≡ came.Memory))
+
+abbrev pub Answers : (Wrote → Type 0) → ℕ → ℕ → Wrote → Type 0
+Answers Came queued lag answer = (wrote : Wrote) × Came wrote × Settles queued lag wrote answer
 
 -- from the length of the journal before to that behind
 abbrev pub IsSpanOf : {O Key Recon Cond : Type 0} → Seen O Key Recon Cond → Seen O Key Recon Cond → Span → Type 0

@@ -7,12 +7,12 @@ ghost use Rattle.spg_whole.specs.Calls.{AllClosed};
 ghost use Rattle.spg_standby.specs.declared.wrote.Wrote.TheVariants as came;
 ghost use Rattle.spg_standby.specs.Finding.{Finds, IsBehind};
 ghost use Rattle.spg_standby.specs.Writes.{Inserted, Deleted, Vacuumed, Answers, IsSpanOf};
-ghost use Rattle.spg_standby.specs.Twin.{IsTwin};
 
 use crate::catching::find;
 use crate::follower::Follower;
 use crate::inserts::insert;
 use crate::kills::kill;
+use crate::paused::Paused;
 use crate::pool::Pool;
 use crate::queue::Queue;
 use crate::standby::{Standby, settle};
@@ -73,7 +73,7 @@ impl<O: OpClass> Pair<O> {
     /// tree that were ever inserted take more than 8,160 bytes. The standby follows after each section;
     /// where it found no memory at the end the answer is `Memory`, and the row may have been put.
     pub fn insert(&mut self, row: Row, key: Option<O::Key>) -> (Wrote, Span)
-        ensures wrote { Answers (Inserted O.meaning self.old.primary self.new.primary 0 row key) result.0 }
+        ensures wrote { Answers (Inserted O.meaning self.old.primary self.new.primary 0 row key) (length self.new.queue) self.new.lag result.0 }
         ensures used { IsUsed (past_of self.old.primary) row → (result.0 ≡ came.RowUsed) ⊎ (result.0 ≡ came.Memory) }
         ensures span { IsSpanOf self.old.primary self.new.primary result.1 }
         ensures queued { result.0 ≢ came.Memory → length self.new.queue ≤ self.new.lag }
@@ -89,7 +89,7 @@ impl<O: OpClass> Pair<O> {
 
     /// Deletes a row. `Killed` exactly where it is live, unless memory is short; else nothing changes.
     pub fn kill(&mut self, row: Row) -> (Wrote, Span)
-        ensures wrote { Answers (Deleted self.old.primary self.new.primary 0 row) result.0 }
+        ensures wrote { Answers (Deleted self.old.primary self.new.primary 0 row) (length self.new.queue) self.new.lag result.0 }
         ensures span { IsSpanOf self.old.primary self.new.primary result.1 }
         ensures queued { result.0 ≢ came.Memory → length self.new.queue ≤ self.new.lag }
         ensures lag { self.new.lag ≡ self.old.lag }
@@ -104,7 +104,7 @@ impl<O: OpClass> Pair<O> {
 
     /// Removes the entries of the rows that were deleted. The answer is how many they are.
     pub fn vacuum(&mut self) -> (Wrote, Span)
-        ensures wrote { Answers (Vacuumed self.old.primary self.new.primary 0) result.0 }
+        ensures wrote { Answers (Vacuumed self.old.primary self.new.primary 0) (length self.new.queue) self.new.lag result.0 }
         ensures span { IsSpanOf self.old.primary self.new.primary result.1 }
         ensures queued { result.0 ≢ came.Memory → length self.new.queue ≤ self.new.lag }
         ensures lag { self.new.lag ≡ self.old.lag }
@@ -120,14 +120,14 @@ impl<O: OpClass> Pair<O> {
     /// Finds rows by the standby. They are a right answer by the primary's journal, from the events that
     /// were applied when it began to those applied at its end. So far behind the primary's journal it began
     /// at most: events that are no sweeps are as many as records were queued, and none where none was. The
-    /// primary stays as it is.
+    /// primary stays as it is, and where there is no memory the records that were applied stay applied.
     pub fn find(&mut self, query: Query<O>) -> Result<(Closed, Span), Memory>
         ensures found { IfOk result (λ found. Finds O.meaning self.new.primary.journal query found.0 found.1) }
-        ensures order { IfOk result (λ found. found.1.from ≤ found.1.to) }
-        ensures within { IfOk result (λ found. found.1.to ≤ length self.new.primary.journal) }
         ensures from { IfOk result (λ found. found.1.from ≡ self.old.follower.applied) }
         ensures to { IfOk result (λ found. found.1.to ≡ self.new.follower.applied) }
-        ensures behind { IfOk result (λ found. IsBehind self.old.primary.journal found.1.from (length self.old.queue)) }
+        ensures order { self.old.follower.applied ≤ self.new.follower.applied }
+        ensures within { self.new.follower.applied ≤ length self.new.primary.journal }
+        ensures behind { IsBehind self.old.primary.journal self.old.follower.applied (length self.old.queue) }
         ensures primary { self.new.primary ≡ self.old.primary }
         ensures queued { length self.new.queue ≤ length self.old.queue }
         ensures lag { self.new.lag ≡ self.old.lag }
@@ -163,10 +163,23 @@ impl<O: OpClass> Pair<O> {
         &self.primary
     }
 
-    /// The standby.
+    /// The standby. It is so far behind the primary's journal at most: events that are no sweeps are as many
+    /// as records are queued, and none where none is.
     pub fn follower(&self) -> &Follower<O>
-        ensures { result.now ≡ self.now.follower }
+        ensures value { result.now ≡ self.now.follower }
+        ensures within { self.now.follower.applied ≤ length self.now.primary.journal }
+        ensures behind { IsBehind self.now.primary.journal self.now.follower.applied (length self.now.queue) }
     {
         &self.standby.follower
+    }
+
+    /// The same, where the primary takes no writes and each seat of the standby may search.
+    pub fn pause(self) -> Paused<O>
+        ensures { result ≡ self }
+    {
+        Paused {
+            primary: self.primary,
+            standby: self.standby,
+        }
     }
 }

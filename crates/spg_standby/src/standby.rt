@@ -1,9 +1,9 @@
 // The standby's side of a pair.
-ghost use Rattle.std.specs.Prelude.{◌≡◌, ◌≢◌, ◌≤◌, ◌⊎◌, length};
+ghost use Rattle.std.specs.Prelude.{◌≡◌, ◌≤◌, length};
 ghost use Rattle.std.specs.VecDeque.{deque_len, deque_capacity};
-ghost use Rattle.spg_standby.specs.declared.wrote.Wrote.TheVariants as came;
 ghost use Rattle.spg_standby.specs.Pair.{IsPaired};
 ghost use Rattle.spg_standby.specs.Finding.{IsIdle};
+ghost use Rattle.spg_standby.specs.Writes.{Settles};
 
 use crate::catching::catch_up;
 use crate::follower::Follower;
@@ -44,15 +44,14 @@ pub(crate) fn follow<O: OpClass>(state: &State<O>, standby: &mut Standby<O>)
 }
 
 /// Applies the oldest records until at most so many are queued as may be, and gives what is answered
-/// then: what came of the write, or `Memory`.
+/// then: what came of the write, or `Memory` where it found none and more are queued.
 pub(crate) fn settle<O: OpClass>(state: &State<O>, standby: &mut Standby<O>, wrote: Wrote) -> Wrote
     requires paired { IsPaired O.meaning state.now standby.old.follower standby.old.queue.records.items }
     requires idle { IsIdle standby.old.follower }
     ensures paired { IsPaired O.meaning state.now standby.new.follower standby.new.queue.records.items }
     ensures idle { IsIdle standby.new.follower }
-    ensures queued { result ≢ came.Memory → length standby.new.queue.records.items ≤ standby.new.lag }
     ensures lag { standby.new.lag ≡ standby.old.lag }
-    ensures wrote { (result ≡ wrote) ⊎ (result ≡ came.Memory) }
+    ensures wrote { Settles (length standby.new.queue.records.items) standby.new.lag wrote result }
 {
     match catch_up(
         state,

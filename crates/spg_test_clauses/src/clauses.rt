@@ -8,12 +8,15 @@ use std::test::Fail;
 type Case = (usize, &'static [Run], u32, Reason);
 
 /// Images that fail one clause and no earlier one, in the order of the clauses.
-const ONE: [Case; 23] = [
+const ONE: [Case; 25] = [
     (8191, &[], 0, Reason::Length),
     (0, &[], 0, Reason::Length),
     // The kind of an inner page.
     (LENGTH, &[(0, 6, &[2])], 0, Reason::Header),
-    // No class has this code.
+    // No image has this version.
+    (LENGTH, &[(0, 4, &[3])], 0, Reason::Header),
+    // No class has this code; that of ranges comes with version 2.
+    (LENGTH, &[(0, 24, &[5])], 0, Reason::Class),
     (LENGTH, &[(0, 24, &[4])], 0, Reason::Class),
     // A byte is missing; only the meta page is there, as where a save failed; one page more than there
     // are; two pages.
@@ -104,6 +107,49 @@ const SEVERAL: [Case; 12] = [
     ),
 ];
 
+/// Images of version 2 that fail one clause and no earlier one.
+const OF_SECOND: [Case; 6] = [
+    // Points in a quad tree, in a k-d tree and texts come with version 1.
+    (LENGTH, &[(0, 4, &[2])], 0, Reason::Class),
+    (LENGTH, &[(0, 4, &[2]), (0, 24, &[2])], 0, Reason::Class),
+    (LENGTH, &[(0, 4, &[2]), (0, 24, &[3])], 0, Reason::Class),
+    // A root of version 1; a page behind the roots.
+    (LENGTH, &[(0, 4, &[2]), (0, 24, &[17])], 1, Reason::Header),
+    (
+        LENGTH,
+        &[(0, 4, &[2]), (0, 24, &[17]), (1, 4, &[2]), (2, 4, &[2])],
+        3,
+        Reason::Header,
+    ),
+    // A point without a value.
+    (
+        LENGTH,
+        &[
+            (0, 4, &[2]),
+            (0, 24, &[17]),
+            (1, 4, &[2]),
+            (2, 4, &[2]),
+            (3, 4, &[2]),
+        ],
+        3,
+        Reason::Kind,
+    ),
+];
+
+/// An image of two empty roots, of version 2.
+const EMPTY: [Run; 7] = [
+    (0, 4, &[2]),
+    (0, 28, &[3]),
+    (1, 4, &[2]),
+    (1, 6, &[3]),
+    (1, 12, &[0, 0, 248, 31]),
+    (2, 4, &[2]),
+    (2, 12, &[0, 0, 248, 31]),
+];
+
+/// The codes of the classes that come with version 2.
+const SECOND_CODES: [&[u8]; 4] = [&[4], &[17], &[18], &[19]];
+
 /// Compares what is said of an image.
 fn is_told<R: AllocGlobal + Abort>(rt: &R, case: &Case) -> Result<(), Fail> {
     let (length, changes, block, reason) = *case;
@@ -124,6 +170,28 @@ fn tells_each_clause(rt: HostRuntime) -> Result<(), Fail> {
 fn tells_the_first_of_several(rt: HostRuntime) -> Result<(), Fail> {
     for case in &SEVERAL {
         is_told(&rt, case)?;
+    }
+    Ok(())
+}
+
+#[test]
+fn tells_clauses_of_the_second_version(rt: HostRuntime) -> Result<(), Fail> {
+    for case in &OF_SECOND {
+        is_told(&rt, case)?;
+    }
+    Ok(())
+}
+
+#[test]
+fn takes_each_class_of_the_second_version(rt: HostRuntime) -> Result<(), Fail> {
+    let empty = Verified {
+        pages: 3,
+        entries: 0,
+    };
+    for code in &SECOND_CODES {
+        let [a, b, c, d, e, f, g] = EMPTY;
+        let changes = [a, b, c, d, e, f, g, (0, 24, *code)];
+        assert_eq!(rt; verdict(rt.alloc(), &changes, 3 * 8192)?, Ok(empty));
     }
     Ok(())
 }

@@ -39,6 +39,9 @@ const ROOT: [(usize, &[u8]); 3] = [
 /// The head of block 7: 291 items, whose tuples begin at byte 1,200.
 const HEAD: [u8; 16] = [83, 80, 71, 88, 1, 0, 3, 0, 7, 0, 0, 0, 35, 1, 176, 4];
 
+/// The version of the pages.
+const VERSION: u16 = 1;
+
 /// Puts bytes into a page, where they lie inside.
 fn put(page: &mut [u8; 8192], at: usize, bytes: &[u8]) {
     if at <= PAGE && bytes.len() <= PAGE - at {
@@ -53,7 +56,7 @@ fn push_read(
     block: u32,
     bytes: &[u8; 8192],
 ) -> Result<(), Memory> {
-    match Page::from_bytes(alloc, Block(block), bytes)? {
+    match Page::from_bytes(alloc, Block(block), bytes, VERSION)? {
         Ok(page) => pages.push(page),
         Err(_) => Err(Memory),
     }

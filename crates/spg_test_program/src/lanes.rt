@@ -56,7 +56,7 @@ fn is_freed(gate: &Held) -> bool {
 }
 
 /// Inserts of rows `block`.1, `block`.2 and so on.
-fn push_inserts(
+pub(crate) fn push_inserts(
     alloc: Global,
     script: &mut String,
     block: u32,
@@ -69,7 +69,7 @@ fn push_inserts(
     Ok(())
 }
 
-fn push_times(script: &mut String, lines: &str, count: u32) -> Result<(), AllocError> {
+pub(crate) fn push_times(script: &mut String, lines: &str, count: u32) -> Result<(), AllocError> {
     for _ in 0..count {
         script.push_str(lines)?;
     }
@@ -78,7 +78,7 @@ fn push_times(script: &mut String, lines: &str, count: u32) -> Result<(), AllocE
 
 /// Which lines of a text are counted.
 #[derive(Clone, Copy, Debug)]
-enum Lines {
+pub(crate) enum Lines {
     /// Those that end so.
     Ending(&'static str),
     /// Those that hold this.
@@ -101,7 +101,11 @@ fn counted(text: &str, lines: Lines) -> u32 {
 }
 
 /// Counts lines of what a run wrote.
-fn assert_counts<R: Abort>(rt: &R, text: &[u8], counts: &[(Lines, u32)]) -> Result<(), Fail> {
+pub(crate) fn assert_counts<R: Abort>(
+    rt: &R,
+    text: &[u8],
+    counts: &[(Lines, u32)],
+) -> Result<(), Fail> {
     let text = str::from_utf8(text)?;
     for (lines, count) in counts {
         assert_eq!(rt; counted(text, *lines), *count, "{lines:?}");

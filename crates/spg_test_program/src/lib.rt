@@ -14,11 +14,15 @@ mod images;
 #[cfg(test)]
 mod lanes;
 #[cfg(test)]
+mod limits;
+#[cfg(test)]
 mod loads;
 #[cfg(test)]
 mod long_texts;
 #[cfg(test)]
 mod program;
+#[cfg(test)]
+mod ranges;
 #[cfg(test)]
 mod rounds;
 #[cfg(test)]
@@ -27,6 +31,8 @@ mod rows;
 mod scripts;
 #[cfg(test)]
 mod standbys;
+#[cfg(test)]
+mod values;
 #[cfg(test)]
 mod watching;
 #[cfg(test)]

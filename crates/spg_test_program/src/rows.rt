@@ -10,8 +10,8 @@ type Line = (&'static str, (u16, u16, u16), &'static str);
 /// No rows.
 const NONE: (u16, u16, u16) = (1, 0, 1);
 
-/// Many inserts of rows 1.1, 1.2 and so on, and what comes behind them. An `N` at the start of a key
-/// stands for the offset of the row.
+/// Many inserts of rows 1.1, 1.2 and so on, and what comes behind them. An `N` in a key stands for the
+/// offset of the row.
 #[derive(Clone, Copy)]
 struct Filled {
     words: &'static [&'static str],
@@ -23,7 +23,7 @@ struct Filled {
     ends: &'static [Line],
 }
 
-const FILLED: [Filled; 11] = [
+const FILLED: [Filled; 13] = [
     Filled {
         words: &["run"],
         class: "quad",
@@ -231,7 +231,56 @@ const FILLED: [Filled; 11] = [
             ),
         ],
     },
+    // A leaf has 32 bytes, so 226 of them fill the root page.
+    Filled {
+        words: &["run"],
+        class: "quad value",
+        count: 227,
+        odd: "N,0 value N",
+        even: "N,0 value N",
+        behind: "find where eq 227,0\nstat\n",
+        ends: &[
+            ("227 452 454 added", NONE, ""),
+            ("228 454 456 found 1 walk 59 1.227=227", NONE, ""),
+            (
+                "229 456 456 stat pages 6 inner 2 leaf 227 redirect 1 dead 0 placeholder 55 clock 1",
+                NONE,
+                "",
+            ),
+        ],
+    },
+    Filled {
+        words: &["run"],
+        class: "range",
+        count: 292,
+        odd: "[N,N]",
+        even: "[N,N]",
+        behind: "find where left [100,100]\nstat\n",
+        ends: &[
+            ("292 582 584 added", NONE, ""),
+            ("293 584 586 found 99 walk 147", (1, 99, 1), ""),
+            (
+                "294 586 586 stat pages 6 inner 2 leaf 292 redirect 1 dead 0 placeholder 71 clock 1",
+                NONE,
+                "",
+            ),
+        ],
+    },
 ];
+
+/// A key with the offset of its row in place of each `N`.
+fn key_of(alloc: Global, key: &str, number: u16) -> Result<String, AllocError> {
+    let offset = format!(in alloc; "{number}")?;
+    let mut told = String::new(alloc);
+    for letter in key.chars() {
+        if letter == 'N' {
+            told.push_str(offset.as_str())?;
+        } else {
+            told.push(letter)?;
+        }
+    }
+    Ok(told)
+}
 
 fn push_inserts(alloc: Global, script: &mut String, filled: &Filled) -> Result<(), AllocError> {
     for number in 1..=filled.count {
@@ -240,10 +289,8 @@ fn push_inserts(alloc: Global, script: &mut String, filled: &Filled) -> Result<(
         } else {
             filled.even
         };
-        let line = match key.strip_prefix("N") {
-            Some(rest) => format!(in alloc; "insert 1.{number} {number}{rest}\n")?,
-            None => format!(in alloc; "insert 1.{number} {key}\n")?,
-        };
+        let key = key_of(alloc, key, number)?;
+        let line = format!(in alloc; "insert 1.{number} {key}\n")?;
         script.push_str(line.as_str())?;
     }
     Ok(())

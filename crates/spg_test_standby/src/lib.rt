@@ -8,4 +8,8 @@ mod pages;
 #[cfg(test)]
 mod pairs;
 #[cfg(test)]
+mod paused;
+#[cfg(test)]
+mod scans;
+#[cfg(test)]
 mod writes;

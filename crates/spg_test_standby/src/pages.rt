@@ -3,9 +3,10 @@
 use crate::writes::row;
 use spg_base::{Block, Bytes, Memory, Point};
 use spg_kd::Kd;
-use spg_opclass::{OpClass, Query};
+use spg_opclass::{OpClass, Query, TakesValue, With, WithKey};
 use spg_quad::Quad;
 use spg_radix::{ByteText, Radix};
+use spg_range::{Range32, Ranges};
 use spg_standby::{Pair, Wrote};
 use spg_tree::PageTable;
 use std::alloc::Global;
@@ -59,6 +60,25 @@ impl Numbered for Radix {
             Some(text) => Ok(text),
             None => Err(Memory),
         }
+    }
+}
+
+impl Numbered for Ranges {
+    fn numbered(_alloc: Global, number: u16) -> Result<Range32, Memory> {
+        let Point { x, y } = point(number);
+        match Range32::new(x, x.saturating_add(y)) {
+            Some(range) => Ok(range),
+            None => Ok(Range32::empty()),
+        }
+    }
+}
+
+impl<O: Numbered + TakesValue> Numbered for With<O> {
+    fn numbered(alloc: Global, number: u16) -> Result<WithKey<O::Key>, Memory> {
+        Ok(WithKey {
+            key: O::numbered(alloc, number)?,
+            value: u64::from(number),
+        })
     }
 }
 
@@ -161,5 +181,28 @@ fn a_standby_of_a_kd_tree_has_the_pages_of_its_primary(rt: HostRuntime) -> Resul
 #[test]
 fn a_standby_of_a_radix_tree_has_the_pages_of_its_primary(rt: HostRuntime) -> Result<(), Fail> {
     assert!(rt; is_level_then(rt.alloc(), Radix)?);
+    Ok(())
+}
+
+#[test]
+fn a_standby_of_ranges_has_the_pages_of_its_primary(rt: HostRuntime) -> Result<(), Fail> {
+    assert!(rt; is_level_then(rt.alloc(), Ranges)?);
+    Ok(())
+}
+
+#[test]
+fn a_standby_of_points_with_numbers_has_the_pages_of_its_primary(
+    rt: HostRuntime,
+) -> Result<(), Fail> {
+    assert!(rt; is_level_then(rt.alloc(), With { inner: Quad })?);
+    assert!(rt; is_level_then(rt.alloc(), With { inner: Kd })?);
+    Ok(())
+}
+
+#[test]
+fn a_standby_of_texts_with_numbers_has_the_pages_of_its_primary(
+    rt: HostRuntime,
+) -> Result<(), Fail> {
+    assert!(rt; is_level_then(rt.alloc(), With { inner: Radix })?);
     Ok(())
 }

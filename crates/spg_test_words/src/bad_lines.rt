@@ -3,10 +3,10 @@ use std::alloc::Global;
 use std::test::Fail;
 
 /// Bytes that are no script, the number of the first bad line, how it is shown, and the words.
-const TOLD: [(&[u8], u32, &str, Wanted); 34] = [
+const TOLD: [(&[u8], u32, &str, Wanted); 45] = [
     (b"", 1, "''", Wanted::ClassLine),
     (b"# a town\n\n", 3, "''", Wanted::ClassLine),
-    (b"#\nclass range\n", 2, "'class range'", Wanted::ClassLine),
+    (b"#\nclass ranges\n", 2, "'class ranges'", Wanted::ClassLine),
     (
         b"insert 1.1 1,1\n",
         1,
@@ -132,6 +132,72 @@ const TOLD: [(&[u8], u32, &str, Wanted); 34] = [
         35,
         "'lane'",
         Wanted::FewerLanes,
+    ),
+    (
+        b"class range value\n",
+        1,
+        "'class range value'",
+        Wanted::ClassLine,
+    ),
+    (
+        b"class quad value\ninsert 1.1 1,1\n",
+        2,
+        "'insert 1.1 1,1'",
+        Wanted::PointValueKey,
+    ),
+    (
+        b"class kd value\ninsert 1.1 1,1 value 01\n",
+        2,
+        "'insert 1.1 1,1 value 01'",
+        Wanted::PointValueKey,
+    ),
+    (
+        b"class radix value\ninsert 1.1 1,1 value 1\n",
+        2,
+        "'insert 1.1 1,1 value 1'",
+        Wanted::TextValueKey,
+    ),
+    (
+        b"class kd value\ninsert 1 1,1 value 1\n",
+        2,
+        "'insert 1 1,1 value 1'",
+        Wanted::InsertRow,
+    ),
+    (
+        b"class kd value\nfind where left 1 and in 1,0,0,1\n",
+        2,
+        "'find where left 1 and in 1,0,0,1'",
+        Wanted::RectangleInOrder,
+    ),
+    (
+        b"class radix value\nfind where left 1\n",
+        2,
+        "'find where left 1'",
+        Wanted::TextConditions,
+    ),
+    (
+        b"class kd value\nnear 1,1 5\n",
+        2,
+        "'near 1,1 5'",
+        Wanted::Near,
+    ),
+    (
+        b"class range\ninsert 1.1 [2,1]\n",
+        2,
+        "'insert 1.1 [2,1]'",
+        Wanted::RangeKey,
+    ),
+    (
+        b"class range\nfind where within 1\n",
+        2,
+        "'find where within 1'",
+        Wanted::RangeConditions,
+    ),
+    (
+        b"class range\nnear 1,1 5\n",
+        2,
+        "'near 1,1 5'",
+        Wanted::Near,
     ),
 ];
 

@@ -10,3 +10,5 @@ mod beside;
 mod reports;
 #[cfg(test)]
 mod scripts;
+#[cfg(test)]
+mod values;

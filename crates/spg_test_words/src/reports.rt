@@ -1,8 +1,10 @@
+ghost use Rattle.std.specs.Prelude.{◌≡◌};
+
 use spg_base::{Bytes, List, Memory, Point, PointCond, Row, SeatNo, Span, Stat};
 use spg_near::NearRow;
 use spg_opclass::Query;
 use spg_quad::Quad;
-use spg_report::{Outcome, Record, event_line, result_line, stat_line};
+use spg_report::{Line, Outcome, Record, event_line, push_plain_result, result_line, stat_line};
 use spg_rows::{Event, Why};
 use std::alloc::Global;
 use std::test::Fail;
@@ -25,7 +27,9 @@ fn is(made: Result<Bytes, Memory>, wanted: &[u8]) -> bool {
     }
 }
 
-fn done(outcome: Outcome) -> Record {
+fn done(outcome: Outcome) -> Record
+    ensures { result.outcome ≡ outcome }
+{
     Record {
         span: Span { from: 18, to: 20 },
         outcome,
@@ -86,10 +90,15 @@ fn tells_what_became_of_a_command(rt: HostRuntime) -> Result<(), Fail> {
         ),
         (Outcome::Memory, b"10 18 20 memory"),
     ];
+    let mut line = Line::new(alloc);
     for (outcome, wanted) in table {
-        let line = result_line(alloc, 10, &done(outcome));
-        assert!(rt; is(line, wanted));
+        line.clear();
+        push_plain_result(&mut line, 10, &done(outcome))?;
+        assert!(rt; line.as_slice() == wanted);
     }
+    let none: [Option<u64>; 0] = [];
+    let line = result_line(alloc, 10, &done(Outcome::Added), none.as_slice());
+    assert!(rt; is(line, b"10 18 20 added"));
     assert!(rt;
         is(
             stat_line(alloc, &STAT),

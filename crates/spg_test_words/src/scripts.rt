@@ -1,15 +1,18 @@
 use spg_base::{Bytes, List, Memory};
 use spg_kd::Kd;
+use spg_opclass::With;
 use spg_quad::Quad;
 use spg_radix::Radix;
+use spg_range::Ranges;
 use spg_script::{
-    AnyQuery, ClassName, Command, PartRef, Script, ScriptRefused, Spoken, generate, parse, print,
+    AnyQuery, ClassLine, ClassName, Command, PartRef, Script, ScriptRefused, Spoken, generate,
+    parse, print,
 };
 use std::alloc::Global;
 use std::test::Fail;
 
 /// Scripts, and how they are printed; None where they are printed as they stand.
-const SCRIPTS: [(&[u8], Option<&[u8]>); 12] = [
+const SCRIPTS: [(&[u8], Option<&[u8]>); 18] = [
     (b"class quad\ninsert 1.1 3,4\nfind all\n", None),
     (b"class kd", Some(b"class kd\n")),
     (b"class radix\n", None),
@@ -53,6 +56,32 @@ const SCRIPTS: [(&[u8], Option<&[u8]>); 12] = [
         b"class kd\nnear -2147483648,2147483647 1\nnear 0,-1 65535\n",
         None,
     ),
+    (
+        b"class quad value\ninsert 1.1 -3,4 value 0\ninsert 1.2 null\ninsert 1.3 0,0 value 18446744073709551615\nfind where eq -3,4 and left 7\nfind null\nstat\nsave a\n",
+        None,
+    ),
+    (
+        b"class kd value\n# a lane\ntogether\nlane\ninsert 4294967295.65535 2147483647,-2147483648 value 10\ndelete 1.1\nend\nfind where in 0,0,1,1",
+        Some(
+            b"class kd value\ntogether\nlane\ninsert 4294967295.65535 2147483647,-2147483648 value 10\ndelete 1.1\nend\nfind where in 0,0,1,1\n",
+        ),
+    ),
+    (
+        b"class radix value\ninsert 1.1 \"\" value 7\ninsert 1.2 \"a value 1\\x22 value 2\" value 9999999999\ninsert 1.3 null\nfind where starts \"and\" and ge \" value 3\"\nvacuum\n",
+        None,
+    ),
+    (
+        b"class radix value\ninsert 1.1 \"\\x41\\x0A\" value 1",
+        Some(b"class radix value\ninsert 1.1 \"A\\x0a\" value 1\n"),
+    ),
+    (
+        b"class range\ninsert 1.1 [1,5]\ninsert 1.2 [-2147483648,2147483647]\ninsert 1.3 empty\ninsert 1.4 null\ninsert 1.5 [-1,-1]\nfind where eq empty and eq [0,0]\nfind where overlap [5,6] and contains empty and contains [-1,0]\nfind where within [0,5] and left [6,6] and right [-6,-6] and within empty\n",
+        None,
+    ),
+    (
+        b"class range\nfind where left empty and left empty and left empty and left empty and left empty and left empty and left empty and right empty\nfind all\nfind null\nvacuum\nstat\nsave a\n",
+        None,
+    ),
 ];
 
 /// Bytes that are no script, and the first bad line.
@@ -61,7 +90,7 @@ const BAD: [(&[u8], u32); 101] = [
     (b"\n", 2),
     (b"# nothing\n\n", 3),
     (b"class\n", 1),
-    (b"class range", 1),
+    (b"class ranges", 1),
     (b" class quad", 1),
     (b"class quad ", 1),
     (b"Class quad", 1),
@@ -169,6 +198,79 @@ const BAD: [(&[u8], u32); 101] = [
     (b"class quad\ninsert 1.1 1,1\ninsert 1.2 x\n", 3),
 ];
 
+/// Bytes that are no script of a class with numbers beside its keys, or with ranges, and the first bad line.
+const BAD_BESIDE: [(&[u8], u32); 60] = [
+    (b"class quad values", 1),
+    (b"class quad  value", 1),
+    (b"class quad value ", 1),
+    (b"class value", 1),
+    (b"class range value", 1),
+    (b"class Range", 1),
+    (b"class quad\ninsert 1.1 1,1 value 1", 2),
+    (b"class radix\ninsert 1.1 \"a\" value 1", 2),
+    (b"class range\ninsert 1.1 [1,1] value 1", 2),
+    (b"class quad value\ninsert 1.1 1,1", 2),
+    (b"class quad value\ninsert 1.1 1,1 value", 2),
+    (b"class quad value\ninsert 1.1 1,1 value ", 2),
+    (b"class quad value\ninsert 1.1 1,1 value -1", 2),
+    (b"class quad value\ninsert 1.1 1,1 value +1", 2),
+    (b"class quad value\ninsert 1.1 1,1 value 01", 2),
+    (b"class quad value\ninsert 1.1 1,1 value 00", 2),
+    (b"class quad value\ninsert 1.1 1,1 value 1 ", 2),
+    (b"class quad value\ninsert 1.1 1,1 value 1x", 2),
+    (b"class quad value\ninsert 1.1 1,1  value 1", 2),
+    (b"class quad value\ninsert 1.1 1,1 value  1", 2),
+    (b"class quad value\ninsert 1.1 1,1 Value 1", 2),
+    (
+        b"class quad value\ninsert 1.1 1,1 value 18446744073709551616",
+        2,
+    ),
+    (
+        b"class quad value\ninsert 1.1 1,1 value 99999999999999999999",
+        2,
+    ),
+    (
+        b"class quad value\ninsert 1.1 1,1 value 100000000000000000000",
+        2,
+    ),
+    (b"class quad value\ninsert 1.1 2147483648,1 value 1", 2),
+    (b"class quad value\ninsert 1.1 null value 1", 2),
+    (b"class quad value\ninsert 1.1 \"a\" value 1", 2),
+    (b"class quad value\nfind where eq 1,1 value 1", 2),
+    (b"class quad value\nfind where starts \"a\"", 2),
+    (b"class quad value\nnear 1,1 1", 2),
+    (b"class kd value\nfind all\nnear 0,0 9", 3),
+    (b"class kd value\ninsert 1.1 [1,1] value 1", 2),
+    (b"class radix value\ninsert 1.1 \"a\"", 2),
+    (b"class radix value\ninsert 1.1 \"a\"value 1", 2),
+    (b"class radix value\ninsert 1.1 \"a\" value 1\"", 2),
+    (b"class radix value\ninsert 1.1 1,1 value 1", 2),
+    (b"class radix value\nfind where left 1", 2),
+    (b"class radix value\nfind where eq \"a\" value 1", 2),
+    (b"class radix value\nnear \"a\" 1", 2),
+    (b"class range\ninsert 1.1 [2,1]", 2),
+    (b"class range\ninsert 1.1 [0,-1]", 2),
+    (b"class range\ninsert 1.1 [1,1", 2),
+    (b"class range\ninsert 1.1 1,1]", 2),
+    (b"class range\ninsert 1.1 1,1", 2),
+    (b"class range\ninsert 1.1 [1, 1]", 2),
+    (b"class range\ninsert 1.1 [1]", 2),
+    (b"class range\ninsert 1.1 []", 2),
+    (b"class range\ninsert 1.1 [1,1]]", 2),
+    (b"class range\ninsert 1.1 [[1,1]", 2),
+    (b"class range\ninsert 1.1 [1,1] ", 2),
+    (b"class range\ninsert 1.1 [01,1]", 2),
+    (b"class range\ninsert 1.1 [0,2147483648]", 2),
+    (b"class range\ninsert 1.1 Empty", 2),
+    (b"class range\ninsert 1.1 empty ", 2),
+    (b"class range\nfind where overlap [6,5]", 2),
+    (b"class range\nfind where overlap 5,6", 2),
+    (b"class range\nfind where in [1,1]", 2),
+    (b"class range\nfind where eq [1,1] and", 2),
+    (b"class range\nfind where eq null", 2),
+    (b"class range\nnear 1,1 1", 2),
+];
+
 /// Reads bytes that are not too many.
 fn read(alloc: Global, bytes: &[u8]) -> Result<Script, ScriptRefused> {
     if bytes.len() < u32::MAX as usize {
@@ -211,6 +313,48 @@ fn reads_and_prints(rt: HostRuntime) -> Result<(), Fail> {
 fn names_the_first_bad_line(rt: HostRuntime) -> Result<(), Fail> {
     for (script, number) in &BAD {
         assert!(rt; is_bad(rt.alloc(), script, *number));
+    }
+    for (script, number) in &BAD_BESIDE {
+        assert!(rt; is_bad(rt.alloc(), script, *number));
+    }
+    Ok(())
+}
+
+/// Class lines, and what they name.
+const LINES: [(&[u8], ClassLine, ClassName, bool); 7] = [
+    (b"class quad", ClassLine::Quad, ClassName::Quad, false),
+    (b"class kd", ClassLine::Kd, ClassName::Kd, false),
+    (b"class radix", ClassLine::Radix, ClassName::Radix, false),
+    (
+        b"class quad value",
+        ClassLine::QuadValue,
+        ClassName::Quad,
+        true,
+    ),
+    (b"class kd value", ClassLine::KdValue, ClassName::Kd, true),
+    (
+        b"class radix value",
+        ClassLine::RadixValue,
+        ClassName::Radix,
+        true,
+    ),
+    (b"class range", ClassLine::Range, ClassName::Range, false),
+];
+
+/// Whether the bytes name this class.
+fn names(alloc: Global, bytes: &[u8], line: ClassLine, class: ClassName, valued: bool) -> bool {
+    match read(alloc, bytes) {
+        Ok(script) => {
+            script.line() == line && script.class() == class && script.valued() == valued
+        }
+        Err(_) => false,
+    }
+}
+
+#[test]
+fn tells_the_class(rt: HostRuntime) -> Result<(), Fail> {
+    for (bytes, line, class, valued) in &LINES {
+        assert!(rt; names(rt.alloc(), bytes, *line, *class, *valued));
     }
     Ok(())
 }
@@ -294,6 +438,60 @@ fn classes_speak(rt: HostRuntime) -> Result<(), Fail> {
     assert!(rt; spoken(alloc, &Radix, texts)?.as_slice() == of_texts);
     assert!(rt; spoken(alloc, &Quad, texts)?.is_empty());
     assert!(rt; spoken(alloc, &Radix, points)?.is_empty());
+    Ok(())
+}
+
+/// The script of a class with numbers beside its keys, or of ranges, is spoken by that class alone.
+#[test]
+fn classes_speak_of_numbers_and_ranges(rt: HostRuntime) -> Result<(), Fail> {
+    let alloc = rt.alloc();
+    let points = b"class kd value\ninsert 1.1 -3,4 value 0\nfind where left 7\n";
+    let texts =
+        b"class radix value\ninsert 1.1 \"\\x41\" value 18446744073709551615\nfind where le \"\"\n";
+    let ranges = b"class range\ninsert 1.1 empty\ninsert 1.2 [-1,2]\nfind where within [0,0]\n";
+    let of_points: &[u8] = b"|-3,4 value 0|left 7";
+    let of_texts: &[u8] = b"|\"A\" value 18446744073709551615|le \"\"";
+    let of_ranges: &[u8] = b"|empty|[-1,2]|within [0,0]";
+    assert!(rt; spoken(alloc, &With { inner: Quad }, points)?.as_slice() == of_points);
+    assert!(rt; spoken(alloc, &With { inner: Kd }, points)?.as_slice() == of_points);
+    assert!(rt; spoken(alloc, &With { inner: Radix }, texts)?.as_slice() == of_texts);
+    assert!(rt; spoken(alloc, &Ranges, ranges)?.as_slice() == of_ranges);
+    assert!(rt; spoken(alloc, &With { inner: Kd }, texts)?.is_empty());
+    assert!(rt; spoken(alloc, &With { inner: Radix }, points)?.is_empty());
+    assert!(rt; spoken(alloc, &With { inner: Kd }, ranges)?.is_empty());
+    assert!(rt; spoken(alloc, &Ranges, points)?.is_empty());
+    assert!(rt; spoken(alloc, &Kd, points)?.as_slice() == b"|left 7".as_slice());
+    Ok(())
+}
+
+/// The numbers beside the keys that a class has among those of a script without lanes.
+fn values<O: Spoken>(alloc: Global, class: &O, bytes: &[u8]) -> Result<List<Option<u64>>, Memory> {
+    let mut values = List::new(alloc);
+    if let Ok(script) = read(alloc, bytes) {
+        for part in script.parts() {
+            if let PartRef::Alone(Command::Insert { key: Some(key), .. }) = part.lent() {
+                if let Some(key) = class.key_in(key)? {
+                    values.push(class.value_of(&key))?;
+                }
+            }
+        }
+    }
+    Ok(values)
+}
+
+#[test]
+fn classes_tell_numbers(rt: HostRuntime) -> Result<(), Fail> {
+    let alloc = rt.alloc();
+    let points =
+        b"class quad value\ninsert 1.1 0,0 value 5\ninsert 1.2 null\ninsert 1.3 0,0 value 18446744073709551615\n";
+    let of_points = values(alloc, &With { inner: Quad }, points)?;
+    assert!(rt; of_points.as_slice() == [Some(5), Some(u64::MAX)].as_slice());
+    let of_plain = values(alloc, &Quad, b"class quad\ninsert 1.1 0,0\n")?;
+    assert!(rt; of_plain.as_slice() == [None].as_slice());
+    let of_ranges = values(alloc, &Ranges, b"class range\ninsert 1.1 empty\n")?;
+    assert!(rt; of_ranges.as_slice() == [None].as_slice());
+    let with = With { inner: Radix };
+    assert!(rt; with.valued() && !Radix.valued() && !Ranges.valued() && !Kd.valued());
     Ok(())
 }
 

@@ -2,3 +2,4 @@ pub mod Counting
 pub mod Holding
 pub mod Coming
 pub mod Apart
+pub mod Versions

@@ -13,7 +13,6 @@ use Rattle.spg_rows.specs.Right.{ScanRight, VacuumRight}
 use Rattle.spg_rows.specs.Rows.{is_live, is_present}
 use Rattle.spg_rows.specs.Told.{IsUsed}
 use Rattle.spg_tree.specs.Table.{sheets_of}
-use Rattle.spg_scan.specs.Scanning.{counted}
 use Rattle.spg_scan.specs.declared.walk.Closed.{Closed}
 use Rattle.spg_seats.specs.Opening.{sweeps}
 use Rattle.spg_core.specs.Seen.{Seen, past_of}
@@ -73,7 +72,7 @@ pub record FindsRows {O Key Recon Cond : Type 0} (m : Meaning Key Recon Cond) (o
 -- and it met so many tuples on its way
 pub record Finds {O Key Recon Cond : Type 0} (m : Meaning Key Recon Cond) (old new : Seen O Key Recon Cond) (seat : ℕ) (query : Query O Key Recon Cond) (closed : Closed) : Type 0 where
   pub rows : FindsRows m old new seat query closed.rows
-  pub walk : (k : ℕ) × Walk m (sheets_of new.table) query k × (closed.met ≡ counted k)
+  pub walk : Walk m (sheets_of new.table) query closed.met
 
 -- no scan was opened, or one was opened and left
 abbrev pub FindsNone : {O Key Recon Cond : Type 0} → Seen O Key Recon Cond → Seen O Key Recon Cond → ℕ → Query O Key Recon Cond → Type 0

@@ -1,18 +1,19 @@
 -- How far the command of a seat has come.
-use Rattle.std.specs.Prelude.{◌≡◌, ◌<◌, ◌≤◌, ◌+◌, ◌-◌, ◌++◌, ℕ, zero, suc, false, List, [], ◌∷◌, length, is_none, Option, ⊤}
+use Rattle.std.specs.Prelude.{◌≡◌, ◌⊎◌, ◌<◌, ◌≤◌, ◌+◌, ◌-◌, ◌++◌, ℕ, zero, suc, false, List, [], ◌∷◌, length, is_none, Option, Some, ⊤}
 use Rattle.spg_base.specs.Row.{RowAt}
 use Rattle.spg_opclass.specs.Meaning.{Meaning}
 use Rattle.spg_opclass.specs.declared.query.Query.{Query}
 use Rattle.spg_forest.specs.View.{Place}
 use Rattle.spg_forest.specs.Spot.{Spot, Branch}
+use Rattle.spg_forest.specs.Pages.{place}
 use Rattle.spg_forest.specs.Sheets.{Sheets}
 use Rattle.spg_forest.specs.Shape.{spots}
 use Rattle.spg_forest.specs.Ranks.{most_sections}
 use Rattle.spg_forest.specs.Walk.{weight_of}
 use Rattle.spg_rows.specs.declared.event.Event.TheVariants.{CloseVacuum}
 use Rattle.spg_tree.specs.Table.{Table, sheets_of}
-use Rattle.spg_scan.specs.Items.{Item, held, inner, leaves}
-use Rattle.spg_scan.specs.Scanning.{counted}
+use Rattle.spg_scan.specs.Items.{Item, held, inner, leaves, IsItem}
+use Rattle.spg_scan.specs.Scanning.{Scanning, counted, IsAskedAt}
 use Rattle.spg_scan.specs.Reading.{followed_at}
 use Rattle.spg_scan.specs.Rest.{IsAtRest}
 use Rattle.spg_seats.specs.Opening.{sweeps}
@@ -37,11 +38,15 @@ IsScanning (descending key d) = ⊥
 IsScanning (reading s) = ⊤
 IsScanning (sweeping v) = ⊥
 
+-- the class may be asked at the main root by the query, or the scan still holds that root
+abbrev pub MayAsk : {O Key Recon Cond : Type 0} → Meaning Key Recon Cond → Sheets → Scanning O Key Recon Cond → Type 0
+MayAsk m S s = IsAskedAt m (spots S (place 1 0)) s.query (Some m.start) ⊎ ((i : ℕ) × IsItem s.items i (held (place 1 0) (Some m.start)))
+
 -- a scan of this query over pages at rest
 abbrev pub IsRestingScan : {O Key Recon Cond : Type 0} → Meaning Key Recon Cond → Sheets → Query O Key Recon Cond → Stage O Key Recon Cond → Type 0
 IsRestingScan m S query free = ⊥
 IsRestingScan m S query (descending key d) = ⊥
-IsRestingScan m S query (reading s) = (s.query ≡ query) × (counted s.met ≡ s.met) × IsAtRest m S s
+IsRestingScan m S query (reading s) = (s.query ≡ query) × (counted s.met ≡ s.met) × IsAtRest m S s × MayAsk m S s
 IsRestingScan m S query (sweeping v) = ⊥
 
 -- no event was written since, the pages are as they were, and a scan over pages at rest still is one

@@ -1,5 +1,5 @@
 -- The readers of command lines give what the words ask for, and miss nothing.
-use Rattle.std.proofs.Common.{◌≡◌, ◌⊎◌, inl, inr, ◌<◌, ◌^◌, ◌&&◌, ◌||◌, ℕ, Bool, true, false, cond, leb, List, [], ◌∷◌, Option, Some, None, refl, sym, ap, ◌∙◌, subst, arith}
+use Rattle.std.proofs.Common.{◌≡◌, ◌⊎◌, inl, inr, ◌<◌, ◌^◌, ◌&&◌, ◌||◌, ℕ, Bool, true, false, cond, leb, List, [], ◌∷◌, Option, Some, None, refl, sym, ap, ◌∙◌, subst, arith, ◌≢◌}
 use Rattle.std.specs.Prelude.{bytes_eq, codes, is_some}
 use Rattle.std.specs.Fmt.{decimal}
 use Rattle.std.proofs.lemmas.Bool.{le-leb, leb-true}
@@ -7,7 +7,7 @@ use Rattle.std.proofs.lemmas.Option.{same_Some}
 use Rattle.std.proofs.lemmas.Slice.Eq.{bytes_eq-Decides}
 use Rattle.spg_script.specs.Reading.{number_of}
 use Rattle.spg_script.specs.declared.class_name.ClassName.{ClassName}
-use Rattle.spg_script.specs.declared.class_name.ClassName.TheVariants.{Quad, Kd, Radix}
+use Rattle.spg_script.specs.declared.class_name.ClassName.TheVariants.{Quad, Kd, Radix, Range}
 use Rattle.spg_script.proofs.Digits.{spelled-number_of, number_of-decimal}
 use Rattle.spg_words.specs.declared.load.Load.{Load}
 use Rattle.spg_words.specs.Parts.{Given, value_of, IsOneOf, AreOf, Asks}
@@ -281,28 +281,36 @@ check_reads words name line =
 
 -- ---- `gen`
 
-class_tells : (word : List ℕ) (class : ClassName) → class_named word ≡ Some class → word ≡ class_word class
+class_so : (word name : List ℕ) (made class : ClassName) → word ≡ name → class_word made ≡ Some name → Some made ≡ Some class → class_word class ≡ Some word
+class_so word name made class is read same = ap class_word (sym (same_Some made class same)) ∙ read ∙ ap Some (sym is)
+
+class_tells : (word : List ℕ) (class : ClassName) → class_named word ≡ Some class → class_word class ≡ Some word
 class_tells word class is = go (bytes_eq word (codes "quad")) refl (bytes_eq word (codes "kd")) refl (bytes_eq word (codes "radix")) refl is
   where
     go : (a : Bool) → bytes_eq word (codes "quad") ≡ a → (b : Bool) → bytes_eq word (codes "kd") ≡ b → (c : Bool) → bytes_eq word (codes "radix") ≡ c
-        → cond a (Some Quad) (cond b (Some Kd) (cond c (Some Radix) None)) ≡ Some class → word ≡ class_word class
-    go true e b f c g found = (bytes_eq-Decides word (codes "quad")).0 e ∙ ap class_word (same_Some Quad class found)
-    go false e true f c g found = (bytes_eq-Decides word (codes "kd")).0 f ∙ ap class_word (same_Some Kd class found)
-    go false e false f true g found = (bytes_eq-Decides word (codes "radix")).0 g ∙ ap class_word (same_Some Radix class found)
+        → cond a (Some Quad) (cond b (Some Kd) (cond c (Some Radix) None)) ≡ Some class → class_word class ≡ Some word
+    go true e b f c g found = class_so word (codes "quad") Quad class ((bytes_eq-Decides word (codes "quad")).0 e) refl found
+    go false e true f c g found = class_so word (codes "kd") Kd class ((bytes_eq-Decides word (codes "kd")).0 f) refl found
+    go false e false f true g found = class_so word (codes "radix") Radix class ((bytes_eq-Decides word (codes "radix")).0 g) refl found
     go false e false f false g found = (cc)
 
-class_read : (class : ClassName) → class_named (class_word class) ≡ Some class
-class_read Quad = refl
-class_read Kd = refl
-class_read Radix = refl
+class_read : (class : ClassName) (word : List ℕ) → class_word class ≡ Some word → class_named word ≡ Some class
+class_read Quad word is = ap class_named (sym (same_Some _ word is))
+class_read Kd word is = ap class_named (sym (same_Some _ word is))
+class_read Radix word is = ap class_named (sym (same_Some _ word is))
+class_read Range word is = (cc)
 
 class_in_tells : (o : Option (List ℕ)) (class : ClassName) → class_in o ≡ Some class → ClassIs class o
 class_in_tells None class is = sym (same_Some Quad class is)
 class_in_tells (Some word) class is = class_tells word class is
 
+class_in_plain : (o : Option (List ℕ)) (class : ClassName) → class_in o ≡ Some class → class ≢ Range
+class_in_plain None class is ranges = let clash : Quad ≡ Range = same_Some Quad class is ∙ ranges in (cc)
+class_in_plain (Some word) class is ranges = let clash : None ≡ Some word = sym (ap class_word ranges) ∙ class_tells word class is in (cc)
+
 class_in_named : (o : Option (List ℕ)) (class : ClassName) → ClassIs class o → class_in o ≡ Some class
 class_in_named None class is = ap Some (sym is)
-class_in_named (Some word) class is = ap class_named is ∙ class_read class
+class_in_named (Some word) class is = class_read class word is
 
 lanes_tell : (o : Option (List ℕ)) (n : ℕ) → lanes_in o ≡ Some n → LanesAre n o
 lanes_tell None n is = sym (same_Some 4 n is)
@@ -312,8 +320,8 @@ lanes_named : (o : Option (List ℕ)) (n : ℕ) → n < 2 ^ 32 → LanesAre n o 
 lanes_named None n small is = ap Some (sym is)
 lanes_named (Some word) n small is = ap number_of is ∙ number_of-decimal n small
 
-checked_tells : (load load2 : Load) → checked load ≡ Some load2 → (load ≡ load2) × IsLoad load
-checked_tells load load2 is = go ((leb 1 load.count && leb load.count 200000 && leb load.seed 999999) && (leb 1 load.lanes && leb load.lanes 16)) refl is
+checked_tells : (load load2 : Load) → load.class ≢ Range → checked load ≡ Some load2 → (load ≡ load2) × IsLoad load
+checked_tells load load2 plain is = go ((leb 1 load.count && leb load.count 200000 && leb load.seed 999999) && (leb 1 load.lanes && leb load.lanes 16)) refl is
   where
     go : (t : Bool) → (leb 1 load.count && leb load.count 200000 && leb load.seed 999999) && (leb 1 load.lanes && leb load.lanes 16) ≡ t → cond t (Some load) None ≡ Some load2 → (load ≡ load2) × IsLoad load
     go true e found =
@@ -322,7 +330,7 @@ checked_tells load load2 is = go ((leb 1 load.count && leb load.count 200000 && 
         let count = and_parts (leb 1 load.count) (leb load.count 200000) rows.0 in
         let lanes = and_parts (leb 1 load.lanes) (leb load.lanes 16) halves.1 in (
           same_Some load load2 found,
-          record { some = leb-true 1 load.count count.0; count = leb-true load.count 200000 count.1; seed = leb-true load.seed 999999 rows.1; one_lane = leb-true 1 load.lanes lanes.0; lanes = leb-true load.lanes 16 lanes.1 },
+          record { some = leb-true 1 load.count count.0; count = leb-true load.count 200000 count.1; seed = leb-true load.seed 999999 rows.1; one_lane = leb-true 1 load.lanes lanes.0; no_ranges = plain; lanes = leb-true load.lanes 16 lanes.1 },
         )
     go false e found = (cc)
 
@@ -358,7 +366,7 @@ load_held h load is = go h.first refl h.second refl h.limit refl h.from refl h.w
         let s = bind_some (λ (s : ℕ). lanes_in h.lanes >>= λ l. (class_in h.class >>= λ c. checked (record { count = n.0; seed = s; lanes = l; class = c }))) (number_of seed) load n.2 in
         let l = bind_some (λ (l : ℕ). class_in h.class >>= λ c. checked (record { count = n.0; seed = s.0; lanes = l; class = c })) (lanes_in h.lanes) load s.2 in
         let c = bind_some (λ (c : ClassName). checked (record { count = n.0; seed = s.0; lanes = l.0; class = c })) (class_in h.class) load l.2 in
-        let fine = checked_tells (record { count = n.0; seed = s.0; lanes = l.0; class = c.0 }) load c.2 in
+        let fine = checked_tells (record { count = n.0; seed = s.0; lanes = l.0; class = c.0 }) load (class_in_plain h.class c.0 c.1) c.2 in
         record {
           rows = rows;
           seed = seed;

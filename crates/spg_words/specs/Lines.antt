@@ -1,8 +1,8 @@
 -- Which command lines the program takes, and what each asks for.
-use Rattle.std.specs.Prelude.{◌≡◌, ◌≤◌, ℕ, true, List, [], ◌∷◌, codes, Option, Some, None, ⊤}
+use Rattle.std.specs.Prelude.{◌≡◌, ◌≢◌, ◌≤◌, ℕ, true, List, [], ◌∷◌, codes, Option, Some, None, ⊤}
 use Rattle.std.specs.Fmt.{decimal}
 use Rattle.spg_script.specs.declared.class_name.ClassName.{ClassName}
-use Rattle.spg_script.specs.declared.class_name.ClassName.TheVariants.{Quad, Kd, Radix}
+use Rattle.spg_script.specs.declared.class_name.ClassName.TheVariants.{Quad, Kd, Radix, Range}
 use Rattle.spg_io.specs.Names.{is_name}
 use Rattle.spg_words.specs.declared.load.Load.{Load}
 use Rattle.spg_words.specs.Numbers.{fewest_pages, most_pages, usual_pages, most_rows, most_seed, most_lanes, usual_lanes, most_workers, usual_workers, most_lag}
@@ -53,6 +53,7 @@ pub record IsLoad (load : Load) : Type 0 where
   pub count : load.count ≤ most_rows
   pub seed : load.seed ≤ most_seed
   pub one_lane : 1 ≤ load.lanes
+  pub no_ranges : load.class ≢ Range
   pub lanes : load.lanes ≤ most_lanes
 
 -- the lanes that the option `--lanes` names, or the usual ones
@@ -60,16 +61,17 @@ abbrev pub LanesAre : ℕ → Option (List ℕ) → Type 0
 LanesAre n None = n ≡ usual_lanes
 LanesAre n (Some word) = word ≡ decimal n
 
--- how a class is named
-abbrev pub class_word : ClassName → List ℕ
-class_word Quad = codes "quad"
-class_word Kd = codes "kd"
-class_word Radix = codes "radix"
+-- how a class is named; no load is of ranges
+abbrev pub class_word : ClassName → Option (List ℕ)
+class_word Quad = Some (codes "quad")
+class_word Kd = Some (codes "kd")
+class_word Radix = Some (codes "radix")
+class_word Range = None
 
 -- the class that the option `--class` names, or points in a quad tree
 abbrev pub ClassIs : ClassName → Option (List ℕ) → Type 0
 ClassIs class None = class ≡ Quad
-ClassIs class (Some word) = word ≡ class_word class
+ClassIs class (Some word) = class_word class ≡ Some word
 
 -- the words ask for this load: `gen`, the number of rows and the seed in this order, and the options `--lanes` and `--class` at most
 pub record IsLoadLine (load : Load) (words : List (List ℕ)) : Type 0 where

@@ -9,6 +9,6 @@ pub struct Load {
     pub seed: u32,
     /// How many lanes insert them, 1 to 16.
     pub lanes: u32,
-    /// The class of the index.
+    /// The class of the index, which is not that of ranges.
     pub class: ClassName,
 }

@@ -1,4 +1,5 @@
-ghost use Rattle.std.specs.Prelude.{◌≡◌, IfSome, map, string_bytes};
+ghost use Rattle.std.specs.Prelude.{◌≡◌, ◌≢◌, IfSome, map, string_bytes};
+ghost use Rattle.spg_script.specs.declared.class_name.ClassName.TheVariants as ClassName;
 ghost use Rattle.spg_words.specs.Lines.{IsLoad};
 ghost use Rattle.spg_words.specs.Reading.{held, word_in};
 ghost use Rattle.spg_words.specs.Asked.{class_named, class_in, lanes_in, checked, load_in, load_of};
@@ -10,9 +11,10 @@ use spg_script::{ClassName, MOST_LOAD_LANES, MOST_ROWS, MOST_SEED, number};
 /// How many lanes insert where the words name no number.
 const USUAL_LANES: u32 = 4;
 
-/// The class of this name.
+/// The class of this name. No load is of ranges.
 fn class_named(word: &[u8]) -> Option<ClassName>
-    ensures { result ≡ class_named word.now }
+    ensures value { result ≡ class_named word.now }
+    ensures no_ranges { IfSome result (λ class. class ≢ ClassName.Range) }
 {
     if word == b"quad".as_slice() {
         Some(ClassName::Quad)
@@ -27,7 +29,8 @@ fn class_named(word: &[u8]) -> Option<ClassName>
 
 /// The class that an option names, or points in a quad tree.
 fn class_in(option: Option<&[u8]>) -> Option<ClassName>
-    ensures { result ≡ class_in (word_in option.entry) }
+    ensures value { result ≡ class_in (word_in option.entry) }
+    ensures no_ranges { IfSome result (λ class. class ≢ ClassName.Range) }
 {
     match option {
         Some(word) => class_named(word),
@@ -47,6 +50,7 @@ fn lanes_in(option: Option<&[u8]>) -> Option<u32>
 
 /// The load, where its numbers are in range.
 fn checked(load: Load) -> Option<Load>
+    requires { load.class ≢ ClassName.Range }
     ensures value { result ≡ checked load }
     ensures in_range { IfSome result (λ load. IsLoad load) }
 {

@@ -26,7 +26,7 @@ pub fn load_index<O: OpClass, M: Images>(
 ) -> Result<Index<O>, ImageRefused>
     requires from { 4 ≤ limit }
     requires to { limit ≤ 131072 }
-    ensures value { Holds (M.held images.old) name.now (λ held. MatchResult result (λ index. IsLoadOf O.meaning O.code_number limit held index) (λ e. IfBad e (λ f. FailsFirst O.meaning (λ code. code ≡ O.code_number) limit held f))) }
+    ensures value { Holds (M.held images.old) name.now (λ held. MatchResult result (λ index. IsLoadOf O.meaning O.code_number limit held index) (λ e. IfBad e (λ f. FailsFirst O.meaning O.code_number limit held f))) }
     ensures made { IfOk result (λ index. IsMade O.meaning O.code_number limit (M.held images.old) name.now index) }
     ensures stays { Stays (M.held images.old) (M.held images.new) }
     ensures cause { HasImageCause (M.faults images.old) (M.faults images.new) result }

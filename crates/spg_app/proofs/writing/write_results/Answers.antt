@@ -1,23 +1,21 @@
-use Rattle.std.proofs.Common.{◌+◌, ◌++◌, ◌∷◌, [], drop, sym, ap, ◌∙◌, arith}
+use Rattle.std.proofs.Common.{List, ℕ, OnOk, OnErr, sym, subst}
+use Rattle.std.specs.Io.KnownBytes.{Appends}
+use Rattle.spg_app.specs.Io.{WroteSome}
 use Rattle.spg_report.specs.Text.{ended, result_lines}
-use Rattle.spg_report.specs.Told.{FitsRecord}
-use Rattle.spg_report.proofs.Taken.{all_more, all_taken}
-use Rattle.spg_app.proofs.Streams.{Wrote-more, WroteSome-more, OnErr-always, result_lines-more, put_on_clear}
+use Rattle.spg_report.proofs.Plain.{plain_results}
+use Rattle.spg_app.proofs.Streams.{WroteSome-none, OnErr-always}
 use Rattle.spg_app.proofs.writing.write_results.Goals as goal
 
-pub returns-in_err-write_line-clause-err : goal.returns-in_err-write_line-clause-err
-returns-in_err-write_line-clause-err g c = OnErr-always _ _ (WroteSome-more _ _ _ _ _ _ _ c.loop-index.invariant.wrote c.in_err-write_line.ensures.err
-    (result_lines-more (c.loop-index.index + 1) c.args.records.now c.loop-index.index c.index-records-index.result (omega arith) c.index-records-index.is
-    ∙ ap (λ l. (l ++ 10 ∷ []) ++ ended (result_lines ((c.loop-index.index + 1) + 1) (drop (c.loop-index.index + 1) c.args.records.now))) (sym (put_on_clear _ _ _ c.clear.ensures c.in_ok-push_result.ensures.text))))
+pub returns-then-not-valued-clause-ok : goal.returns-then-not-valued-clause-ok
+returns-then-not-valued-clause-ok g c = subst (λ (ls : List (List ℕ)). OnOk c.write_plain_results.result (Appends (g.K.Sink.contents c.args.sink.now) (g.K.Sink.contents c.write_plain_results.new.sink) (ended ls)))
+    (sym (plain_results g.O.Spoken.speech (c.valued.ensures c.if-not-valued.true) c.args.journal.now 1 c.args.records.now)) c.write_plain_results.ensures.ok
 
-pub loop-index-preserved : goal.loop-index-preserved
-loop-index-preserved g c = record {
-  wrote = Wrote-more _ _ _ _ _ _ _ c.loop-index.invariant.wrote c.in_ok-write_line.ensures.ok
-      (result_lines-more (c.loop-index.index + 1) c.args.records.now c.loop-index.index c.index-records-index.result (omega arith) c.index-records-index.is
-      ∙ ap (λ l. (l ++ 10 ∷ []) ++ ended (result_lines ((c.loop-index.index + 1) + 1) (drop (c.loop-index.index + 1) c.args.records.now))) (sym (put_on_clear _ _ _ c.clear.ensures c.in_ok-push_result.ensures.text)));
-  fits = all_more FitsRecord c.args.records.now c.loop-index.index c.index-records-index.result (omega arith) c.index-records-index.is c.loop-index.invariant.fits c.in_ok-push_result.ensures.fits;
-  later = omega (arith, c.loop-index.invariant.later, c.in_ok-write_line.ensures.cause.later);
-}
+pub returns-then-not-valued-clause-err : goal.returns-then-not-valued-clause-err
+returns-then-not-valued-clause-err g c = subst (λ (ls : List (List ℕ)). OnErr c.write_plain_results.result (WroteSome (g.K.Sink.contents c.args.sink.now) (g.K.Sink.contents c.write_plain_results.new.sink) (ended ls)))
+    (sym (plain_results g.O.Spoken.speech (c.valued.ensures c.if-not-valued.true) c.args.journal.now 1 c.args.records.now)) c.write_plain_results.ensures.err
 
-pub returns-clause-fits : goal.returns-clause-fits
-returns-clause-fits g c = all_taken FitsRecord c.args.records.now c.loop-index.index (omega arith) c.loop-index.invariant.fits
+pub returns-in_err-inserts-clause-err : goal.returns-in_err-inserts-clause-err
+returns-in_err-inserts-clause-err g c = OnErr-always _ _ (WroteSome-none (g.K.Sink.contents c.args.sink.now) (ended (result_lines g.O.Spoken.speech c.args.journal.now 1 c.args.records.now)))
+
+pub returns-clause-err : goal.returns-clause-err
+returns-clause-err g c = rw (← c.in_ok-inserts.ensures) c.write_valued_results.ensures.err

@@ -8,7 +8,7 @@ use Rattle.spg_app.proofs.writing.write_text.Goals as goal
 
 pub returns-in_err-write_results-clause-err : goal.returns-in_err-write_results-clause-err
 returns-in_err-write_results-clause-err g c =
-    OnErr-always _ _ (WroteSome-more _ _ _ _ _ _ _ (Wrote-none _ (text g.O.Spoken.speech c.args.journal.now c.args.records.now)) c.in_err-write_results.ensures.err (ended-append (result_lines 1 c.args.records.now) (journal_text (length c.args.journal.now) ∷ event_lines g.O.Spoken.speech 0 c.args.journal.now)))
+    OnErr-always _ _ (WroteSome-more _ _ _ _ _ _ _ (Wrote-none _ (text g.O.Spoken.speech c.args.journal.now c.args.records.now)) c.in_err-write_results.ensures.err (ended-append (result_lines g.O.Spoken.speech c.args.journal.now 1 c.args.records.now) (journal_text (length c.args.journal.now) ∷ event_lines g.O.Spoken.speech 0 c.args.journal.now)))
 
 pub returns-in_err-push_journal-clause-err : goal.returns-in_err-push_journal-clause-err
 returns-in_err-push_journal-clause-err g c =

@@ -1,4 +1,4 @@
-use Rattle.std.proofs.Common.{◌≡◌, ℕ, List, Option, sym, ap, ◌∙◌, subst}
+use Rattle.std.proofs.Common.{List, sym, subst}
 use Rattle.spg_forest.specs.Shape.{Shape}
 use Rattle.spg_tree.specs.Table.{sheets_of}
 use Rattle.spg_keys.specs.declared.listing.Listed.{Listed}
@@ -16,7 +16,7 @@ returns-in_ok-bare-in-Ok-2-clause-value g c =
     let es = c.in-Ok-2.listed.items in
     let F : Shape m (sheets_of t) × AreEntries m (sheets_of t) es = rw c.in-Ok-2.is at c.in_ok-block-in-Ok.ensures in
     let L : IsLoaded t es c.in_ok-bare-in-Ok-2.bare = subst (λ (xs : List (Listed g.row.O-Key.Denot)). IsLoaded t xs c.in_ok-bare-in-Ok-2.bare) c.deref.ensures.value c.in_ok-bare-in-Ok-2.ensures in
-    holds_map (g.M.Images.held c.args.images.now) c.args.name.now (λ held. Spells m (λ code. code ≡ g.O.OpClass.code_number) c.args.limit held t) _
+    holds_map (g.M.Images.held c.args.images.now) c.args.name.now (λ held. Spells m g.O.OpClass.code_number c.args.limit held t) _
     (λ held s. (
       t,
       s,

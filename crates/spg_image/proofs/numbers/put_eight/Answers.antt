@@ -1,6 +1,6 @@
 use Rattle.std.proofs.Common.{◌≡◌, ◌+◌, ◌%◌, ◌/◌, ◌^◌, ◌∙◌, arith}
 use Rattle.spg_page.specs.Numbers.{four_at}
-use Rattle.spg_image.proofs.Fours.{four_same}
+use Rattle.spg_page.proofs.Numbers.{four_same}
 use Rattle.spg_image.proofs.numbers.put_eight.Goals as goal
 
 pub returns-clause-value : goal.returns-clause-value

@@ -1,6 +1,6 @@
 use Rattle.std.proofs.Common.{◌+◌, ◌*◌, ◌<◌, inl, inr, ◌∙◌, arith}
 use Rattle.std.proofs.lemmas.Bool.{cases_eq}
-use Rattle.spg_image.proofs.Fours.{four_same}
+use Rattle.spg_page.proofs.Numbers.{four_same}
 use Rattle.spg_image.proofs.numbers.put_remembered.Goals as goal
 
 pub loop-index-preserved : goal.loop-index-preserved

@@ -1,6 +1,7 @@
 use Rattle.std.proofs.Common.{◌≡◌, ◌<◌, length, sym, subst, ◌∙◌, arith}
 use Rattle.spg_io.specs.Held.{Changes}
 use Rattle.spg_tree.specs.Table.{Table}
+use Rattle.spg_image.specs.Page.{IsPageAt}
 use Rattle.spg_image.specs.Image.{Image, image_of}
 use Rattle.spg_image.specs.Saving.{IsBlockOf, HoldsPages}
 use Rattle.spg_image.proofs.Firsts.{meta_block, page_block, image_count}
@@ -30,7 +31,7 @@ loop-block-init g c =
     let here : IsBlockOf i 0 c.meta_page.result = meta_block c.args.class t c.meta_page.result c.page_count-count.result c.meta.result sound.roots c.page_count-count.ensures.value c.meta.ensures c.meta_page.ensures.is c.meta_page.ensures.says in
     record {
       held = put_more i 0 c.meta_page.result a b d c.args.name.now (cleared i a b c.args.name.now c.in_ok-clear.ensures.bytes) c.in_ok-put.ensures.bytes c.meta_page.ensures.is.len here;
-      later = omega (arith, c.in_ok-clear.ensures.cause.later, c.in_ok-put.ensures.cause.later);
+      same = c.in_ok-put.ensures.answered ∙ c.in_ok-clear.ensures.answered;
     }
 
 pub returns-in_err-put-2-clause-saves : goal.returns-in_err-put-2-clause-saves
@@ -41,7 +42,7 @@ returns-in_err-put-2-clause-saves g c =
     let b = g.M.Images.held c.loop-block.images in
     let d = g.M.Images.held c.put-in-loop-block.new.self in
     let sound = c.page_count-count.ensures.sound in
-    let here : IsBlockOf i c.loop-block.block c.page_bytes.result = page_block c.args.class t c.loop-block.block c.page_bytes.result (omega arith) c.page_bytes.ensures.is (c.page_bytes.ensures.shows ∙ c.page.ensures) in
+    let here : IsBlockOf i c.loop-block.block c.page_bytes.result = page_block c.args.class t c.loop-block.block c.page_bytes.result (omega arith) (subst (λ v. IsPageAt v c.loop-block.block c.page_bytes.result) c.version_of-version.ensures c.page_bytes.ensures.is) (c.page_bytes.ensures.shows ∙ c.page.ensures) in
     let within : c.loop-block.block < length i.pages = omega (arith, image_count c.args.class t sound.roots, c.page_count-count.ensures.value) in
     let q = put_refused i c.loop-block.block c.page_bytes.result a b d c.args.name.now c.in_err-put-2.field-0.0 c.loop-block.invariant.held c.in_err-put-2.ensures.bytes within here in
     saves_refused i a d c.args.name.now c.from_residual-in_err-put-2.result c.in_err-put-2.field-0.0 c.from_residual-in_err-put-2.ensures.0 c.from_residual-in_err-put-2.ensures.1 q
@@ -53,10 +54,10 @@ loop-block-preserved g c =
     let a = g.M.Images.held c.args.images.now in
     let b = g.M.Images.held c.loop-block.images in
     let d = g.M.Images.held c.put-in-loop-block.new.self in
-    let here : IsBlockOf i c.loop-block.block c.page_bytes.result = page_block c.args.class t c.loop-block.block c.page_bytes.result (omega arith) c.page_bytes.ensures.is (c.page_bytes.ensures.shows ∙ c.page.ensures) in
+    let here : IsBlockOf i c.loop-block.block c.page_bytes.result = page_block c.args.class t c.loop-block.block c.page_bytes.result (omega arith) (subst (λ v. IsPageAt v c.loop-block.block c.page_bytes.result) c.version_of-version.ensures c.page_bytes.ensures.is) (c.page_bytes.ensures.shows ∙ c.page.ensures) in
     record {
       held = put_more i c.loop-block.block c.page_bytes.result a b d c.args.name.now c.loop-block.invariant.held c.in_ok-put-2.ensures.bytes c.page_bytes.ensures.is.laid.len here;
-      later = omega (arith, c.loop-block.invariant.later, c.in_ok-put-2.ensures.cause.later);
+      same = c.in_ok-put-2.ensures.answered ∙ c.loop-block.invariant.same;
     }
 
 pub returns-clause-saves : goal.returns-clause-saves

@@ -1,4 +1,4 @@
-use Rattle.std.proofs.Common.{◌≤◌}
+use Rattle.std.proofs.Common.{◌≡◌}
 use Rattle.spg_io.specs.Held.{Changes}
 use Rattle.spg_image.specs.Image.{image_of}
 use Rattle.spg_image.specs.Saving.{HoldsPages}
@@ -7,5 +7,5 @@ use Rattle.spg_image.proofs.saving.save_table.Given as goal
 abbrev pub invariant-loop-block : goal.invariant-loop-block
 invariant-loop-block g l = record {
   held : Changes (g.M.Images.held l.fn.images) (g.M.Images.held l.images) l.name (λ _ held. HoldsPages (image_of l.class l.table) l.block held);
-  later : g.M.Images.faults l.fn.images ≤ g.M.Images.faults l.images;
+  same : g.M.Images.faults l.images ≡ g.M.Images.faults l.fn.images;
 }

@@ -13,4 +13,4 @@ pub returns : goal.returns
 returns g c =
     writes g.O.OpClass.meaning g.O.Spoken.speech c.args.pair.now c.insert-wrote.new.self (Insert c.args.row c.args.key.now) _ (Inserted g.O.OpClass.meaning c.args.pair.now.primary c.insert-wrote.new.self.primary 0 c.args.row c.in-Ok-Some.found) c.insert-wrote.result.0 c.wrote_outcome.ensures c.insert-wrote.ensures.span
     (insert_acts g.O.OpClass.meaning g.O.Spoken.speech c.args.pair.now.primary c.insert-wrote.new.self.primary c.position-from.ensures.free c.position.ensures.free c.position.ensures.right c.args.row c.args.key.now c.in-Ok-Some.found (sym c.in-Ok-Some.ensures ∙ c.in-Ok-Some.field-0-is) c.position-from.ensures.limit)
-    c.insert-wrote.ensures.queued c.insert-wrote.ensures.lag c.position.ensures.right c.position.ensures.closed c.insert-wrote.ensures.wrote
+    c.insert-wrote.ensures.lag c.position.ensures.right c.position.ensures.closed c.insert-wrote.ensures.wrote

@@ -2,7 +2,7 @@ use Rattle.std.proofs.Common.{◌∙◌, sym, arith}
 use Rattle.std.proofs.lemmas.Bool.{eqb-true}
 use Rattle.spg_radix.specs.TextLemmas.{bytes_from}
 use Rattle.spg_script.specs.Sequences.{script_of}
-use Rattle.spg_script.proofs.ReadLines.{read_nothing, written, empty_is}
+use Rattle.spg_script.proofs.ReadLines.{written, empty_is}
 use Rattle.spg_script.proofs.SequenceLines.{more_commands, foreign_line, sequence_read, no_class_line}
 use Rattle.spg_script.proofs.sequence.parse_sequence.Goals as goal
 

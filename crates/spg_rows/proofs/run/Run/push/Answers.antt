@@ -7,4 +7,4 @@ pub invariant_of-self-2 : goal.invariant_of-self-2
 invariant_of-self-2 g c = rw c.in_ok-push.ensures.items (rises_push row_cmp row_total _ _ _ c.self.invariant (rw c.self.view_is c.requires))
 
 pub returns-clause-ok : goal.returns-clause-ok
-returns-clause-ok g c = rw (c.in_ok-push.ensures.items, ← c.self.view_is) (finds_push row_cmp row_total _ _ _ (rw c.self.view_is c.requires))
+returns-clause-ok g c = rw (c.note.ensures, c.in_ok-push.ensures.items, ← c.self.view_is) (finds_push row_cmp row_total _ _ _ (rw c.self.view_is c.requires))

@@ -1,4 +1,4 @@
-use Rattle.std.proofs.Common.{◌≤◌, ◌-◌, length}
+use Rattle.std.proofs.Common.{◌-◌, length}
 use Rattle.spg_script.specs.Script.{lines_of}
 use Rattle.spg_script.proofs.Wantings.{LinesLeft}
 use Rattle.spg_script.proofs.bad_line.BadLine.of.Given as goal

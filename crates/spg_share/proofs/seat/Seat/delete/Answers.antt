@@ -1,0 +1,20 @@
+use Rattle.std.proofs.Common.{◌≡◌, Some, sym, ◌∙◌, subst}
+use Rattle.spg_desk.specs.Passes.{view_of}
+use Rattle.spg_desk.specs.Answers.{DidKill}
+use Rattle.spg_share.specs.Seats.{pass_knows}
+use Rattle.spg_share.proofs.Numbers.{same_name, kill_number}
+use Rattle.spg_share.proofs.seat.Seat.delete.Goals as goal
+
+pub returns-clause-same : goal.returns-clause-same
+returns-clause-same g c =
+    let m = g.O.OpClass.meaning in
+    let p = c.in-Some.pass in
+    let r = c.kill-pass in
+    let q = r.result.0 in
+    let a = r.result.1 in
+    same_name c.args.self.now.pass p q (sym c.take.ensures.value ∙ c.in-Some.is) r.ensures.own (kill_number m (view_of p) (view_of q) c.args.row a r.ensures.did)
+
+pub returns-clause-did : goal.returns-clause-did
+returns-clause-did g c =
+    let r = c.kill-pass in
+    subst (λ o. DidKill g.O.OpClass.meaning (pass_knows o) (view_of r.result.0) c.args.row r.result.1) (sym (sym c.take.ensures.value ∙ c.in-Some.is)) r.ensures.did

@@ -1,0 +1,20 @@
+use Rattle.std.proofs.Common.{◌≡◌, Some, sym, ◌∙◌, subst}
+use Rattle.spg_desk.specs.Passes.{view_of}
+use Rattle.spg_desk.specs.Looks.{DidStat}
+use Rattle.spg_share.specs.Seats.{pass_knows}
+use Rattle.spg_share.proofs.Numbers.{same_name, told_number}
+use Rattle.spg_share.proofs.seat.Seat.stat.Goals as goal
+
+pub returns-clause-same : goal.returns-clause-same
+returns-clause-same g c =
+    let m = g.O.OpClass.meaning in
+    let p = c.in-Some.pass in
+    let r = c.stat-pass in
+    let q = r.result.0 in
+    let a = r.result.1 in
+    same_name c.args.self.now.pass p q (sym c.take.ensures.value ∙ c.in-Some.is) r.ensures.own (told_number m (view_of p) (view_of q) _ _ r.ensures.did.0.told)
+
+pub returns-clause-did : goal.returns-clause-did
+returns-clause-did g c =
+    let r = c.stat-pass in
+    subst (λ o. DidStat g.O.OpClass.meaning (pass_knows o) (view_of r.result.0) r.result.1) (sym (sym c.take.ensures.value ∙ c.in-Some.is)) r.ensures.did

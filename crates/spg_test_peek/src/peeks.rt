@@ -1,0 +1,40 @@
+use spg_base::{List, Memory, Point, PointCond, Row};
+use spg_peek::find_some;
+use spg_quad::Quad;
+use spg_whole::Index;
+use std::alloc::Global;
+use std::test::Fail;
+
+/// The condition that x is above this.
+fn right_of(alloc: Global, x: i32) -> Result<List<PointCond>, Memory> {
+    let mut conds = List::new(alloc);
+    conds.push(PointCond::Right(x))?;
+    Ok(conds)
+}
+
+/// Nine points on a line, row n at n,0.
+fn nine(alloc: Global) -> Result<Index<Quad>, Fail> {
+    let mut index = Index::new(alloc, Quad, 65_536)?;
+    for n in 1..=9u16 {
+        let key = Point {
+            x: i32::from(n),
+            y: 0,
+        };
+        index.insert(Row::at(1, n), Some(key))?;
+    }
+    Ok(index)
+}
+
+#[test]
+fn finds_as_many_as_are_wanted(rt: HostRuntime) -> Result<(), Fail> {
+    let alloc = rt.alloc();
+    let index = nine(alloc)?;
+    let two = find_some(alloc, &index, right_of(alloc, 6)?, 2)?;
+    assert_eq!(rt; two.len(), 2);
+    let all = find_some(alloc, &index, right_of(alloc, 6)?, 100)?;
+    assert_eq!(rt;
+        all.as_slice(),
+        [Row::at(1, 7), Row::at(1, 8), Row::at(1, 9)].as_slice()
+    );
+    Ok(())
+}
