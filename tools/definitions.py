@@ -1,7 +1,8 @@
 #!/usr/bin/env python3
 """Prints docs/DEFINITIONS.md: what each word says that a public contract, or docs/PROOFS.md, names.
 
-The sentence is the comment above the definition; where there is none, docs/definitions.txt has it, a line each:
+The sentence is the comment above the definition. Where there is none, or one that leans on what stands before it,
+docs/definitions.txt has the sentence, a line each:
 
     CRATE MODULE WORD: sentence
 
@@ -209,14 +210,15 @@ def gathered():
         more = {leans[word] for word in more if word in leans} - cites
         cites |= more
     written = sentences()
-    words = {word: known[word] or written.get(word, '') for word in known if word in cites}
-    idle = [word for word in written if known.get(word, 'gone') or word not in cites]
+    words = {word: written.get(word) or known[word] for word in known if word in cites}
+    idle = [word for word in written if word not in words or written[word] == known[word]]
     return words, idle
 
 
 def sentence(text):
     """A comment as a sentence."""
-    text = text[:1].upper() + text[1:]
+    if not re.match(r'\w\b', text) or text.startswith('a '):
+        text = text[:1].upper() + text[1:]
     return text if text.endswith(('.', ':')) else text + '.'
 
 
