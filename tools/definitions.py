@@ -22,11 +22,14 @@ SENTENCES = TOP / 'docs/definitions.txt'
 WIDTH = 110
 HEAD = '''# Definitions
 
-What each word says that a contract of a public function names, or docs/PROOFS.md, layer by layer, lowest first.
-Each stands in `crates/CRATE/specs/MODULE.antt`; `tools/definitions.py` prints this page from the comments there.
+What each word says that a contract of a public function names, or docs/PROOFS.md, layer by layer, lowest
+first. Each stands in `crates/CRATE/specs/MODULE.antt`; `tools/definitions.py` prints this page from the
+comments there.
 
-A **history** is a journal with the newest event first, so what came before an event is the rest of the list. The
-**meaning** of a class is its calls as functions. **Seat**, **block** and **stamp** are numbers there.
+A **history** is a journal with the newest event first, so what came before an event is the rest of the list.
+The **meaning** of a class is its calls as functions. Seats, blocks and stamps are numbers. Of a source contracts
+read the bytes that are `left`, of a sink its `contents`, of images what is `held` under each name, where the
+object tells them, and of each the count of `faults`. Ghost members of traits are said where the trait stands.
 '''
 
 DEFINED = re.compile(r"(?:(?:abbrev|unfoldable|opaque) pub (?:record |data )?|pub record |pub data |pub (?!mod |use |record |data ))"
@@ -75,8 +78,9 @@ def definitions(crate):
 def exported(crate):
     """The names that the root file of a crate gives out."""
     root = TOP / 'crates' / crate / 'src/lib.rt'
-    given = re.findall(r'^pub use ([^;]*);', root.read_text(), re.M) if root.exists() else []
-    return set(WORD.findall(' '.join(given)))
+    text = root.read_text() if root.exists() else ''
+    given = ' '.join(re.findall(r'^pub use ([^;]*);', text, re.M))
+    return set(WORD.findall(given)) | set(re.findall(r'^pub (?:fn|struct|trait|enum) (\w+)', text, re.M))
 
 
 def clauses(text, given):
@@ -92,7 +96,8 @@ def clauses(text, given):
         if header:
             name = header.group(1) if indent_of(line) == 0 else holder
             begun, (at, said) = at, header_of(lines, at)
-            if name in given and (is_trait and indent_of(line) or line.lstrip().startswith('pub ')):
+            seen = line.lstrip().startswith('pub ') or is_trait and indent_of(line)
+            if seen and (name in given or 'extern "C"' in line):
                 out.append(said)
             at = max(at, begun + 1)
             continue
@@ -229,7 +234,7 @@ def page(words):
         here = [word for word in words if word[0] in crates]
         if not here:
             continue
-        out.append(f'## {says.rstrip(".")}\n')
+        out.append('## ' + re.split('[:,;.]', says)[0] + '\n')
         last = None
         for word in here:
             crate, module, name = word
