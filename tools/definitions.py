@@ -32,8 +32,8 @@ read the bytes that are `left`, of a sink its `contents`, of images what is `hel
 object tells them, and of each the count of `faults`. Ghost members of traits are said where the trait stands.
 '''
 
-DEFINED = re.compile(r"(?:(?:abbrev|unfoldable|opaque) pub (?:record |data )?|pub record |pub data |pub (?!mod |use |record |data ))"
-                     r"([^\s:({]+)")
+DEFINED = re.compile(r"(?:(?:abbrev|unfoldable|opaque) pub (?:record |data )?|pub record |pub data |"
+                     r"pub (?!mod |use |record |data ))([^\s:({]+)")
 NAMED = re.compile(r"Rattle\.(spg\w*)\.specs\.([\w.]+?)\.\{([^}]*)\}|Rattle\.(spg\w*)\.specs\.([\w.]+) as (\w+)")
 WORD = re.compile(r"[A-Za-z_][\w']*(?:\.[A-Za-z_][\w']*)?")
 CLAUSE = re.compile(r"\b(?:requires|ensures|ghost)\b(?! use)")
@@ -70,7 +70,8 @@ def definitions(crate):
         for at, line in enumerate(lines):
             text = line.lstrip()
             match = DEFINED.match(text)
-            if match and (text == line or not text.startswith('pub ') or text.startswith(('pub record', 'pub data'))):
+            # Further in, a line that begins with `pub` alone is a field of a record.
+            if match and (text == line or not re.match('pub (?!record |data )', text)):
                 found.setdefault((crate, module, match.group(1)), comment_above(lines, at))
     return found
 
@@ -101,7 +102,7 @@ def clauses(text, given):
                 out.append(said)
             at = max(at, begun + 1)
             continue
-        if re.match(r'\s*(?:pub )?ghost (?!use)', line) and holder in given and (is_trait or line.lstrip().startswith('pub ')):
+        if holder in given and re.match(r'\s*(?:pub )?ghost (?!use)' if is_trait else r'\s*pub ghost (?!use)', line):
             out.append(line)
         at += 1
     return '\n'.join(out)
