@@ -5,8 +5,8 @@ ghost use Rattle.spg_c.specs.Held.{index_of};
 ghost use Rattle.spg_c.specs.Told.{IsTold, IsHanded, number_of};
 
 use crate::changes;
+use crate::handing::hand_count;
 use crate::handle::SpgIndex;
-use crate::out::hand_count;
 use crate::refused::told;
 use crate::values::SpgRow;
 use spgist::Point;

@@ -2,13 +2,13 @@
 ghost use Rattle.std.specs.Prelude.{◌≡◌};
 ghost use Rattle.spg_c.specs.Calls.{FindsAll, FindsNull, FindsPoints, FindsTexts, FindsNearest, CountsOf, HandsOne};
 ghost use Rattle.spg_c.specs.Held.{index_of};
-ghost use Rattle.spg_c.specs.Out.{HandsOut};
+ghost use Rattle.spg_c.specs.Handing.{HandsOut};
 ghost use Rattle.spg_c.specs.Shown.{told_row, told_near, told_stat};
 ghost use Rattle.spg_c.specs.Told.{IsHanded, number_of};
 
 use crate::conds::{SpgPointCond, SpgTextCond};
+use crate::handing::{hand_near, hand_rows, hand_stat};
 use crate::handle::SpgIndex;
-use crate::out::{hand_near, hand_rows, hand_stat};
 use crate::searches;
 use crate::values::{SpgNearRow, SpgRow, SpgStat};
 use spgist::Point;

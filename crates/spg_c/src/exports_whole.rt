@@ -3,12 +3,12 @@ ghost use Rattle.std.specs.Prelude.{◌≡◌, length};
 ghost use Rattle.spg_c.specs.Calls.{Opens};
 ghost use Rattle.spg_c.specs.Held.{index_of};
 ghost use Rattle.spg_c.specs.Images.{SavesAny, Loads, HandsFault};
-ghost use Rattle.spg_c.specs.Out.{HandsBytes, handed_out};
+ghost use Rattle.spg_c.specs.Handing.{HandsBytes, handed_out};
 ghost use Rattle.spg_c.specs.Told.{IsTold, IsHanded};
 ghost use Rattle.spg_c.specs.declared.any.AnyIndex.TheVariants.{Nothing};
 
+use crate::handing::{fill_bytes, hand_fault, hand_image};
 use crate::handle::SpgIndex;
-use crate::out::{fill_bytes, hand_fault, hand_image};
 use crate::refused::told;
 use crate::texts::text_of;
 use crate::values::SpgFault;

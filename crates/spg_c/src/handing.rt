@@ -2,7 +2,7 @@
 ghost use Rattle.std.specs.Prelude.{◌≡◌, Ok as Good};
 ghost use Rattle.spg_c.specs.Calls.{HandsOne};
 ghost use Rattle.spg_c.specs.Images.{HandsFault, bytes_in};
-ghost use Rattle.spg_c.specs.Out.{handed_out, HandsOut, HandsBytes};
+ghost use Rattle.spg_c.specs.Handing.{handed_out, HandsOut, HandsBytes};
 ghost use Rattle.spg_c.specs.Shown.{told_row, told_near, told_stat};
 ghost use Rattle.spg_c.specs.Told.{number_of};
 
