@@ -1,4 +1,4 @@
-use Rattle.std.proofs.Common.{◌≡◌, ◌∙◌, ap, arith}
+use Rattle.std.proofs.Common.{refl, get_or, arith}
 use Rattle.spg_c.proofs.Filling.{filled}
 use Rattle.spg_c.proofs.handing.fill_bytes.Goals as goal
 
@@ -6,4 +6,4 @@ pub loop-i-preserved : goal.loop-i-preserved
 loop-i-preserved c =
     let few = c.min-count.ensures in
     let more = c.loop-i-test.true in
-    filled (λ n. n) c.args.found.now c.args.bytes.now c.loop-i.bytes c.loop-i.i c.index-found-i.result c.index-found-i.result c.loop-i.invariant c.index-found-i.is (omega arith) (omega arith)
+    filled (λ n. n) c.args.found.now c.args.bytes.now c.loop-i.bytes c.loop-i.i 0 (get_or c.args.found.now c.loop-i.i 0) c.loop-i.invariant refl (omega arith) (omega arith)

@@ -1,4 +1,4 @@
-use Rattle.std.proofs.Common.{◌≡◌, ◌∙◌, ap, arith}
+use Rattle.std.proofs.Common.{◌∙◌, ap, arith}
 use Rattle.spg_c.specs.Shown.{told_row}
 use Rattle.spg_c.proofs.Filling.{filled}
 use Rattle.spg_c.proofs.handing.fill_rows.Goals as goal
