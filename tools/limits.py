@@ -1,7 +1,7 @@
 #!/usr/bin/env python3
 """Runs scripts whose lanes come to a limit, and has a judge look at what the program prints.
 
-    limits.py --program PATH --judge 'PATH judge' [--count N] [--jobs N] [--loads N]
+    limits.py --program PATH --judge 'PATH judge' [--count N] [--jobs N] [--loads N] [--finds N]
 
 In the first script the index is full in a lane: it has few pages, and the lane inserts long texts. In the second the clock
 is at its end: the script begins with an image whose clock is set to its last moment, so that a chain that must move finds
@@ -12,6 +12,9 @@ be done; and the judge must find the text a legal history: it is called with the
 
 With --loads a generated load of 48,000 texts in the usual lanes is run so often too, one run after another: it must print
 the numbers that were counted from its keys. How long each run took is printed.
+
+With --finds a script of N finds in an empty index is run, which makes 2 N events, and its text must be the one that is written
+here: so a journal of more events than any other test has is printed to its end.
 """
 
 import argparse
@@ -32,6 +35,13 @@ LAST = ((1 << 48) - 1).to_bytes(8, "little")
 FULL_PAGES = 5
 LOAD = ["gen", "48000", "7", "--class", "radix"]
 SUMMARY = b"added 48000\nlive 32000\nfirst 3200\nsecond 16000\nswept 16000\n"
+
+
+def finds(count):
+    """A script of so many finds in an empty index, and the text that it prints."""
+    results = [f"{at + 1} {2 * at} {2 * at + 2} found 0 walk 1" for at in range(count)]
+    events = [line for at in range(count) for line in (f"{2 * at} 0 open scan all", f"{2 * at + 1} 0 close scan 0")]
+    return "class quad\n" + "find all\n" * count, "\n".join([*results, f"journal {2 * count}", *events]) + "\n"
 
 
 def insert(block, offset, text):
@@ -148,6 +158,12 @@ class Runner:
         wrong = None if (done.returncode, done.stdout) == (0, SUMMARY) else f"status {done.returncode}: {done.stdout.decode()}"
         return time.monotonic() - begun, wrong
 
+    def find(self, count):
+        """What is wrong with the text of so many finds."""
+        script, text = finds(count)
+        done = self.ran(["run"], script, self.room(None))
+        return None if (done.returncode, done.stdout) == (0, text.encode()) else f"status {done.returncode}"
+
 
 def main():
     parser = argparse.ArgumentParser(description=__doc__, formatter_class=argparse.RawDescriptionHelpFormatter)
@@ -156,6 +172,7 @@ def main():
     parser.add_argument("--count", type=int, default=20)
     parser.add_argument("--jobs", type=int, default=2)
     parser.add_argument("--loads", type=int, default=0)
+    parser.add_argument("--finds", type=int, default=0)
     options = parser.parse_args()
     wrong = 0
     with tempfile.TemporaryDirectory() as folder, ThreadPoolExecutor(options.jobs) as pool:
@@ -171,6 +188,10 @@ def main():
         for _ in range(options.loads):
             seconds, is_wrong = runner.load()
             print(f"load: {seconds:.1f} s {is_wrong or ''}", flush=True)
+            wrong += bool(is_wrong)
+        if options.finds:
+            is_wrong = runner.find(options.finds)
+            print(f"finds: {2 * options.finds} events {is_wrong or ''}", flush=True)
             wrong += bool(is_wrong)
     return 1 if wrong else 0
 
