@@ -213,6 +213,12 @@ def test_longest_script(copy):
     expect("what was said", ran.stderr.splitlines()[:1], [b"bad script line 0"])
 
 
+def test_many_lines(copy):
+    script = b"class quad\n" + b"#\n" * 200_000
+    expect("the text", copy.run("run", script=script).stdout, b"journal 0\n")
+    expect("the last line", ended(copy.run("run", script=script + b"walk\n")), (3, [b"bad script line 200002"]))
+
+
 def test_save_where_the_user_stands(copy):
     ran = copy.run("run", script=b"class quad\ninsert 1.1 3,4\nsave pages\n")
     expect("the status", ran.returncode, 0)
