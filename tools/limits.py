@@ -41,7 +41,7 @@ SUMMARY = b"added 48000\nlive 32000\nfirst 3200\nsecond 16000\nswept 16000\n"
 
 def finds(count):
     """A script of so many finds in an empty index, and the text that it prints."""
-    results = [f"{at + 1} {2 * at} {2 * at + 2} found 0 walk 1" for at in range(count)]
+    results = [f"{at + 1} {2 * at} {2 * at + 2} found 0 walk 0" for at in range(count)]
     events = [line for at in range(count) for line in (f"{2 * at} 0 open scan all", f"{2 * at + 1} 0 close scan 0")]
     return "class quad\n" + "find all\n" * count, "\n".join([*results, f"journal {2 * count}", *events]) + "\n"
 

@@ -261,8 +261,6 @@ def test_statuses(copy):
     os.mkdir(f"{copy.here}/taken")
     expect("of a save over a folder", ended(copy.run("run", script=b"class quad\nsave taken\n")), (6, [b"image fault"]))
     expect("of no image", ended(copy.run("check", "none")), (7, [b"bad image 0 missing"]))
-    many = b"class quad\n" + b"".join(b"insert %d.1 0,0\n" % block for block in range(32_767))
-    expect("of more inserts than are built at once", ended(copy.run("build", "many", script=many)), (9, [b"full"]))
 
 
 def test_words_behind_the_second(copy):
