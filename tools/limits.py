@@ -2,6 +2,7 @@
 """Runs scripts whose lanes come to a limit, and has a judge look at what the program prints.
 
     limits.py --program PATH --judge 'PATH judge' [--count N] [--jobs N] [--loads N]
+              [--finds N] [--groups N]
 
 In the first script the index is full in a lane: it has few pages, and the lane inserts long texts. In the second the clock
 is at its end: the script begins with an image whose clock is set to its last moment, so that a chain that must move finds
@@ -12,6 +13,10 @@ be done; and the judge must find the text a legal history: it is called with the
 
 With --loads a generated load of 48,000 texts in the usual lanes is run so often too, one run after another: it must print
 the numbers that were counted from its keys. How long each run took is printed.
+
+With --finds a script of N finds in an empty index is run, which makes 2 N events, and its text must be the one that is written
+here: so a journal of more events than any other test has is printed to its end. With --groups a script of N groups of two
+lanes is run, in each of which one lane inserts a row and the other looks for nulls.
 """
 
 import argparse
@@ -32,6 +37,19 @@ LAST = ((1 << 48) - 1).to_bytes(8, "little")
 FULL_PAGES = 5
 LOAD = ["gen", "48000", "7", "--class", "radix"]
 SUMMARY = b"added 48000\nlive 32000\nfirst 3200\nsecond 16000\nswept 16000\n"
+
+
+def finds(count):
+    """A script of so many finds in an empty index, and the text that it prints."""
+    results = [f"{at + 1} {2 * at} {2 * at + 2} found 0 walk 0" for at in range(count)]
+    events = [line for at in range(count) for line in (f"{2 * at} 0 open scan all", f"{2 * at + 1} 0 close scan 0")]
+    return "class quad\n" + "find all\n" * count, "\n".join([*results, f"journal {2 * count}", *events]) + "\n"
+
+
+def groups(count):
+    """A script of so many groups of lanes."""
+    lines = [f"together\nlane\ninsert {at}.1 {at},0\nlane\nfind null\nend\n" for at in range(count)]
+    return "class quad\n" + "".join(lines) + "find all\n"
 
 
 def insert(block, offset, text):
@@ -148,6 +166,20 @@ class Runner:
         wrong = None if (done.returncode, done.stdout) == (0, SUMMARY) else f"status {done.returncode}: {done.stdout.decode()}"
         return time.monotonic() - begun, wrong
 
+    def find(self, count):
+        """What is wrong with the text of so many finds."""
+        script, text = finds(count)
+        done = self.ran(["run"], script, self.room(None))
+        return None if (done.returncode, done.stdout) == (0, text.encode()) else f"status {done.returncode}"
+
+    def group(self, count):
+        """What is wrong with the text of so many groups of lanes."""
+        done = self.ran(["run"], groups(count), self.room(None))
+        answers = [line.split(b" ", 3)[3] for line in done.stdout.split(b"\n")[: 2 * count]]
+        wanted = [b"added", b"found 0"] * count
+        found_all = b" found %d walk " % count in done.stdout.split(b"\n")[2 * count]
+        return None if (done.returncode, answers, found_all) == (0, wanted, True) else f"status {done.returncode}"
+
 
 def main():
     parser = argparse.ArgumentParser(description=__doc__, formatter_class=argparse.RawDescriptionHelpFormatter)
@@ -156,6 +188,8 @@ def main():
     parser.add_argument("--count", type=int, default=20)
     parser.add_argument("--jobs", type=int, default=2)
     parser.add_argument("--loads", type=int, default=0)
+    parser.add_argument("--finds", type=int, default=0)
+    parser.add_argument("--groups", type=int, default=0)
     options = parser.parse_args()
     wrong = 0
     with tempfile.TemporaryDirectory() as folder, ThreadPoolExecutor(options.jobs) as pool:
@@ -172,6 +206,11 @@ def main():
             seconds, is_wrong = runner.load()
             print(f"load: {seconds:.1f} s {is_wrong or ''}", flush=True)
             wrong += bool(is_wrong)
+        for what, count, run in (("finds", options.finds, runner.find), ("groups", options.groups, runner.group)):
+            if count:
+                is_wrong = run(count)
+                print(f"{what}: {count}, {is_wrong or 'none wrong'}", flush=True)
+                wrong += bool(is_wrong)
     return 1 if wrong else 0
 
 

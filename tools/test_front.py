@@ -16,6 +16,7 @@ import sys
 import tempfile
 import time
 
+from limits import finds
 from sources import TOP, text_of
 
 EXAMPLES = pathlib.Path(TOP, "examples")
@@ -212,6 +213,12 @@ def test_longest_script(copy):
     expect("what was said", ran.stderr.splitlines()[:1], [b"bad script line 0"])
 
 
+def test_many_lines(copy):
+    script = b"class quad\n" + b"#\n" * 200_000
+    expect("the text", copy.run("run", script=script).stdout, b"journal 0\n")
+    expect("the last line", ended(copy.run("run", script=script + b"walk\n")), (3, [b"bad script line 200002"]))
+
+
 def test_save_where_the_user_stands(copy):
     ran = copy.run("run", script=b"class quad\ninsert 1.1 3,4\nsave pages\n")
     expect("the status", ran.returncode, 0)
@@ -242,12 +249,33 @@ def test_documents(copy):
             expect(f"that {document} quotes {block}", "\n".join(lines_of(block)) in whole, True)
 
 
+def ended(ran):
+    """The exit status, and the first line on standard error."""
+    return ran.returncode, ran.stderr.splitlines()[:1]
+
+
 def test_statuses(copy):
-    expect("of a bad script", copy.run("run", script=b"class quad\ninsert\n").returncode, 3)
+    expect("of a bad script", ended(copy.run("run", script=b"class quad\ninsert\n")), (3, [b"bad script line 2"]))
     with open(copy.bin + "/../into", "wb") as closed:
-        expect("of input that cannot be read", copy.run("run", stdin=closed).returncode, 4)
+        expect("of input that cannot be read", ended(copy.run("run", stdin=closed)), (4, [b"read fault"]))
     os.mkdir(f"{copy.here}/taken")
-    expect("of a save over a folder", copy.run("run", script=b"class quad\nsave taken\n").returncode, 6)
+    expect("of a save over a folder", ended(copy.run("run", script=b"class quad\nsave taken\n")), (6, [b"image fault"]))
+    expect("of no image", ended(copy.run("check", "none")), (7, [b"bad image 0 missing"]))
+
+
+def test_words_behind_the_second(copy):
+    """Texts that four pages do not hold."""
+    script = b"class radix\n" + b"".join(b'insert 1.%d "%s"\n' % (at, b"%d" % at * 3_000) for at in range(1, 9))
+    last = {words: copy.run(*words, script=script).stdout.split(b"\n")[7][-5:] for words in (("run",), ("run", "--limit", "4"))}
+    expect("the last insert", list(last.values()), [b"added", b" full"])
+
+
+def test_many_events(copy):
+    """More of them than 16 bits count."""
+    script, text = finds(32_769)
+    ran = copy.run("run", script=script.encode())
+    expect("the status", ran.returncode, 0)
+    expect("that its text is right", ran.stdout == text.encode(), True)
 
 
 def run(test, copy):

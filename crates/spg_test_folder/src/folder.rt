@@ -1,6 +1,7 @@
 //! The same calls, on files of the current folder and in memory, answer the same. Names that no file can have
 //! are refused.
 
+use spg_base::Bytes;
 use spg_io::{FolderImages, Images, IoRefused, PlainImages};
 use std::fs;
 use std::rt::Files;
@@ -56,6 +57,26 @@ const CALLS: [Call; 26] = [
     Call::Get(ROAD, 0),
 ];
 
+/// Calls on a name that holds a page and a part of one.
+const CUT_CALLS: [Call; 12] = [
+    Call::Len(TOWN),
+    Call::Get(TOWN, 0),
+    Call::Get(TOWN, 1),
+    // A page more begins in the midst of a block.
+    Call::Put(TOWN, 7),
+    Call::Len(TOWN),
+    Call::Get(TOWN, 1),
+    Call::Get(TOWN, 2),
+    Call::Put(TOWN, 8),
+    Call::Get(TOWN, 2),
+    Call::Clear(TOWN),
+    Call::Get(TOWN, 0),
+    Call::Len(TOWN),
+];
+
+/// A page and 1,808 bytes more.
+const CUT: usize = 10_000;
+
 /// A page whose bytes go by the number and by where they stand.
 fn page_of(number: u8) -> [u8; 8192] {
     let mut page = [number; 8192];
@@ -88,8 +109,8 @@ fn is_alike<I: Images, J: Images>(one: &mut I, other: &mut J, call: Call) -> boo
 }
 
 /// The number of the first call that answers otherwise on both.
-fn first_apart<I: Images, J: Images>(one: &mut I, other: &mut J) -> Option<usize> {
-    for (number, call) in CALLS.iter().enumerate() {
+fn first_apart<I: Images, J: Images>(calls: &[Call], one: &mut I, other: &mut J) -> Option<usize> {
+    for (number, call) in calls.iter().enumerate() {
         if !is_alike(one, other, *call) {
             return Some(number);
         }
@@ -117,7 +138,21 @@ fn remove<R: Files>(rt: &R) {
 fn a_folder_holds_images_as_memory_does(rt: HostRuntime) -> Result<(), Fail> {
     remove(&rt);
     let mut images = FolderImages::new(&rt);
-    let apart = first_apart(&mut images, &mut PlainImages::new(rt.alloc()));
+    let apart = first_apart(&CALLS, &mut images, &mut PlainImages::new(rt.alloc()));
+    remove(&rt);
+    assert_eq!(rt; apart, None);
+    Ok(())
+}
+
+#[test]
+fn a_file_ends_in_the_midst_of_a_page(rt: HostRuntime) -> Result<(), Fail> {
+    remove(&rt);
+    let mut bytes = [7; CUT];
+    bytes[..8192].copy_from_slice(&page_of(9));
+    fs::write(&rt, TOWN, bytes)?;
+    let mut memory = PlainImages::new(rt.alloc());
+    memory.set(TOWN, Bytes::copy(rt.alloc(), &bytes)?)?;
+    let apart = first_apart(&CUT_CALLS, &mut FolderImages::new(&rt), &mut memory);
     remove(&rt);
     assert_eq!(rt; apart, None);
     Ok(())
