@@ -1,5 +1,5 @@
 //! As many seats as an index has, each of which does every call.
-ghost use Rattle.std.specs.Prelude.{◌≡◌, ◌<◌, ◌≤◌, length, IfOk};
+ghost use Rattle.std.specs.Prelude.{◌≡◌, ◌<◌, ◌≤◌, length, vec_len, IfOk};
 ghost use Rattle.spg_share.specs.Seats.{seat_name};
 
 use crate::shared::run;
@@ -139,7 +139,7 @@ impl Task<Quad> for Each {
 
 /// A lane for each seat.
 fn lanes(alloc: Global) -> Result<Vec<Lane<Quad, Each>>, Memory>
-    ensures { IfOk result (λ lanes. length lanes.items ≡ 63) }
+    ensures { IfOk result (λ lanes. vec_len lanes ≡ 63) }
 {
     let mut lanes = Vec::new(alloc);
     for number in 0..SEATS {

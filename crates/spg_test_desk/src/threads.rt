@@ -1,5 +1,5 @@
 //! Threads that share an index, and the journal that comes of it.
-ghost use Rattle.std.specs.Prelude.{◌≡◌, ◌<◌, ◌≤◌, length, IfOk};
+ghost use Rattle.std.specs.Prelude.{◌≡◌, ◌<◌, ◌≤◌, length, vec_len, IfOk};
 ghost use Rattle.spg_share.specs.Seats.{seat_name};
 
 use crate::shared::run;
@@ -201,7 +201,7 @@ impl Task<Quad> for Work {
 
 /// A lane for each number.
 fn lanes(alloc: Global) -> Result<Vec<Lane<Quad, Work>>, Memory>
-    ensures { IfOk result (λ lanes. length lanes.items ≡ 5) }
+    ensures { IfOk result (λ lanes. vec_len lanes ≡ 5) }
 {
     let mut lanes = Vec::new(alloc);
     for number in 0..5u16 {
