@@ -17,14 +17,18 @@ use std::alloc::Global;
 use std::thread::Threads;
 
 /// How many pages there are. Block 0 of every table is an empty leaf page, for the meta page.
-fn count_pages(table: &PageTable) -> u32
+pub(crate) fn count_pages(table: &PageTable) -> u32
     ensures meta { sheet_at table.now 0 ≡ blank false }
 {
     table.page_count()
 }
 
 /// The state of well formed pages on which nobody has a latch.
-fn adopt<O: OpClass>(alloc: Global, class: O, table: PageTable) -> Result<State<O>, Memory>
+pub(crate) fn adopt<O: OpClass>(
+    alloc: Global,
+    class: O,
+    table: PageTable,
+) -> Result<State<O>, Memory>
     requires shape { Shape O.meaning (sheets_of table) }
     requires meta { sheet_at table 0 ≡ blank false }
     requires latches { (b : ℕ) → latch_at table b ≡ Nil }

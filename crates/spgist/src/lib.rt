@@ -2,7 +2,8 @@
 //! are. All that an embedder needs is here under one name; docs/EMBEDDING.md shows each call.
 //!
 //! An `Index` belongs to one owner, and its calls are whole: `insert`, `delete`, `find`, `vacuum`. `near` gives the rows
-//! nearest to a point, `save` and `load_index` write and read images, `build_index` makes an index of many rows at once.
+//! nearest to a point, `save` and `load_index` write and read images, `build_index` makes an index of many rows at once,
+//! `renew` begins a journal anew.
 //! Threads share it by the crate `spg_share`. A class is `Quad` or `Kd` for points, `Radix` for texts, `Ranges` for ranges
 //! of whole numbers, or `With` one of these and a number beside each key; docs/CLASSES.md tells how another one is made.
 #![tactic(auto)]
@@ -11,12 +12,14 @@ mod builds;
 mod images;
 mod nearest;
 mod queries;
+mod renews;
 mod texts;
 
 pub use builds::build_index;
 pub use images::load_index;
 pub use nearest::near;
 pub use queries::{DEFAULT_LIMIT, equal, one, prefix, within};
+pub use renews::renew;
 pub use spg_among::{Between, Idle, NearOut, near_among};
 pub use spg_base::{
     Block, Bytes, Failed, Labels, List, Memory, Origin, Point, PointCond, Row, Rows, Same, SeatNo,
