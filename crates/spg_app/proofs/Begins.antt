@@ -61,12 +61,12 @@ module _ {O Key Recon Cond : Type 0} where
     }
 
     pub new_begins : (from : Option (Bor (List ℕ))) (old : Outside) (seen : Seen O Key Recon Cond) → from ≡ None → IsNew limit seen → IsBeginning m code limit (word_in from) old old (Ok seen)
-    new_begins None old seen e n = record { state = begun_new old.held seen n; closed = loaded_closed [] seen n.journal; refused = tt; left = refl }
+    new_begins None old seen e n = record { state = begun_new old.held seen n; closed = loaded_closed [] seen n.journal; refused = tt; left = refl; unfailed = refl }
     new_begins (Some name) old seen e n = absurd (cc e)
 
     pub new_refused : (from : Option (Bor (List ℕ))) (old : Outside) (result : Result (Seen O Key Recon Cond) ImageRefused) → from ≡ None → IsErr result → IsErrAnd result (λ e. e ≡ refused.Memory) → IsBeginning m code limit (word_in from) old old result
     new_refused from old (Ok seen) is err memory = absurd (cc err)
-    new_refused None old (Err e) is err memory = record { state = tt; closed = tt; refused = ap status_of memory; left = refl }
+    new_refused None old (Err e) is err memory = record { state = tt; closed = tt; refused = ap status_of memory; left = refl; unfailed = tt }
     new_refused (Some name) old (Err e) is err memory = absurd (cc is)
 
     -- why an image was not loaded
@@ -85,12 +85,14 @@ module _ {O Key Recon Cond : Type 0} where
       closed = loaded_closed (entries_of made.1.entries) seen made.1.loaded.journal;
       refused = tt;
       left = record { stays = stays; later = cause.later };
+      unfailed = cause.answered;
     }
     loaded_or_not name held now f g (Err e) value made stays cause = record {
       state = tt;
       closed = tt;
       refused = why name held now f g e value cause;
       left = record { stays = stays; later = cause.later };
+      unfailed = tt;
     }
 
     pub loaded_begins : (from : Option (Bor (List ℕ))) (name : Bor (List ℕ)) (held now : Option Holding) (f g : ℕ) (result : Result (Seen O Key Recon Cond) ImageRefused) → from ≡ Some name

@@ -1,5 +1,5 @@
 -- A run whose images were read before its commands.
-use Rattle.std.proofs.Common.{◌≡◌, ◌≤◌, ◌+◌, ◌-◌, ◌^◌, min, ℕ, Bool, true, false, List, [], ◌∷◌, Option, Some, None, refl, sym, subst, arith}
+use Rattle.std.proofs.Common.{◌≡◌, ◌≤◌, ◌+◌, ◌-◌, ◌^◌, min, ℕ, Bool, true, false, List, [], ◌∷◌, Option, Some, None, refl, sym, ◌∙◌, subst, arith}
 use Rattle.spg_base.specs.declared.recorded.Origin.{Origin}
 use Rattle.spg_opclass.specs.Meaning.{Meaning}
 use Rattle.spg_forest.specs.Sheets.{Sheets}
@@ -60,9 +60,9 @@ module _ (O : Type 0) {Key Recon Cond : Type 0} (m : Meaning Key Recon Cond) (sp
     leaves = t.leaves;
   }
 
-  pub from_earlier : (loaded : List (Entry Key)) (origin : Origin) (a b c : Outside) (tasks : List Task) (seen : Seen O Key Recon Cond) (records : List Record) → OnlyRead a b
+  pub from_earlier : (loaded : List (Entry Key)) (origin : Origin) (a b c : Outside) (tasks : List Task) (seen : Seen O Key Recon Cond) (records : List Record) → OnlyRead a b → b.faults ≡ a.faults
       → Session m speech code loaded origin b c tasks seen records → Session m speech code loaded origin a c tasks seen records
-  from_earlier loaded origin a b c tasks seen records read s = record {
+  from_earlier loaded origin a b c tasks seen records read same s = record {
     run = s.run;
     right = s.right;
     causes = s.causes;
@@ -71,4 +71,5 @@ module _ (O : Type 0) {Key Recon Cond : Type 0} (m : Meaning Key Recon Cond) (sp
     made = s.made;
     images = still a.held b.held c.held read.stays s.images;
     faults = rose_earlier (image_faults records) a.faults b.faults c.faults read.later s.faults;
+    unfailed = λ none. s.unfailed none ∙ same;
   }

@@ -38,6 +38,11 @@ cause_of (Ok done) before now cause is = absurd (cc)
 cause_of (Err refused.Failed) before now cause is = cause.failed refl
 cause_of (Err refused.Memory) before now cause is = absurd (cc)
 
+pub unfailed_of : (result : Result Unit IoRefused) (before now : ℕ) → OnOk result (now ≡ before) → writing_of result ≡ all_taken → now ≡ before
+unfailed_of (Ok done) before now same is = same
+unfailed_of (Err refused.Failed) before now same is = absurd (cc)
+unfailed_of (Err refused.Memory) before now same is = absurd (cc)
+
 pub wrote_as : (result : Result Unit IoRefused) (old new : Option (List ℕ)) (whole whole2 : List ℕ) → whole ≡ whole2 → OnOk result (Appends old new whole) → OnErr result (WroteSome old new whole) → Wrote (writing_of result) old new whole2
 wrote_as result old new whole whole2 is all some = subst (λ t. Wrote (writing_of result) old new t) is (wrote_of result old new whole all some)
 

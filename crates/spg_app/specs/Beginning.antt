@@ -1,5 +1,5 @@
 -- With what the commands of a run begin, and why they do not.
-use Rattle.std.specs.Prelude.{◌≡◌, ◌≤◌, ⊤, ℕ, false, List, [], Option, Some, None, Result, IfOk, IfErr}
+use Rattle.std.specs.Prelude.{◌≡◌, ◌≤◌, ⊤, ℕ, false, List, [], Option, Some, None, Result, IfOk, IfErr, OnOk}
 use Rattle.spg_base.specs.declared.recorded.Origin.{Origin}
 use Rattle.spg_io.specs.Held.{Holding, Holds, Stays}
 use Rattle.spg_io.specs.Causes.{Rose}
@@ -95,3 +95,4 @@ pub record IsBeginning {O Key Recon Cond : Type 0} (m : Meaning Key Recon Cond) 
   pub closed : IfOk result (λ seen. AllClosed (past_of seen))
   pub refused : IfErr result (λ e. IsUnbegun m code limit from old now (status_of e))
   pub left : IsLeft from old now
+  pub unfailed : OnOk result (now.faults ≡ old.faults)

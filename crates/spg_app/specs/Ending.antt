@@ -61,6 +61,8 @@ pub record RanCommands {O Key Recon Cond : Type 0} (m : Meaning Key Recon Cond) 
   -- numbers of a text that was taken whole fit their types, so it says all of the run
   pub fits : writing ≡ all_taken → RunFits seen.journal records
   pub cause : writing ≡ write_failed → Rose out.write_faults out.write_faults_after
+  -- where the whole text was taken no write failed
+  pub unfailed : writing ≡ all_taken → out.write_faults_after ≡ out.write_faults
   pub status_is : status ≡ status_after writing records
   -- an insert found the index full, or its clock at its end, only where so many were opened by then that it could be; where fewer were, one of a free row was added or had no memory
   pub late : AllByRecursion (IsLateIn origin seen.journal) records

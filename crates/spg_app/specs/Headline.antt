@@ -50,6 +50,7 @@ pub record GaveScript (left left_after : Option (List ℕ)) (script : Script) : 
 pub record Ran {O Key Recon Cond : Type 0} (m : Meaning Key Recon Cond) (speech : Speech Key Cond) (code limit : ℕ) (from : Option (List ℕ)) (class : ClassLine) (io : Streams) (out : Outlets) (status : Status) (seen : Seen O Key Recon Cond) : Type 0 where
   pub script : Script
   pub gave : GaveScript io.left io.left_after script
+  pub unfailed : io.read_faults_after ≡ io.read_faults
   pub of_class : script.class ≡ class
   pub run : RanCommands m speech code limit from script out status seen
 

@@ -1,4 +1,4 @@
-ghost use Rattle.std.specs.Prelude.{◌≡◌, ◌≤◌, ◌<◌, ◌-◌, ◌^◌, ◌⊎◌, ℕ, true, List, Option, Some, None, IfOk, IfErr, length, map, string_bytes};
+ghost use Rattle.std.specs.Prelude.{◌≡◌, ◌≤◌, ◌<◌, ◌-◌, ◌^◌, ◌⊎◌, ℕ, true, List, Option, Some, None, IfOk, IfErr, OnOk, length, map, string_bytes};
 ghost use Rattle.spg_io.specs.Causes.{Rose};
 ghost use Rattle.spg_clauses.specs.declared.reason.Fault.{Fault};
 ghost use Rattle.spg_radix.specs.Texts.{is_bytes};
@@ -45,6 +45,7 @@ fn read_script<S: Source, G: Gate>(
     gate: &G,
 ) -> Result<Script, Status>
     ensures script { IfOk result (λ script. GaveScript (S.left source.old) (S.left source.new) script) }
+    ensures unfailed { OnOk result (S.faults source.new ≡ S.faults source.old) }
     ensures status { IfErr result (λ status. IsRefusal (S.left source.old) (S.left source.new) (S.faults source.old) (S.faults source.new) status) }
 {
     let bytes = match read_all(alloc, source) {

@@ -1,4 +1,4 @@
-ghost use Rattle.std.specs.Prelude.{◌<◌, ◌+◌, ◌^◌, ◌++◌, ◌∷◌, [], OnOk, OnErr, length};
+ghost use Rattle.std.specs.Prelude.{◌≡◌, ◌<◌, ◌+◌, ◌^◌, ◌++◌, ◌∷◌, [], OnOk, OnErr, length};
 ghost use Rattle.std.specs.Io.KnownBytes.{Appends};
 ghost use Rattle.spg_io.specs.Causes.{HasCauseIfFailed};
 ghost use Rattle.std.specs.List.{AllByRecursion};
@@ -21,6 +21,7 @@ pub fn write_line<K: Sink>(line: &mut Line, sink: &mut K) -> Result<(), IoRefuse
     ensures ok { OnOk result (Appends (K.contents sink.old) (K.contents sink.new) (line.old ++ 10 ∷ [])) }
     ensures err { OnErr result (WroteSome (K.contents sink.old) (K.contents sink.new) (line.old ++ 10 ∷ [])) }
     ensures cause { HasCauseIfFailed (K.faults sink.old) (K.faults sink.new) result }
+    ensures answered { OnOk result (K.faults sink.new ≡ K.faults sink.old) }
 {
     line.push(b'\n')?;
     write_all(sink, line.as_slice())
@@ -37,6 +38,7 @@ fn write_plain_results<K: Sink>(
     ensures fits { OnOk result (AllByRecursion FitsRecord records.now) }
     ensures few { OnOk result (1 + length records.now < 2 ^ 64) }
     ensures cause { HasCauseIfFailed (K.faults sink.old) (K.faults sink.new) result }
+    ensures answered { OnOk result (K.faults sink.new ≡ K.faults sink.old) }
 {
     for (index, one) in records.iter().enumerate() {
         line.clear();
@@ -60,6 +62,7 @@ fn write_valued_results<O: Spoken, K: Sink>(
     ensures fits { OnOk result (AllByRecursion FitsRecord records.now) }
     ensures few { OnOk result (1 + length records.now < 2 ^ 64) }
     ensures cause { HasCauseIfFailed (K.faults sink.old) (K.faults sink.new) result }
+    ensures answered { OnOk result (K.faults sink.new ≡ K.faults sink.old) }
 {
     let mut values = Vec::new(alloc);
     for (index, one) in records.iter().enumerate() {
@@ -83,6 +86,7 @@ fn write_results<O: Spoken, K: Sink>(
     ensures fits { OnOk result (AllByRecursion FitsRecord records.now) }
     ensures few { OnOk result (1 + length records.now < 2 ^ 64) }
     ensures cause { HasCauseIfFailed (K.faults sink.old) (K.faults sink.new) result }
+    ensures answered { OnOk result (K.faults sink.new ≡ K.faults sink.old) }
 {
     if !class.valued() {
         return write_plain_results(line, records, sink);
@@ -103,6 +107,7 @@ fn write_events<O: Spoken, K: Sink>(
     ensures fits { OnOk result (AllByRecursion FitsTypes journal.now) }
     ensures short { OnOk result (length journal.now < 2 ^ 64) }
     ensures cause { HasCauseIfFailed (K.faults sink.old) (K.faults sink.new) result }
+    ensures answered { OnOk result (K.faults sink.new ≡ K.faults sink.old) }
 {
     for (at, event) in journal.iter().enumerate() {
         line.clear();
@@ -124,6 +129,7 @@ pub fn write_text<O: Spoken, K: Sink>(
     ensures err { OnErr result (WroteSome (K.contents sink.old) (K.contents sink.new) (text O.speech journal.now records.now)) }
     ensures fits { OnOk result (RunFits journal.now records.now) }
     ensures cause { HasCauseIfFailed (K.faults sink.old) (K.faults sink.new) result }
+    ensures answered { OnOk result (K.faults sink.new ≡ K.faults sink.old) }
 {
     let mut line = Line::new(alloc);
     write_results(alloc, class, &mut line, journal, records, sink)?;

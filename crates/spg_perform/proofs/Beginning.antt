@@ -84,6 +84,7 @@ module _ {O Key Recon Cond : Type 0} (m : Meaning Key Recon Cond) (speech : Spee
     made = refl;
     images = still_told outside.held;
     faults = (omega arith, omega arith);
+    unfailed = λ none. refl;
   }
 
   pub performs : (script : Script) (blocks : List Part) (s0 s1 : Seen O Key Recon Cond) (h0 h1 : Option Holding) (f0 f1 : ℕ) (none done records : List Record)

@@ -25,7 +25,7 @@ use Rattle.spg_histories.proofs.Telling.{one_more}
 use Rattle.spg_commands.specs.Acted.{Acted}
 use Rattle.spg_perform.specs.Session.{AllClosed, told_of, ReadsBack, StillTell, is_image_fault, image_faults, RoseBy, LeadsOn, standing}
 use Rattle.spg_whole.proofs.Alone.{closed_again}
-use Rattle.spg_perform.proofs.LeadingImages.{faults_append, rose_then, Outward}
+use Rattle.spg_perform.proofs.LeadingImages.{faults_append, rose_then, Outward, stays_where}
 
 both_true : (a b : Bool) → (a && b) ≡ true → (a ≡ true) × (b ≡ true)
 both_true true b is = (refl, is)
@@ -99,4 +99,8 @@ module _ {O Key Recon Cond : Type 0} (m : Meaning Key Recon Cond) (speech : Spee
     made = acted.made ∙ was.made;
     images = outward.still start.held was.images;
     faults = subst (λ (n : ℕ). RoseBy n start.faults faults2) (sym (faults_append records r)) (rose_then (image_faults records) (is_image_fault r.outcome) start.faults faults faults2 was.faults outward.rose);
+    unfailed = λ none.
+        let before : image_faults records ≡ 0 = omega (arith, faults_append records r, none) in
+        let here : is_image_fault r.outcome ≡ 0 = omega (arith, faults_append records r, none) in
+        stays_where r.outcome faults faults2 outward.unless here ∙ was.unfailed before;
   }

@@ -16,7 +16,7 @@ use Rattle.spg_script.specs.Speech.{Speech}
 use Rattle.spg_report.specs.declared.record.Record.{Record}
 use Rattle.spg_commands.specs.Acted.{Acts, task_of}
 use Rattle.spg_perform.specs.Saved.{IsSaved}
-use Rattle.spg_perform.specs.Session.{AllClosed, is_image_fault, RoseBy, LeadsOn, standing}
+use Rattle.spg_perform.specs.Session.{AllClosed, is_image_fault, RoseBy, StaysUnless, LeadsOn, standing}
 use Rattle.spg_perform.proofs.LeadingImages.{SavesNone, Outward, inward, outward}
 use Rattle.spg_perform.proofs.Leading.{closes, leads}
 
@@ -33,12 +33,12 @@ module _ {O Key Recon Cond : Type 0} (m : Meaning Key Recon Cond) (speech : Spee
   }
 
   pub goes_saved : (s : Seen O Key Recon Cond) (held held2 : Option Holding) (faults faults2 : ℕ) (alone : Bool) (name : List ℕ) (r : Record) → (alone ≡ false → IsLaneCommand (Save name)) → Acts m speech s s seat true (Save name) r
-      → IsSaved code s.table held held2 name r.outcome → RoseBy (is_image_fault r.outcome) faults faults2 → Represents m (sheets_of s.table) (IsPresentWith (past_of s)) → Goes m speech code s s held held2 faults faults2 seat alone (Save name) r
-  goes_saved s held held2 faults faults2 true name r lane acts is rose holds = record {
+      → IsSaved code s.table held held2 name r.outcome → RoseBy (is_image_fault r.outcome) faults faults2 → StaysUnless r.outcome faults faults2 → Represents m (sheets_of s.table) (IsPresentWith (past_of s)) → Goes m speech code s s held held2 faults faults2 seat alone (Save name) r
+  goes_saved s held held2 faults faults2 true name r lane acts is rose unless holds = record {
     acts = acts;
-    calls = λ block. outward m speech code s.journal held faults r held2 faults2 s.table name block seat is rose (acts block).performed.from holds;
+    calls = λ block. outward m speech code s.journal held faults r held2 faults2 s.table name block seat is rose unless (acts block).performed.from holds;
   }
-  goes_saved s held held2 faults faults2 false name r lane acts is rose holds = absurd (lane refl)
+  goes_saved s held held2 faults faults2 false name r lane acts is rose unless holds = absurd (lane refl)
 
   module _ (s0 s1 : Seen O Key Recon Cond) (held held2 : Option Holding) (faults faults2 : ℕ) (alone : Bool) (c : Command) (r : Record) (goes : Goes m speech code s0 s1 held held2 faults faults2 seat alone c r) (closed : AllClosed (past_of s0)) (stage : IsStageOf (open_of seat (past_of s1)) (stage_at s1 seat)) where
     pub goes_closed : AllClosed (past_of s1)

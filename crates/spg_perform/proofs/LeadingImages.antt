@@ -23,7 +23,7 @@ use Rattle.spg_histories.specs.Pages.{HoldsAt}
 use Rattle.spg_histories.specs.Telling.{IsQuiet, is_save, SaveGave}
 use Rattle.spg_commands.specs.Acted.{task_of}
 use Rattle.spg_perform.specs.Saved.{TouchesOnly, IsSaved}
-use Rattle.spg_perform.specs.Session.{told_of, ReadsBack, StillTell, is_image_fault, image_faults, RoseBy}
+use Rattle.spg_perform.specs.Session.{told_of, ReadsBack, StillTell, is_image_fault, image_faults, RoseBy, StaysUnless}
 
 -- ---- the count of faults
 
@@ -33,6 +33,14 @@ faults_append (x ∷ records) r = omega (arith, faults_append records r)
 
 pub rose_then : (n k a b c : ℕ) → RoseBy n a b → RoseBy k b c → RoseBy (n + k) a c
 rose_then n k a b c first second = (omega (arith, first.0, second.0), omega (arith, first.0, first.1, second.0, second.1))
+
+stays_same : (o : Outcome) (n : ℕ) → StaysUnless o n n
+stays_same outcome.ImageFault n = tt
+stays_same o n = refl
+
+pub stays_where : (o : Outcome) (before now : ℕ) → StaysUnless o before now → is_image_fault o ≡ 0 → now ≡ before
+stays_where outcome.ImageFault before now stays none = absurd (omega (arith, none))
+stays_where o before now stays none = stays
 
 -- a command but a save
 abbrev pub SavesNone : Command → Type 0
@@ -76,6 +84,7 @@ pub record Outward {O Key Recon Cond : Type 0} (m : Meaning Key Recon Cond) (spe
   pub saved : (start : Option Holding) → StillTell start held → (name : List ℕ) → is_save name t.command ≡ true → SaveGave O m speech (ReadsBack code) (HoldsAt m journal) S r.span.from (told_of start held2 name) r.outcome
   pub kept : (start : Option Holding) → StillTell start held → (name : List ℕ) → is_save name t.command ≡ false → told_of start held2 name ≡ told_of start held name
   pub rose : RoseBy (is_image_fault r.outcome) faults faults2
+  pub unless : StaysUnless r.outcome faults faults2
 
 module _ {O Key Recon Cond : Type 0} (m : Meaning Key Recon Cond) (speech : Speech Key Cond) (code : ℕ) (journal : List (Event O Key Recon Cond)) (held : Option Holding) (faults : ℕ) (r : Record) where
   -- a command that calls no images
@@ -86,6 +95,7 @@ module _ {O Key Recon Cond : Type 0} (m : Meaning Key Recon Cond) (speech : Spee
     saved = λ start is name save. absurd (no_save name t.command none save);
     kept = λ start is name other. refl;
     rose = (omega arith, omega (arith, no_fault speech t before events r.outcome none does));
+    unless = stays_same r.outcome faults;
   }
 
   -- ---- a save
@@ -133,9 +143,9 @@ module _ {O Key Recon Cond : Type 0} (m : Meaning Key Recon Cond) (speech : Spee
         let past : past_at r.span.from journal ≡ reverse journal = ap reverse (take_all r.span.from journal (omega (arith, from))) in
         subst (λ (p : History O Key Recon Cond). Represents m (sheets_of t) (IsPresentWith p)) (sym past) holds
 
-    pub outward : (block seat : ℕ) → IsSaved code t held held2 name r.outcome → RoseBy (is_image_fault r.outcome) faults faults2 → r.span.from ≡ length journal → Represents m (sheets_of t) (IsPresentWith (reverse journal))
+    pub outward : (block seat : ℕ) → IsSaved code t held held2 name r.outcome → RoseBy (is_image_fault r.outcome) faults faults2 → StaysUnless r.outcome faults faults2 → r.span.from ≡ length journal → Represents m (sheets_of t) (IsPresentWith (reverse journal))
         → Outward m speech code journal (sheets_of t) held held2 faults faults2 (task_of block seat true (Save name)) r
-    outward block seat is rose from holds = record {
+    outward block seat is rose unless from holds = record {
       still = λ start tells. touched_still start held held2 (touches r.outcome is) tells;
       quiet = λ other save. refl;
       saved = λ start tells other save.
@@ -144,4 +154,5 @@ module _ {O Key Recon Cond : Type 0} (m : Meaning Key Recon Cond) (speech : Spee
       kept = λ start tells other save. touched_kept start held held2 other (touches r.outcome is) tells
           (λ same. let hit : bytes_eq name other ≡ true = (bytes_eq-Decides name other).1 (sym same) in let clash : true ≡ false = sym hit ∙ save in (cc));
       rose = rose;
+      unless = unless;
     }

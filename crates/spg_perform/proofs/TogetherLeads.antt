@@ -115,6 +115,7 @@ module _ {O Key Recon Cond : Type 0} (m : Meaning Key Recon Cond) (speech : Spee
           made = made ∙ S.made;
           images = S.images;
           faults = subst (λ (n : ℕ). RoseBy n start.faults faults) (sym (faults_none records added (no_faults s1.journal tasks added lanes block.each))) S.faults;
+          unfailed = λ nothing. S.unfailed (sym (faults_none records added (no_faults s1.journal tasks added lanes block.each)) ∙ nothing);
         }
 
     -- the lanes ran beside each other

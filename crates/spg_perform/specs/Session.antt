@@ -57,6 +57,11 @@ image_faults (r ∷ records) = is_image_fault r.outcome + image_faults records
 abbrev pub RoseBy : ℕ → ℕ → ℕ → Type 0
 RoseBy n before now = (before ≤ now) × (min (before + n) (2 ^ 64 - 1) ≤ now)
 
+-- the count of faults stays where an outcome is no image fault
+abbrev pub StaysUnless : Outcome → ℕ → ℕ → Type 0
+StaysUnless outcome.ImageFault before now = ⊤
+StaysUnless o before now = now ≡ before
+
 -- ---- a run as far as it has come
 
 -- These commands were done, from a journal with the events of these entries, a state of this origin and images outside, and led to a state and to images, with these records
@@ -69,6 +74,8 @@ pub record Session {O Key Recon Cond : Type 0} (m : Meaning Key Recon Cond) (spe
   pub made : seen.origin ≡ origin
   pub images : StillTell start.held now.held
   pub faults : RoseBy (image_faults records) start.faults now.faults
+  -- where no record says `image fault` no call on the images failed
+  pub unfailed : image_faults records ≡ 0 → now.faults ≡ start.faults
 
 -- a state, images outside, and the records of the commands so far
 pub record Standing (O Key Recon Cond : Type 0) : Type 0 where

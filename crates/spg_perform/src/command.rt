@@ -4,7 +4,7 @@ ghost use Rattle.spg_core.specs.Seen.{stage_at, past_of};
 ghost use Rattle.spg_script.specs.Line.{is_name};
 ghost use Rattle.spg_script.specs.declared.command.Command.TheVariants as asked;
 ghost use Rattle.spg_report.specs.declared.record.Record.{Record as Done};
-ghost use Rattle.spg_perform.specs.Session.{AllClosed, LeadsOn, RoseBy, is_image_fault, standing};
+ghost use Rattle.spg_perform.specs.Session.{AllClosed, LeadsOn, RoseBy, StaysUnless, is_image_fault, standing};
 ghost use Rattle.spg_perform.specs.Saved.{IsSaved};
 ghost use Rattle.spg_commands.specs.Acted.{Acts, CanBeDone, task_of};
 
@@ -36,6 +36,7 @@ fn saved<O: Spoken, M: Images>(
     ensures acts { Acts O.meaning O.speech state.now state.now seat true (asked.Save name.now) result }
     ensures saved { IsSaved O.code_number state.now.table (M.held images.old) (M.held images.new) name.now result.outcome }
     ensures faults { RoseBy (is_image_fault result.outcome) (M.faults images.old) (M.faults images.new) }
+    ensures stays { StaysUnless result.outcome (M.faults images.old) (M.faults images.new) }
 {
     let from = position(state);
     let outcome = save(state, images, name);

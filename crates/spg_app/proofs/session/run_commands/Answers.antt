@@ -6,7 +6,7 @@ use Rattle.spg_app.specs.Ending.{writing_of}
 use Rattle.spg_app.proofs.Bounded.{late_records, sure_records}
 use Rattle.spg_app.proofs.Begins.{left_read, memory_unbegun, unbegun_as}
 use Rattle.spg_app.proofs.Earlier.{from_earlier}
-use Rattle.spg_app.proofs.Outcomes.{wrote_as, cause_of, fits_as, text_same}
+use Rattle.spg_app.proofs.Outcomes.{wrote_as, cause_of, unfailed_of, fits_as, text_same}
 use Rattle.spg_perform.specs.Session.{IsOfClass}
 use Rattle.spg_app.proofs.RunEnds.{ran_ends, unbegun_ends}
 use Rattle.spg_app.proofs.session.run_commands.Goals as goal
@@ -34,11 +34,12 @@ returns-in-Ok-perform g c =
       origin = c.in-Ok.state.origin;
       begun = begun.begins;
       records = c.in-Ok-perform.records;
-      session = from_earlier _ _ g.O.Spoken.speech _ begun.loaded _ _ _ _ _ _ _ (left_read _ _ _ c.in-Ok.ensures.left) done;
+      session = from_earlier _ _ g.O.Spoken.speech _ begun.loaded _ _ _ _ _ _ _ (left_read _ _ _ c.in-Ok.ensures.left) c.in-Ok.ensures.unfailed done;
       writing = writing_of c.write_text-written.result;
       wrote = wrote_as c.write_text-written.result _ _ _ _ (text_same g.O.Spoken.speech _ _ _ _ (c.as_slice-events.ensures ∙ c.journal.ensures.events) c.as_slice.ensures) c.write_text-written.ensures.ok c.write_text-written.ensures.err;
       fits = fits_as c.write_text-written.result _ _ _ _ (c.as_slice-events.ensures ∙ c.journal.ensures.events) c.as_slice.ensures c.write_text-written.ensures.fits;
       cause = cause_of c.write_text-written.result _ _ c.write_text-written.ensures.cause;
+      unfailed = unfailed_of c.write_text-written.result _ _ c.write_text-written.ensures.answered;
       status_is = c.status_after-status.ensures ∙ ap (λ rs. status_after (writing_of c.write_text-written.result) rs) c.as_slice-in-Ok-perform.ensures;
       late = late_records _ _ _ _ _ _ _ _ _ _ c.journal.ensures.whole done;
       sure = sure_records _ _ _ _ _ _ _ _ _ _ c.journal.ensures.whole done;

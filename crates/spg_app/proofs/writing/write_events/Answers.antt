@@ -16,7 +16,7 @@ loop-at-preserved g c = record {
       (event_lines-more g.O.Spoken.speech c.loop-at.at c.args.journal.now c.loop-at.at c.index-journal-at.result (omega arith) c.index-journal-at.is
       ∙ ap (λ l. (l ++ 10 ∷ []) ++ ended (event_lines g.O.Spoken.speech (c.loop-at.at + 1) (drop (c.loop-at.at + 1) c.args.journal.now))) (sym (put_on_clear _ _ _ c.clear.ensures c.in_ok-push_event.ensures.text)));
   fits = all_more FitsTypes c.args.journal.now c.loop-at.at c.index-journal-at.result (omega arith) c.index-journal-at.is c.loop-at.invariant.fits (record { seat = c.in_ok-push_event.ensures.seat; fits = c.in_ok-push_event.ensures.fits });
-  later = omega (arith, c.loop-at.invariant.later, c.in_ok-write_line.ensures.cause.later);
+  same = c.in_ok-write_line.ensures.answered ∙ c.loop-at.invariant.same;
 }
 
 pub returns-clause-fits : goal.returns-clause-fits

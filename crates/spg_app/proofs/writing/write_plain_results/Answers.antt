@@ -16,7 +16,7 @@ loop-index-preserved g c = record {
       (plain_lines-more (c.loop-index.index + 1) c.args.records.now c.loop-index.index c.index-records-index.result (omega arith) c.index-records-index.is
       ∙ ap (λ l. (l ++ 10 ∷ []) ++ ended (plain_lines ((c.loop-index.index + 1) + 1) (drop (c.loop-index.index + 1) c.args.records.now))) (sym (put_on_clear _ _ _ c.clear.ensures c.in_ok-push_plain_result.ensures.text)));
   fits = all_more FitsRecord c.args.records.now c.loop-index.index c.index-records-index.result (omega arith) c.index-records-index.is c.loop-index.invariant.fits c.in_ok-push_plain_result.ensures.fits;
-  later = omega (arith, c.loop-index.invariant.later, c.in_ok-write_line.ensures.cause.later);
+  same = c.in_ok-write_line.ensures.answered ∙ c.loop-index.invariant.same;
 }
 
 pub returns-clause-fits : goal.returns-clause-fits

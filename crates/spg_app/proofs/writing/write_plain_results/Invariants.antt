@@ -1,4 +1,4 @@
-use Rattle.std.proofs.Common.{◌≤◌, ◌+◌, drop, take}
+use Rattle.std.proofs.Common.{◌≡◌, ◌+◌, drop, take}
 use Rattle.std.specs.List.{AllByRecursion}
 use Rattle.spg_app.specs.Io.{Wrote}
 use Rattle.spg_report.specs.Text.{ended, plain_lines}
@@ -9,5 +9,5 @@ abbrev pub invariant-loop-index : goal.invariant-loop-index
 invariant-loop-index g l = record {
   wrote : Wrote (g.K.Sink.contents l.initial.sink) (g.K.Sink.contents l.sink) (ended (plain_lines 1 l.records)) (ended (plain_lines (l.index + 1) (drop l.index l.records)));
   fits : AllByRecursion FitsRecord (take l.index l.records);
-  later : g.K.Sink.faults l.initial.sink ≤ g.K.Sink.faults l.sink;
+  same : g.K.Sink.faults l.sink ≡ g.K.Sink.faults l.initial.sink;
 }

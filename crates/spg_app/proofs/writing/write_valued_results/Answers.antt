@@ -1,4 +1,4 @@
-use Rattle.std.proofs.Common.{◌+◌, ◌++◌, ◌∷◌, [], drop, sym, ap, ◌∙◌, arith}
+use Rattle.std.proofs.Common.{◌+◌, ◌++◌, ◌∷◌, [], drop, sym, ap, ◌∙◌, arith, refl}
 use Rattle.spg_report.specs.Text.{ended, result_lines}
 use Rattle.spg_app.specs.Io.{WroteSome}
 use Rattle.spg_report.specs.Told.{FitsRecord}
@@ -17,14 +17,14 @@ loop-index-preserved g c = record {
       (result_lines-more g.O.Spoken.speech c.args.inserts.now (c.loop-index.index + 1) c.args.records.now c.loop-index.index c.index-records-index.result (omega arith) c.index-records-index.is
       ∙ ap (λ l. (l ++ 10 ∷ []) ++ ended (result_lines g.O.Spoken.speech c.args.inserts.now ((c.loop-index.index + 1) + 1) (drop (c.loop-index.index + 1) c.args.records.now))) (sym (put_on_clear _ _ _ c.clear.ensures c.in_ok-push_valued_result.ensures.text)));
   fits = all_more FitsRecord c.args.records.now c.loop-index.index c.index-records-index.result (omega arith) c.index-records-index.is c.loop-index.invariant.fits c.in_ok-push_valued_result.ensures.fits;
-  later = omega (arith, c.loop-index.invariant.later, c.in_ok-write_line.ensures.cause.later);
+  same = c.in_ok-write_line.ensures.answered ∙ c.loop-index.invariant.same;
 }
 
 pub returns-clause-fits : goal.returns-clause-fits
 returns-clause-fits g c = all_taken FitsRecord c.args.records.now c.loop-index.index (omega arith) c.loop-index.invariant.fits
 
 pub loop-index-init : goal.loop-index-init
-loop-index-init g c = record { wrote = Wrote-none _ _; fits = tt; later = omega arith }
+loop-index-init g c = record { wrote = Wrote-none _ _; fits = tt; same = refl }
 
 pub returns-in_err-push_valued_result-clause-err : goal.returns-in_err-push_valued_result-clause-err
 returns-in_err-push_valued_result-clause-err g c =

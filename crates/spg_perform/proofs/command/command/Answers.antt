@@ -21,7 +21,7 @@ goes g c = elim c.match-command.branch [
       subst (λ (s : Seen g.row.O.Denot g.row.O-Key.Denot g.row.O-Recon.Denot g.row.O-Cond.Denot). Represents g.O.OpClass.meaning (sheets_of s.table) (IsPresentWith (past_of s))) w.state-is c.pages.ensures.represents in
       rw (w.state-is, w.images-is, w.done-is, w.in-Save.is)
       (goes_saved g.O.OpClass.meaning g.O.Spoken.speech g.O.OpClass.code_number c.args.seat c.args.state.now (g.M.Images.held c.args.images.now) (g.M.Images.held w.saved-done.new.images) (g.M.Images.faults c.args.images.now) (g.M.Images.faults w.saved-done.new.images) true _
-      w.saved-done.result lane w.saved-done.ensures.acts w.saved-done.ensures.saved w.saved-done.ensures.faults holds)
+      w.saved-done.result lane w.saved-done.ensures.acts w.saved-done.ensures.saved w.saved-done.ensures.faults w.saved-done.ensures.stays holds)
   | in-Stat w ↦ rw (w.state-is, w.images-is, w.done-is, w.in-Stat.is) (goes_inward g.O.OpClass.meaning g.O.Spoken.speech g.O.OpClass.code_number c.args.seat c.args.state.now c.args.state.now (g.M.Images.held c.args.images.now) (g.M.Images.faults c.args.images.now) true _ w.stat-done.result tt (w.stat-done.ensures true))
   | in-Near w ↦ rw (w.state-is, w.images-is, w.done-is, w.in-Near.is) (goes_inward g.O.OpClass.meaning g.O.Spoken.speech g.O.OpClass.code_number c.args.seat c.args.state.now w.near-done.new.state (g.M.Images.held c.args.images.now) (g.M.Images.faults c.args.images.now) true _ w.near-done.result tt w.near-done.ensures)
   | in-Vacuum w ↦ rw (w.state-is, w.images-is, w.done-is, w.in-Vacuum.is) (goes_inward g.O.OpClass.meaning g.O.Spoken.speech g.O.OpClass.code_number c.args.seat c.args.state.now w.vacuum-done.new.state (g.M.Images.held c.args.images.now) (g.M.Images.faults c.args.images.now) true _ w.vacuum-done.result tt (w.vacuum-done.ensures true))
