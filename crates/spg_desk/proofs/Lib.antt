@@ -8,3 +8,4 @@ pub mod Finding
 pub mod Nearing
 pub mod Sweeping
 pub mod Moments
+pub mod Progress

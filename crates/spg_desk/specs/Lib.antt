@@ -5,3 +5,4 @@ pub mod Passes
 pub mod Answers
 pub mod Acting
 pub mod Looks
+pub mod Progress

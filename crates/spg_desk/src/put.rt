@@ -6,8 +6,10 @@ ghost use Rattle.spg_core.specs.Seen.{stage_at, past_of};
 ghost use Rattle.spg_core.specs.Stage.{IsInserting, MayGiveUp};
 ghost use Rattle.spg_core.specs.Stepping.{IsNearLimit};
 ghost use Rattle.spg_core.specs.Sections.{IsHeavy, GivesUp};
+ghost use Rattle.spg_core.specs.Looking.{IsSpotted, IsBunch};
 ghost use Rattle.spg_bounds.specs.Bounds.{IsLate};
 ghost use Rattle.spg_desk.specs.Acting.{IsPutting, LooksPut, StepsPut, ended_of};
+ghost use Rattle.spg_desk.specs.Progress.{GoesOn, LooksOn, refused_end};
 
 use crate::ended::{Ended, Looked};
 use spg_base::SeatNo;
@@ -39,16 +41,22 @@ fn give_up<O: OpClass>(bare: &mut Bare<O>, seat: SeatNo, why: Why)
 }
 
 /// Looks at the seat's insert, and does its next section where the class has no say in it. After a
-/// refusal the insert is given up.
+/// refusal the insert is given up. It goes on only where a section was done, or the class is asked.
 pub(crate) fn look_on<O: OpClass>(bare: &mut Bare<O>, seat: SeatNo) -> Looked<O>
     requires inserting { IsInserting (stage_at bare.old seat) }
-    ensures { (row : RowAt) (key : Option O.Key) → IsPutting row key (stage_at bare.old seat) → LooksPut O.meaning bare.old bare.new seat row key result }
+    ensures puts { (row : RowAt) (key : Option O.Key) → IsPutting row key (stage_at bare.old seat) → LooksPut O.meaning bare.old bare.new seat row key result }
+    ensures on { LooksOn O.meaning bare.old bare.new seat result }
 {
     match bare.insert_look(seat) {
         Ok(Look::Stepped(out)) => Looked::Stepped(ended(&out)),
         Ok(Look::Choose(spotted)) => Looked::Choose(spotted),
-        Ok(Look::Part(bunch)) if bunch.rests().len() > 0 => Looked::Part(bunch),
-        Ok(Look::Part(_)) => Looked::Stepped(None),
+        Ok(Look::Part(bunch)) => {
+            if bunch.rests().len() > 0 {
+                Looked::Part(bunch)
+            } else {
+                Looked::Stepped(None)
+            }
+        }
         Err(StepRefused::IndexFull) => {
             give_up(bare, seat, Why::Full);
             Looked::Stepped(Some(Ended::Full))
@@ -69,7 +77,8 @@ fn refuse<O: OpClass>(bare: &mut Bare<O>, seat: SeatNo, refused: ApplyRefused) -
     requires inserting { IsInserting (stage_at bare.old seat) }
     requires full { refused ≡ apply_refused.IndexFull → IsHeavy O.meaning bare.old seat × IsNearLimit bare.old.table }
     requires clock { refused ≡ apply_refused.ClockFull → IsHeavy O.meaning bare.old seat × (bare.old.table.clock + 1 ≡ 2 ^ 48) }
-    ensures { (row : RowAt) (key : Option O.Key) → IsPutting row key (stage_at bare.old seat) → StepsPut O.meaning bare.old bare.new seat row key result }
+    ensures end { result ≡ refused_end refused }
+    ensures puts { (row : RowAt) (key : Option O.Key) → IsPutting row key (stage_at bare.old seat) → StepsPut O.meaning bare.old bare.new seat row key result }
 {
     match refused {
         ApplyRefused::Changed => None,
@@ -96,7 +105,8 @@ pub(crate) fn choose_on<O: OpClass>(
     chosen: &Chosen<O>,
 ) -> Option<Ended>
     requires inserting { IsInserting (stage_at bare.old seat) }
-    ensures { (row : RowAt) (key : Option O.Key) → IsPutting row key (stage_at bare.old seat) → StepsPut O.meaning bare.old bare.new seat row key result }
+    ensures puts { (row : RowAt) (key : Option O.Key) → IsPutting row key (stage_at bare.old seat) → StepsPut O.meaning bare.old bare.new seat row key result }
+    ensures on { GoesOn O.meaning bare.old bare.new seat (IsSpotted bare.old seat chosen.now) result }
 {
     match bare.insert_choose(seat, chosen) {
         Ok(out) => ended(&out),
@@ -111,7 +121,8 @@ pub(crate) fn part_on<O: OpClass>(
     parted: &Parted<O>,
 ) -> Option<Ended>
     requires inserting { IsInserting (stage_at bare.old seat) }
-    ensures { (row : RowAt) (key : Option O.Key) → IsPutting row key (stage_at bare.old seat) → StepsPut O.meaning bare.old bare.new seat row key result }
+    ensures puts { (row : RowAt) (key : Option O.Key) → IsPutting row key (stage_at bare.old seat) → StepsPut O.meaning bare.old bare.new seat row key result }
+    ensures on { GoesOn O.meaning bare.old bare.new seat (IsBunch bare.old seat parted.now) result }
 {
     match bare.insert_part(seat, parted) {
         Ok(out) => ended(&out),

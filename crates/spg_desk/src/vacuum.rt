@@ -9,6 +9,7 @@ ghost use Rattle.spg_core.specs.Stage.{free, IsSweeping};
 ghost use Rattle.spg_core.specs.Sections.{OpensVacuum};
 ghost use Rattle.spg_desk.specs.Knowing.{IsAtRest, doing_at};
 ghost use Rattle.spg_desk.specs.Told.{Told};
+ghost use Rattle.spg_desk.specs.Progress.{SweepsOn};
 ghost use Rattle.spg_desk.specs.Acting.{HasVacuum, sweep_end, StepsSweep, OpensSweep, TellsSweep, EndsSweep};
 ghost use Rattle.spg_desk.specs.Passes.{desk_id, desk_of, view_of};
 ghost use Rattle.spg_desk.specs.Answers.{DidVacuum, refused_vacuum, ended_vacuum};
@@ -24,11 +25,12 @@ use spg_opclass::OpClass;
 use spg_rows::Why;
 use std::sync::Wait;
 
-/// Opens a vacuum. `Open` only where that seat has one open.
+/// Opens a vacuum. `Open` only where that seat has one open, and `Memory` only where none has.
 fn open_on<O: OpClass>(bare: &mut Bare<O>, seat: SeatNo) -> Result<(), VacuumRefused>
     requires free { stage_at bare.old seat ≡ free }
     ensures ok { OnOk result (OpensVacuum bare.old bare.new seat) }
     ensures open { (by : ℕ) → IsErrOf result (VacuumRefused.Open by) → HasVacuum (past_of bare.old) by }
+    ensures memory { IsErrOf result VacuumRefused.Memory → (by : ℕ) → IsSweeping (stage_at bare.old by) → ⊥ }
     ensures err { OnErr result (bare.new ≡ bare.old) }
 {
     let opened = bare.open_vacuum(seat);
@@ -39,10 +41,12 @@ fn open_on<O: OpClass>(bare: &mut Bare<O>, seat: SeatNo) -> Result<(), VacuumRef
     opened
 }
 
-/// Does the next section of the seat's vacuum. After a refusal the vacuum is given up.
+/// Does the next section of the seat's vacuum. After a refusal the vacuum is given up. It goes on only
+/// where a section was done that did not end it, or another seat holds the block.
 fn sweep_on<O: OpClass>(bare: &mut Bare<O>, seat: SeatNo) -> Swept
     requires sweeping { IsSweeping (stage_at bare.old seat) }
-    ensures { StepsSweep bare.old bare.new seat result }
+    ensures steps { StepsSweep bare.old bare.new seat result }
+    ensures on { SweepsOn bare.old bare.new seat result }
 {
     match &bare.vacuum_step(seat) {
         Ok(VacuumOut::Block | VacuumOut::Pending | VacuumOut::Latched { .. }) => Swept::On,

@@ -15,17 +15,17 @@ pub leave-going-requires-clause-grown : goal.leave-going-requires-clause-grown
 leave-going-requires-clause-grown g c =
     let v = pass_view c.args.going.pass in
     let e = c.enter-held.ensures in
-    look_grown g.O.OpClass.meaning v (held_view c.enter-held.result) (held_state c.enter-held.result) c.state_mut.result.now c.look_on-looked.new.bare c.seat-seat.result c.look_on-looked.result e.view c.state_mut.ensures.value c.seat-seat.ensures e.stage c.requires.putting c.look_on-looked.ensures
+    look_grown g.O.OpClass.meaning v (held_view c.enter-held.result) (held_state c.enter-held.result) c.state_mut.result.now c.look_on-looked.new.bare c.seat-seat.result c.look_on-looked.result e.view c.state_mut.ensures.value c.seat-seat.ensures e.stage c.requires.putting c.look_on-looked.ensures.puts
 
 pub leave-going-requires-clause-origin : goal.leave-going-requires-clause-origin
 leave-going-requires-clause-origin g c =
     let v = pass_view c.args.going.pass in
     let e = c.enter-held.ensures in
-    look_origin g.O.OpClass.meaning v (held_view c.enter-held.result) (held_state c.enter-held.result) c.state_mut.result.now c.look_on-looked.new.bare c.seat-seat.result c.look_on-looked.result e.view c.state_mut.ensures.value c.seat-seat.ensures e.stage c.requires.putting c.look_on-looked.ensures e.origin
+    look_origin g.O.OpClass.meaning v (held_view c.enter-held.result) (held_state c.enter-held.result) c.state_mut.result.now c.look_on-looked.new.bare c.seat-seat.result c.look_on-looked.result e.view c.state_mut.ensures.value c.seat-seat.ensures e.stage c.requires.putting c.look_on-looked.ensures.puts e.origin
 
 pub returns-clause-told : goal.returns-clause-told
 returns-clause-told g c =
     let v = pass_view c.args.going.pass in
     let e = c.enter-held.ensures in
     let l = c.leave-going.ensures in
-    look_told g.O.OpClass.meaning v (held_view c.enter-held.result) (pass_view c.leave-going.result.0.pass) (held_state c.enter-held.result) c.state_mut.result.now c.look_on-looked.new.bare c.seat-seat.result c.leave-going.result.1 c.look_on-looked.result e.view c.state_mut.ensures.value c.seat-seat.ensures e.watched e.stage c.requires.putting c.look_on-looked.ensures e.origin l.seen l.span l.told
+    look_told g.O.OpClass.meaning v (held_view c.enter-held.result) (pass_view c.leave-going.result.0.pass) (held_state c.enter-held.result) c.state_mut.result.now c.look_on-looked.new.bare c.seat-seat.result c.leave-going.result.1 c.look_on-looked.result e.view c.state_mut.ensures.value c.seat-seat.ensures e.watched e.stage c.requires.putting c.look_on-looked.ensures.puts e.origin l.seen l.span l.told

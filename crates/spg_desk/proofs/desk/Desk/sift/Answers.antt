@@ -16,11 +16,11 @@ pub leave-going-requires-clause-grown : goal.leave-going-requires-clause-grown
 leave-going-requires-clause-grown g c =
     let v = pass_view c.args.going.pass in
     let e = c.enter-held.ensures in
-    section_grown v (held_view c.enter-held.result) (held_state c.enter-held.result) c.state_mut.result.now c.sift_on-read.new.bare c.seat-seat.result (λ n. readings n c.sift_on-read.result) e.view c.state_mut.ensures.value c.seat-seat.ensures (readings_each c.sift_on-read.result) (c.sift_on-read.ensures)
+    section_grown v (held_view c.enter-held.result) (held_state c.enter-held.result) c.state_mut.result.now c.sift_on-read.new.bare c.seat-seat.result (λ n. readings n c.sift_on-read.result) e.view c.state_mut.ensures.value c.seat-seat.ensures (readings_each c.sift_on-read.result) (c.sift_on-read.ensures.adds)
 
 pub returns-clause-told : goal.returns-clause-told
 returns-clause-told g c =
     let v = pass_view c.args.going.pass in
     let e = c.enter-held.ensures in
     section_did g.O.OpClass.meaning v (held_view c.enter-held.result) (pass_view c.leave-going.result.0.pass) (held_state c.enter-held.result) c.state_mut.result.now c.sift_on-read.new.bare c.seat-seat.result c.leave-going.result.1 (λ n. readings n c.sift_on-read.result)
-    e.view c.state_mut.ensures.value c.seat-seat.ensures e.watched (c.sift_on-read.ensures) c.leave-going.ensures.told
+    e.view c.state_mut.ensures.value c.seat-seat.ensures e.watched (c.sift_on-read.ensures.adds) c.leave-going.ensures.told

@@ -20,17 +20,17 @@ pub leave-going-requires-clause-grown : goal.leave-going-requires-clause-grown
 leave-going-requires-clause-grown g c =
     let v = pass_view c.args.going.pass in
     let e = c.enter-held.ensures in
-    let s = c.sweep_on-swept.ensures in
+    let s = c.sweep_on-swept.ensures.steps in
     section_grown v (held_view c.enter-held.result) (held_state c.enter-held.result) c.state_mut.result.now c.sweep_on-swept.new.bare c.seat-seat.result (λ n. sweepings n s.0 c.sweep_on-swept.result) e.view c.state_mut.ensures.value c.seat-seat.ensures (sweepings_each (λ n. sweepings n s.0 c.sweep_on-swept.result) s.0 c.sweep_on-swept.result (λ n. refl)) s.1
 
 pub leave-going-requires-clause-origin : goal.leave-going-requires-clause-origin
 leave-going-requires-clause-origin g c =
     let e = c.enter-held.ensures in
-    section_origin (held_view c.enter-held.result) (held_state c.enter-held.result) c.state_mut.result.now c.sweep_on-swept.new.bare _ c.state_mut.ensures.value e.origin c.sweep_on-swept.ensures.1
+    section_origin (held_view c.enter-held.result) (held_state c.enter-held.result) c.state_mut.result.now c.sweep_on-swept.new.bare _ c.state_mut.ensures.value e.origin c.sweep_on-swept.ensures.steps.1
 
 pub returns-clause-told : goal.returns-clause-told
 returns-clause-told g c =
     let v = pass_view c.args.going.pass in
     let e = c.enter-held.ensures in
-    sweep_told g.O.OpClass.meaning v (held_view c.enter-held.result) (pass_view c.leave-going.result.0.pass) (held_state c.enter-held.result) c.state_mut.result.now c.sweep_on-swept.new.bare c.seat-seat.result c.leave-going.result.1 c.sweep_on-swept.ensures.0 c.sweep_on-swept.result
-    e.view c.state_mut.ensures.value c.seat-seat.ensures e.watched e.lent c.requires.sweeping c.sweep_on-swept.ensures.1 c.leave-going.ensures.seen c.leave-going.ensures.told
+    sweep_told g.O.OpClass.meaning v (held_view c.enter-held.result) (pass_view c.leave-going.result.0.pass) (held_state c.enter-held.result) c.state_mut.result.now c.sweep_on-swept.new.bare c.seat-seat.result c.leave-going.result.1 c.sweep_on-swept.ensures.steps.0 c.sweep_on-swept.result
+    e.view c.state_mut.ensures.value c.seat-seat.ensures e.watched e.lent c.requires.sweeping c.sweep_on-swept.ensures.steps.1 c.leave-going.ensures.seen c.leave-going.ensures.told
