@@ -24,7 +24,7 @@ front_has [] ys r h = absurd h
 front_has (x ∷ xs) ys r (inl e) = inl e
 front_has (x ∷ xs) ys r (inr h) = inr (front_has xs ys r h)
 
-front_distinct : (xs ys : List RowAt) → AreDistinct (xs ++ ys) → AreDistinct xs
+pub front_distinct : (xs ys : List RowAt) → AreDistinct (xs ++ ys) → AreDistinct xs
 front_distinct [] ys d = tt
 front_distinct (x ∷ xs) ys (n, d) = (λ h. n (front_has xs ys x h), front_distinct xs ys d)
 

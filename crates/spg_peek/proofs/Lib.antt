@@ -1,3 +1,4 @@
 pub mod Copied
 pub mod Peeks
 pub mod Firsts
+pub mod Handing

@@ -62,6 +62,7 @@ module _ {O Key Recon Cond : Type 0} (m : Meaning Key Recon Cond) (seen : Seen O
       };
       query = query;
       same = same;
+      more = (R.found, ap (λ (z : Scanning O Key Recon Cond). z.rows) R.after);
       fewer = fewer_left m (over s) (over s) next 0 i Read holds.shape (s.query, N.rest) (reads_nothing m (over s) 0) item refl;
     }
       where

@@ -1,5 +1,5 @@
 -- What a search answers that only reads the index.
-use Rattle.std.specs.Prelude.{◌≡◌, ◌⊎◌, ◌<◌, ◌≤◌, ℕ, List, [], ◌∷◌, Contains, length, take, IsPermutation, ⊤}
+use Rattle.std.specs.Prelude.{◌≡◌, ◌⊎◌, ◌↔◌, ◌<◌, ◌≤◌, ◌++◌, ℕ, List, [], ◌∷◌, Contains, length, take, IsPermutation, Option, Some, None, ⊤}
 use Rattle.std.specs.List.Sorted.{IsSorted, IsStrictlySortedBy}
 use Rattle.spg_base.specs.Row.{RowAt, row_cmp}
 use Rattle.spg_opclass.specs.Meaning.{Meaning}
@@ -40,11 +40,16 @@ pub record OpensNow {O Key Recon Cond : Type 0} (m : Meaning Key Recon Cond) (se
   pub query : s.query ≡ Where conds
   pub none : s.rows ≡ []
 
+-- the second list begins with the first
+abbrev pub Begins : List RowAt → List RowAt → Type 0
+Begins rows all = (more : List RowAt) × (all ≡ rows ++ more)
+
 -- an item was read, these are the rows found since the opening, and fewer reads are left
 pub record ReadsNow {O Key Recon Cond : Type 0} (m : Meaning Key Recon Cond) (seen : Seen O Key Recon Cond) (s s2 : Scanning O Key Recon Cond) (found : List RowAt) : Type 0 where
   pub now : IsScanNow m seen s2
   pub query : s2.query ≡ s.query
   pub same : found ≡ s2.rows
+  pub more : Begins s.rows s2.rows
   pub fewer : reads_left m (sheets_of seen.table) (reading s2) < reads_left m (sheets_of seen.table) (reading s)
 
 -- items were read until none was left, or so many rows were found
@@ -52,6 +57,7 @@ pub record ReadsTo {O Key Recon Cond : Type 0} (m : Meaning Key Recon Cond) (see
   pub now : IsScanNow m seen s2
   pub query : s2.query ≡ s.query
   pub same : found ≡ s2.rows
+  pub more : Begins s.rows s2.rows
   pub end : (s2.items ≡ []) ⊎ (limit ≤ length found)
 
 -- the first of the same rows in order
@@ -60,3 +66,26 @@ pub record AreFirst (limit : ℕ) (found rows : List RowAt) : Type 0 where
   pub moved : IsPermutation found sorted
   pub rises : IsSorted row_cmp sorted
   pub first : rows ≡ take limit sorted
+
+-- ---- row by row
+
+-- a scan, the rows that it found, and how many of them were handed out
+pub record Reading (O Key Recon Cond : Type 0) : Type 0 where
+  pub scan : Scanning O Key Recon Cond
+  pub found : List RowAt
+  pub told : ℕ
+
+-- the rows that were handed out
+abbrev pub handed : {O Key Recon Cond : Type 0} → Reading O Key Recon Cond → List RowAt
+handed r = take r.told r.found
+
+-- the reader goes over the index as it stands
+pub record ReadsOver {O Key Recon Cond : Type 0} (m : Meaning Key Recon Cond) (seen : Seen O Key Recon Cond) (r : Reading O Key Recon Cond) : Type 0 where
+  pub now : IsScanNow m seen r.scan
+  pub same : r.found ≡ r.scan.rows
+  pub told : r.told ≤ length r.found
+
+-- one more row that the query asks for, which was not handed out before; or none: then those that were, in order, are the answer
+abbrev pub HandsOut : {O Key Recon Cond : Type 0} → Meaning Key Recon Cond → History O Key Recon Cond → Query O Key Recon Cond → List RowAt → List RowAt → Option RowAt → Type 0
+HandsOut m past query before after (Some row) = (after ≡ before ++ row ∷ []) × IsAsked m past query row × (Contains before row → ⊥)
+HandsOut m past query before after None = (after ≡ before) × ((rows : List RowAt) → IsStrictlySortedBy row_cmp rows → ((r : RowAt) → Contains rows r ↔ Contains before r) → IsAnswer m past query rows)

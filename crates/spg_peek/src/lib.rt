@@ -3,6 +3,8 @@
 #![tactic(auto)]
 
 mod read;
+mod reader;
 mod some;
 
+pub use reader::Reader;
 pub use some::find_some;

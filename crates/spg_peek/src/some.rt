@@ -15,7 +15,7 @@ use spg_whole::Index;
 use std::alloc::Global;
 
 /// A scan of these conditions, at this moment.
-fn open_now<O: OpClass>(
+pub(crate) fn open_now<O: OpClass>(
     alloc: Global,
     state: &State<O>,
     conds: List<O::Cond>,
@@ -33,7 +33,7 @@ fn open_now<O: OpClass>(
 
 /// Reads what a scan holds, the last item first, until it holds nothing or so many rows are found. Each read
 /// leaves fewer to do.
-fn read_to<O: OpClass>(
+pub(crate) fn read_to<O: OpClass>(
     alloc: Global,
     state: &State<O>,
     scan: &mut Scan<O>,

@@ -1,5 +1,5 @@
 use spg_base::{List, Memory, Point, PointCond, Row};
-use spg_peek::find_some;
+use spg_peek::{Reader, find_some};
 use spg_quad::Quad;
 use spg_whole::Index;
 use std::alloc::Global;
@@ -36,5 +36,21 @@ fn finds_as_many_as_are_wanted(rt: HostRuntime) -> Result<(), Fail> {
         all.as_slice(),
         [Row::at(1, 7), Row::at(1, 8), Row::at(1, 9)].as_slice()
     );
+    Ok(())
+}
+
+#[test]
+fn hands_out_each_row_once(rt: HostRuntime) -> Result<(), Fail> {
+    let alloc = rt.alloc();
+    let index = nine(alloc)?;
+    let mut reader = Reader::open(alloc, &index, right_of(alloc, 6)?)?;
+    let one = reader.next(alloc, &index)?;
+    let two = reader.next(alloc, &index)?;
+    let three = reader.next(alloc, &index)?;
+    let none = reader.next(alloc, &index)?;
+    assert_eq!(rt; one, Some(Row::at(1, 7)));
+    assert_eq!(rt; two, Some(Row::at(1, 8)));
+    assert_eq!(rt; three, Some(Row::at(1, 9)));
+    assert_eq!(rt; none, None);
     Ok(())
 }
