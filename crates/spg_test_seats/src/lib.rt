@@ -1,9 +1,11 @@
-//! Tests of 64 seats whose sections come in an order that a seed gives.
+//! Tests of 64 seats whose sections come in an order that a seed gives; and a judge of journals, which replays
+//! them over a plain list of lives.
 #![tactic(auto)]
 
-#[cfg(test)]
 mod lives;
-#[cfg(test)]
 mod replay;
 #[cfg(test)]
 mod turns;
+
+pub use lives::ROWS;
+pub use replay::{Replayed, judge};

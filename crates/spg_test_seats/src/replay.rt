@@ -245,16 +245,21 @@ impl Known {
     }
 }
 
-/// How many vacuums there were, how many rows these swept, and how many of them were inserted again.
+/// What came of the events of a journal.
 #[derive(Clone, Copy, Debug)]
-pub(crate) struct Replayed {
-    pub(crate) vacuums: usize,
-    pub(crate) swept: u64,
-    pub(crate) again: u32,
+pub struct Replayed {
+    /// How many vacuums there were.
+    pub vacuums: usize,
+    /// How many rows these swept.
+    pub swept: u64,
+    /// How many rows that were swept were inserted again.
+    pub again: u32,
 }
 
-/// What came of the events of a journal. None where one does not fit those before it.
-pub(crate) fn replay(alloc: Global, journal: &Journal<Quad>) -> Result<Option<Replayed>, Memory> {
+/// What came of the events of a journal of rows 1.1 to 1.800. None where one does not fit those before it: a
+/// scan that gave a row that it might not give, or not one that it had to, a vacuum that left a row that was
+/// deleted before it opened, a row that was inserted before its time.
+pub fn judge(alloc: Global, journal: &Journal<Quad>) -> Result<Option<Replayed>, Memory> {
     let mut known = Known::new(alloc)?;
     let mut at: u64 = 0;
     for event in journal.as_slice() {

@@ -4,7 +4,7 @@
 ghost use Rattle.std.specs.Prelude.{◌<◌};
 
 use crate::lives::ROWS;
-use crate::replay::replay;
+use crate::replay::judge;
 use spg_base::{List, Memory, Point, PointCond, Row, SeatNo};
 use spg_core::{
     InsertOut, OpenKind, OpenRefused, ReadOut, State, StepRefused, VacuumOut, VacuumRefused,
@@ -299,7 +299,7 @@ fn take_turns(
 
 /// The journal is right, and vacuums swept rows that were inserted again.
 fn is_right_journal(alloc: Global, journal: &Journal<Quad>) -> Result<bool, Memory> {
-    match replay(alloc, journal)? {
+    match judge(alloc, journal)? {
         Some(done) => Ok(done.vacuums > 40 && done.swept > 200 && done.again > 50),
         None => Ok(false),
     }

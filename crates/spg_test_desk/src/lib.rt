@@ -1,0 +1,18 @@
+//! Tests of an index that threads share: what each call tells, the journal that comes of five threads, 63
+//! seats that each do every call, and a class that answers one thread only once another has gone on.
+#![tactic(auto)]
+
+#[cfg(test)]
+mod calls;
+#[cfg(test)]
+mod in_place;
+#[cfg(test)]
+mod many;
+#[cfg(test)]
+mod outside;
+#[cfg(test)]
+mod shared;
+#[cfg(test)]
+mod threads;
+#[cfg(test)]
+mod watched;
