@@ -1,14 +1,15 @@
 #!/usr/bin/env python3
 """Prints docs/DEFINITIONS.md: what each word says that a public contract, or docs/PROOFS.md, names.
 
-The sentence is the comment above the definition. Where there is none, or one that leans on what stands before it,
-docs/definitions.txt has the sentence, a line each:
+What it says is the comment above the definition. Where there is none, or one that leans on what stands before it,
+docs/definitions.txt has it, a line each:
 
-    CRATE MODULE WORD: sentence
+    CRATE MODULE WORD: comment
 
     tools/definitions.py            prints the page
-    tools/definitions.py --write    writes it
-    tools/definitions.py --check    fails where the page is another, or a word has no sentence
+    tools/definitions.py WORD..     prints the whole comment of each definition of these names, and its file
+    tools/definitions.py --write    writes the page
+    tools/definitions.py --check    fails where the page is another, or a word has no comment
 """
 import pathlib
 import re
@@ -22,14 +23,15 @@ SENTENCES = TOP / 'docs/definitions.txt'
 WIDTH = 110
 HEAD = '''# Definitions
 
-What each word says that a contract of a public function names, or docs/PROOFS.md, layer by layer, lowest
-first. Each stands in `crates/CRATE/specs/MODULE.antt`; `tools/definitions.py` prints this page from the
-comments there.
+What each word says that a contract of a public function names, or docs/PROOFS.md, by layers, lowest first.
+Under `CRATE/MODULE` stand words of `crates/CRATE/specs/MODULE.antt` with the comment there;
+`tools/definitions.py WORD` prints that of one word, with its file.
 
 A **history** is a journal with the newest event first, so what came before an event is the rest of the list.
-The **meaning** of a class is its calls as functions. Seats, blocks and stamps are numbers. Of a source contracts
-read the bytes that are `left`, of a sink its `contents`, of images what is `held` under each name, where the
-object tells them, and of each the count of `faults`. Ghost members of traits are said where the trait stands.
+The **meaning** of a class is its calls as functions. Seats, blocks and stamps are numbers. Of a source
+contracts read the bytes that are `left`, of a sink its `contents`, of images what is `held` under each name,
+where the object tells them, and of each the count of `faults`. Ghost members of traits are said where the
+trait stands.
 '''
 
 DEFINED = re.compile(r"(?:(?:abbrev|unfoldable|opaque) pub (?:record |data )?|pub record |pub data |"
@@ -169,17 +171,22 @@ def given_on(word):
 
 
 def told(known, order):
-    """The definitions that docs/PROOFS.md names: of its section's crates, else of the highest crate that has one."""
-    by_name, out, crates = {}, set(), []
+    """The definitions that docs/PROOFS.md names: of the crates that the section's heading or the paragraph names. Where the
+    heading names none, the crates named so far count; and a word with a capital that none of these has is the highest one's."""
+    by_name, out, headed, crates = {}, set(), [], []
     for word in known:
         by_name.setdefault(word[2], []).append(word)
-    for line in PROOFS.read_text().splitlines():
-        if line.startswith('##'):
-            crates = re.findall(r'spg\w+', line)
-        for name in re.findall(r'`([\w\']+)`', line):
+    for part in re.split(r'\n(?=- |\n|#)', PROOFS.read_text()):
+        named = re.findall(r'spg\w+', part)
+        if part.lstrip().startswith('#'):
+            headed, crates = named, named
+            continue
+        crates = headed + named if headed else crates + named
+        for name in re.findall(r'`([\w\']+)`', part):
             found = by_name.get(name, [])
             near = [word for word in found if word[0] in crates]
-            out.update(near or sorted(found, key=lambda word: order.index(word[0]))[-1:])
+            if near or not headed and name[:1].isupper():
+                out.update(near or sorted(found, key=lambda word: order.index(word[0]))[-1:])
     return out
 
 
@@ -203,7 +210,7 @@ def sentences():
 
 
 def gathered():
-    """The words of the page in order, each with its sentence, or with none."""
+    """The words of the page in order, each with its comment, or with none; and idle lines of the list."""
     known, cites, order = {}, set(), []
     for _, crates in layers():
         for crate in crates:
@@ -240,7 +247,7 @@ def page(words):
         for word in here:
             crate, module, name = word
             if word[:2] != last:
-                out.append(('' if last is None else '\n') + f'`{crate}`, {module}:\n')
+                out.append(('' if last is None else '\n') + f'`{crate}/{module}`\n')
                 last = word[:2]
             out.append(textwrap.fill(f'- `{name}`: {sentence(words[word])}', WIDTH, subsequent_indent='  ',
                                      break_long_words=False, break_on_hyphens=False))
@@ -248,7 +255,19 @@ def page(words):
     return '\n'.join(out).rstrip('\n') + '\n'
 
 
+def whole(name):
+    """The comments of the definitions of a name, each with the file in which it stands."""
+    known = {word: said for _, crates in layers() for crate in crates for word, said in definitions(crate).items()}
+    known.update({word: said for word, said in sentences().items() if word in known})
+    return [f'crates/{crate}/specs/{module.replace(".", "/")}.antt: {said or "no comment"}'
+            for (crate, module, word), said in known.items() if word == name]
+
+
 def main(args):
+    if args and not args[0].startswith('--'):
+        for name in args:
+            print('\n'.join(whole(name)) or f'{name}: no definition')
+        return 0
     words, idle = gathered()
     bare = [word for word in words if not words[word]]
     text = page(words)

@@ -96,6 +96,7 @@ impl Few {
     }
 
     /// Adds bytes at the end.
+    #[inline(always)]
     pub(crate) fn extend(&mut self, bytes: &[u8])
         requires { length self.old + length bytes.now ≤ 28 }
         ensures { self.new ≡ self.old ++ bytes.now }

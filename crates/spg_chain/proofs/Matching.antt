@@ -1,19 +1,17 @@
 -- A chain that was written anew is the chain swept.
-use Rattle.std.proofs.Common.{◌≡◌, ℕ, suc, ◌+◌, ◌≤◌, ◌<◌, List, [], ◌∷◌, ⊎_elim, Bool, true, false, ◌||◌, set, get_or, length, nat_eq, refl, sym, ap, ap₂, ◌∙◌, subst, inl, inr, arith}
+use Rattle.std.proofs.Common.{◌≡◌, ℕ, suc, ◌+◌, ◌<◌, List, [], ◌∷◌, ⊎_elim, Bool, true, false, ◌||◌, set, get_or, length, nat_eq, refl, sym, ap, ap₂, ◌∙◌, subst, arith}
 use Rattle.std.specs.Prelude.{cond}
 use Rattle.std.proofs.lemmas.Bool.{cases_Bool, cond-true, cond-false, cases_eq, or_left, or_from, ne_eqb, eq-eqb}
 use Rattle.std.proofs.lemmas.List.{get_or-set_same, get_or-set_other}
 use Rattle.spg_base.specs.Row.{RowAt}
 use Rattle.spg_forest.specs.View.{Leaf}
 use Rattle.spg_forest.specs.Spot.{Bucket}
-use Rattle.spg_forest.specs.Tuples.{Tuple, Live, Dead, Placeholder, IsAmong, IsChainOf, first_of, with_chain, put_on, is_led_to, next_of}
+use Rattle.spg_forest.specs.Tuples.{Tuple, Live, Placeholder, IsChainOf, first_of, is_led_to, next_of}
 use Rattle.spg_forest.specs.Pages.{tuple_on}
-use Rattle.spg_forest.proofs.Edits.{tuple_on-with}
 use Rattle.spg_page.specs.Reads.{leaf_in}
-use Rattle.spg_cover.specs.Swept.{kept, kept_offsets, but_first, new_offsets, rewritten, swept_chain, swept_as, emptied}
-use Rattle.spg_cover.proofs.Written.{emptied_is, written_is, same_length}
+use Rattle.spg_cover.specs.Swept.{kept, kept_offsets, but_first, new_offsets, rewritten, swept_chain, swept_as}
 use Rattle.spg_chain.specs.Sweeps.{IsChainList, stays, leaves_at, renewed}
-use Rattle.spg_chain.proofs.Staying.{list_chain, list_range, list_some, stays_among}
+use Rattle.spg_chain.proofs.Staying.{list_chain}
 
 -- chains of one list of leaves from one offset on are at the same offsets
 pub offsets_once : (T : ℕ → Tuple) (os ps : List ℕ) (ls : List Leaf) → IsChainOf T os ls → IsChainOf T ps ls → first_of os ≡ first_of ps → os ≡ ps
@@ -58,38 +56,16 @@ module _ (test : RowAt → Bool) (ts : List Tuple) (os : List ℕ) (C : IsChainL
   abbrev T : ℕ → Tuple
   T = tuple_on ts
 
-  first_in : IsAmong (first_of os) os
-  first_in = by os (list_some ts os C)
-    where
-      by : (xs : List ℕ) → 0 < length xs → IsAmong (first_of xs) xs
-      by [] h = absurd (omega arith)
-      by (x ∷ xs) h = inl refl
-
-  pub renewed_is : (length (renewed ts os (stays test (tuple_on ts) os)) ≡ length ts) × (tuple_on (renewed ts os (stays test (tuple_on ts) os)) ≡ swept_as test (tuple_on ts) C.head (Bucket (C.leaf ∷ C.leaves)))
-  renewed_is = subst (λ ps. (length (renewed ts os (stays test T os)) ≡ length ts) × (tuple_on (renewed ts os (stays test T os)) ≡ swept_chain test T ps (C.leaf ∷ C.leaves))) C.offsets (go (stays test T os) refl)
+  pub renewed_is : renewed (tuple_on ts) os (stays test (tuple_on ts) os) ≡ swept_as test (tuple_on ts) C.head (Bucket (C.leaf ∷ C.leaves))
+  renewed_is = subst (λ ps. renewed T os (stays test T os) ≡ swept_chain test T ps (C.leaf ∷ C.leaves)) C.offsets (go (stays test T os) refl)
     where
       chain : IsChainOf (tuple_on ts) os (C.leaf ∷ C.leaves)
       chain = list_chain ts os C
 
-      go : (K : List ℕ) → stays test (tuple_on ts) os ≡ K → (length (renewed ts os (stays test (tuple_on ts) os)) ≡ length ts) × (tuple_on (renewed ts os (stays test (tuple_on ts) os)) ≡ swept_chain test (tuple_on ts) os (C.leaf ∷ C.leaves))
-      go [] e =
-          let (a, b) = emptied_is ts os (list_range ts os C) in
-          let (p, q) = list_range ts os C (first_of os) first_in in
-          let n = ap (λ K. length (renewed ts os K)) e in (
-            n ∙ same_length (emptied ts os) (first_of os) Dead p (omega arith) ∙ b,
-            ap (λ K. tuple_on (renewed ts os K)) e ∙ tuple_on-with (emptied ts os) (first_of os) Dead p (omega arith) ∙ ap (λ (U : ℕ → Tuple). put_on U (first_of os) Dead) a
-                ∙ ap (λ ks. rewritten T os (new_offsets test os (C.leaf ∷ C.leaves)) ks) (sym (leaves_stay test T os (C.leaf ∷ C.leaves) chain ∙ ap (leaves_at T) e)),
-          )
-      go (k ∷ ks) e =
-          let (a, b) = emptied_is ts os (list_range ts os C) in
-          let range : (o : ℕ) → IsAmong o (first_of os ∷ ks) → (0 < o) × (o ≤ length (emptied ts os)) = λ o m.
-          (let here : IsAmong o os = ⊎_elim (λ q. subst (λ x. IsAmong x os) (sym q) first_in) (λ q. stays_among test T os o (subst (IsAmong o) (sym e) (inr q))) m in
-          let (i, j) = list_range ts os C o here in (i, omega arith)) in
-          let (c, d) = written_is (emptied ts os) (first_of os ∷ ks) (leaves_at T (k ∷ ks)) range in (
-            ap (λ K. length (renewed ts os K)) e ∙ d ∙ b,
-            ap (λ K. tuple_on (renewed ts os K)) e ∙ c ∙ ap (λ (U : ℕ → Tuple). with_chain U (first_of os ∷ ks) (leaves_at T (k ∷ ks))) a
-                ∙ ap₂ (λ ps xs. rewritten T os ps xs) (sym (new_stay test T os (C.leaf ∷ C.leaves) k ks chain e)) (sym (leaves_stay test T os (C.leaf ∷ C.leaves) chain ∙ ap (leaves_at T) e)),
-          )
+      go : (K : List ℕ) → stays test (tuple_on ts) os ≡ K → renewed (tuple_on ts) os (stays test (tuple_on ts) os) ≡ swept_chain test (tuple_on ts) os (C.leaf ∷ C.leaves)
+      go [] e = ap (λ K. renewed T os K) e ∙ ap (λ ks. rewritten T os (new_offsets test os (C.leaf ∷ C.leaves)) ks) (sym (leaves_stay test T os (C.leaf ∷ C.leaves) chain ∙ ap (leaves_at T) e))
+      go (k ∷ ks) e = ap (λ K. renewed T os K) e
+          ∙ ap₂ (λ ps xs. rewritten T os ps xs) (sym (new_stay test T os (C.leaf ∷ C.leaves) k ks chain e)) (sym (leaves_stay test T os (C.leaf ∷ C.leaves) chain ∙ ap (leaves_at T) e))
 
 -- ---- what leads to an offset
 pub led_more : (T : ℕ → Tuple) (k o : ℕ) → is_led_to T k o ≡ false → nat_eq (next_of (T k)) o ≡ false → is_led_to T (suc k) o ≡ false

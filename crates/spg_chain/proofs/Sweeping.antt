@@ -15,7 +15,7 @@ use Rattle.spg_cover.specs.Swept.{swept_as, swept_upto, offsets_along}
 use Rattle.spg_cover.proofs.Offsets.{along_chain}
 use Rattle.spg_cover.proofs.Chains.{upto, Upto, upto_spots, upto_later}
 use Rattle.spg_cover.proofs.Tuples.{upto_has}
-use Rattle.spg_chain.specs.Sweeps.{IsChainList, stays, renewed, is_chain_head}
+use Rattle.spg_chain.specs.Sweeps.{IsChainList, IsRenewed, is_chain_head}
 use Rattle.spg_chain.specs.Chained.{IsLeafPage, IsSweptOf}
 use Rattle.spg_chain.proofs.Matching.{offsets_once, renewed_is}
 
@@ -133,17 +133,15 @@ module _ (test : RowAt → Bool) (p0 : Sheet) (P : IsLeafPage p0.tuples) (page :
       begins (x ∷ xs) l ls b c = b
 
   -- one step
-  pub sweeping_head : (o : ℕ) → suc k ≡ o → (g : is_chain_head page.tuples o ≡ true) (os : List ℕ) (C : IsChainList page.tuples os) → C.head ≡ o → (page2 : Sheet) → page2 ≡ with_tuples page (renewed page.tuples os (stays test (tuple_on page.tuples) os)) → Sweeping test p0 page2 o
-  sweeping_head o e g os C h page2 q =
-      let (l, ls, s, z) = at_head o e g in
-      let (a, b) = renewed_is test page.tuples os C in
+  pub sweeping_head : (o : ℕ) → suc k ≡ o → (g : is_chain_head page.tuples o ≡ true) (os : List ℕ) (C : IsChainList page.tuples os) → C.head ≡ o → (page2 : Sheet) → IsRenewed test page os page2 → Sweeping test p0 page2 o
+  sweeping_head o e g os C h page2 N =
       let m : length page.tuples + 1 ≡ suc (length p0.tuples) = (let r = R.same in omega arith) in
       let whole : swept_as test (tuple_on page.tuples) C.head (Bucket (C.leaf ∷ C.leaves)) ≡ swept_as test (tuple_on page.tuples) o (spot_on (tuple_on page.tuples) n o) =
       ap (λ i. swept_as test (tuple_on page.tuples) i (Bucket (C.leaf ∷ C.leaves))) h ∙ ap (λ t. swept_as test (tuple_on page.tuples) o t) (at_spot o e C h ∙ ap (λ i. spot_on (tuple_on page.tuples) i o) m) in
       record {
-        page_is = q ∙ ap (λ (x : Sheet). with_tuples x (renewed page.tuples os (stays test (tuple_on page.tuples) os))) R.page_is ∙ ap (λ (x : Sheet). with_tuples p0 x.tuples) (sym q);
-        same = ap (λ (x : Sheet). length x.tuples) q ∙ a ∙ R.same;
-        at = ap (λ (x : Sheet). tuple_on x.tuples) q ∙ b ∙ whole ∙ ap (λ (T : ℕ → Tuple). swept_as test T o (spot_on T n o)) R.at ∙ ap (λ i. swept_as test (swept_upto test n (tuple_on p0.tuples) k) i (spot_on (swept_upto test n (tuple_on p0.tuples) k) n i)) (sym e)
+        page_is = N.page ∙ ap (λ (x : Sheet). with_tuples x page2.tuples) R.page_is;
+        same = N.same ∙ R.same;
+        at = N.tuples ∙ renewed_is test page.tuples os C ∙ whole ∙ ap (λ (T : ℕ → Tuple). swept_as test T o (spot_on T n o)) R.at ∙ ap (λ i. swept_as test (swept_upto test n (tuple_on p0.tuples) k) i (spot_on (swept_upto test n (tuple_on p0.tuples) k) n i)) (sym e)
             ∙ ap (λ i. swept_upto test n (tuple_on p0.tuples) i) e;
       }
     where

@@ -3,7 +3,7 @@ ghost use Rattle.std.specs.BTreeSet.{contains};
 ghost use Rattle.spg_base.specs.Row.{row_cmp};
 ghost use Rattle.spg_chain.specs.Chained.{IsLeafPage, IsSweptOf};
 
-use crate::chain::read_chain;
+use crate::chain::chain_offsets;
 use crate::heads::{begins_chain, led_offsets};
 use crate::rewrite::rewrite;
 use spg_base::{Memory, Offset, RowSet};
@@ -18,13 +18,11 @@ pub(crate) fn sweep_chains(alloc: Global, page: &mut Page, targets: &RowSet) -> 
 {
     // A sweep makes no head of a tuple that was none, and none at a later offset loses it.
     let led = led_offsets(page);
-    let mut old = Page::new(alloc, page.kind(), page.is_nulls())?;
     for index in 0..page.count() {
         let head = Offset(index + 1);
         if begins_chain(page, &led, head) {
-            old.copy_from(page);
-            let chain = read_chain(alloc, &old, head)?;
-            rewrite(alloc, &old, page, chain.offsets.as_slice(), targets)?;
+            let offsets = chain_offsets(alloc, page, head)?;
+            rewrite(alloc, page, offsets.as_slice(), targets)?;
         }
     }
     Ok(())

@@ -27,7 +27,7 @@ use Rattle.spg_core.specs.declared.answer.VacuumOut.TheVariants as work
 use Rattle.spg_core.specs.declared.slot.Slot.{Slot}
 use Rattle.spg_core.specs.declared.slot.Slot.TheVariants.{Free, Insert, Scan}
 use Rattle.spg_core.specs.declared.slot.Slot.TheVariants as slot
-use Rattle.spg_core.specs.declared.bare.Bare.TheInside.{Inside}
+use Rattle.spg_core.specs.declared.kept.Kept.TheInside.{Inside}
 use Rattle.spg_core.specs.declared.sweeping.Stepped.{Stepped}
 use Rattle.spg_rows.specs.declared.event.Why.{Why}
 use Rattle.spg_core.specs.Slot.{stage_of}

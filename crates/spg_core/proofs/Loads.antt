@@ -26,7 +26,7 @@ use Rattle.spg_keys.specs.declared.listing.Listed.{Listed}
 use Rattle.spg_verdict.specs.Entries.{entries_of, AreEntries}
 use Rattle.spg_verdict.proofs.Listed.{apart_permuted, listed_permuted}
 use Rattle.spg_adopt.proofs.Loading.{adopted_kept, events_more, rows_more, rows_alike, free_yet}
-use Rattle.spg_core.specs.declared.bare.Bare.TheInside.{Inside}
+use Rattle.spg_core.specs.declared.kept.Kept.TheInside.{Inside}
 use Rattle.spg_core.specs.declared.slot.Slot.{Slot}
 use Rattle.spg_core.specs.declared.slot.Slot.TheVariants.{Free}
 use Rattle.spg_core.specs.Slot.{stage_of}

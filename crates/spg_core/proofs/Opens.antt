@@ -33,7 +33,7 @@ use Rattle.spg_seats.proofs.VacuumCalls as vacuum_calls
 use Rattle.spg_seats.proofs.Holding.{latches_law}
 use Rattle.spg_core.specs.declared.slot.Slot.{Slot}
 use Rattle.spg_core.specs.declared.slot.Slot.TheVariants.{Free, Insert, Scan, Vacuum}
-use Rattle.spg_core.specs.declared.bare.Bare.TheInside.{Inside}
+use Rattle.spg_core.specs.declared.kept.Kept.TheInside.{Inside}
 use Rattle.spg_core.specs.Slot.{stage_of, GivesBack, ended_with}
 use Rattle.spg_core.specs.Stage.{Stage, MayGiveUp, given_up}
 use Rattle.spg_core.specs.Seen.{Seen, stage_at, logged, untouched}

@@ -19,7 +19,7 @@ use Rattle.spg_seats.proofs.Calls as calls
 use Rattle.std.specs.Prelude.{slice_get}
 use Rattle.spg_core.specs.declared.slot.Slot.{Slot}
 use Rattle.spg_core.specs.declared.slot.Slot.TheVariants.{Free, Insert, Scan, Vacuum}
-use Rattle.spg_core.specs.declared.bare.Bare.TheInside.{Inside}
+use Rattle.spg_core.specs.declared.kept.Kept.TheInside.{Inside}
 use Rattle.spg_core.specs.Slot.{stage_of}
 use Rattle.spg_core.specs.Seen.{Seen, moved, untouched}
 use Rattle.spg_core.specs.Looking.{CopiesFor, SiftsFor}

@@ -12,7 +12,7 @@ use Rattle.spg_tree.specs.Descents.{Descending}
 use Rattle.spg_seats.specs.Slots.{Stage, free, descending, reading, sweeping, stage_in, is_open, open_count, StageFits}
 use Rattle.spg_core.specs.declared.slot.Slot.{Slot}
 use Rattle.spg_core.specs.declared.slot.Slot.TheVariants.{Free, Insert}
-use Rattle.spg_core.specs.declared.bare.Bare.TheInside.{Inside}
+use Rattle.spg_core.specs.declared.kept.Kept.TheInside.{Inside}
 use Rattle.spg_core.specs.Stage.{IsInserting, IsRead, IsSweeping, IsStageOf}
 use Rattle.spg_core.specs.Seen.{Seen, stage_at, moved, logged, logged_all, past_of}
 use Rattle.spg_core.specs.Slot.{stage_of}

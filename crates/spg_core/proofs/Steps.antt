@@ -33,7 +33,7 @@ use Rattle.spg_seats.proofs.Slots.{more_room}
 use Rattle.spg_seats.proofs.Holding.{latches_law}
 use Rattle.spg_core.specs.declared.slot.Slot.{Slot}
 use Rattle.spg_core.specs.declared.slot.Slot.TheVariants.{Free}
-use Rattle.spg_core.specs.declared.bare.Bare.TheInside.{Inside}
+use Rattle.spg_core.specs.declared.kept.Kept.TheInside.{Inside}
 use Rattle.spg_core.specs.Slot.{stage_of}
 use Rattle.spg_core.specs.Kept.{fields_of, seen_of, IsState}
 use Rattle.spg_core.specs.Waiting.{is_used}

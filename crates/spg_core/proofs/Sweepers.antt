@@ -23,7 +23,7 @@ use Rattle.spg_core.specs.declared.answer.VacuumRefused.{VacuumRefused}
 use Rattle.spg_core.specs.declared.answer.VacuumRefused.TheVariants as refused
 use Rattle.spg_core.specs.declared.slot.Slot.{Slot}
 use Rattle.spg_core.specs.declared.slot.Slot.TheVariants as slot
-use Rattle.spg_core.specs.declared.bare.Bare.TheInside.{Inside}
+use Rattle.spg_core.specs.declared.kept.Kept.TheInside.{Inside}
 use Rattle.spg_core.specs.Stage.{IsSweeping}
 use Rattle.spg_core.specs.Slot.{stage_of}
 use Rattle.spg_core.specs.Seen.{Seen, stage_at, untouched}

@@ -5,7 +5,7 @@ use Rattle.spg_base.specs.Row.{row_cmp}
 use Rattle.spg_opclass.specs.Meaning.{Meaning}
 use Rattle.spg_seats.specs.Slots.{Fields, IsKept}
 pub use Rattle.spg_seats.specs.Slots.{RootsAreHeavy}
-use Rattle.spg_core.specs.declared.bare.Bare.TheInside.{Inside}
+use Rattle.spg_core.specs.declared.kept.Kept.TheInside.{Inside}
 use Rattle.spg_core.specs.Slot.{stage_of}
 use Rattle.spg_core.specs.Seen.{Seen}
 

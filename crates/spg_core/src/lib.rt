@@ -3,11 +3,18 @@
 
 mod answer;
 mod bare;
+mod bare_inserts;
+mod bare_scans;
+mod bare_vacuums;
 mod choose;
 mod found;
 mod guide;
 mod inner;
 mod insert;
+mod kept;
+mod kept_inserts;
+mod kept_scans;
+mod kept_vacuums;
 mod latches;
 mod laws;
 mod loading;

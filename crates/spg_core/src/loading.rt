@@ -8,7 +8,7 @@ ghost use Rattle.spg_verdict.specs.Entries.{entries_of};
 ghost use Rattle.std.specs.List.Sorted.{IsPermutation};
 ghost use Rattle.spg_core.specs.Loading.{LoadsRow};
 
-use crate::bare::copy_key;
+use crate::kept_inserts::copy_key;
 use spg_base::{Memory, SeatNo};
 use spg_keys::Listed;
 use spg_opclass::OpClass;

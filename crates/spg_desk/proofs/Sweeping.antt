@@ -15,6 +15,8 @@ use Rattle.spg_rows.specs.Rows.{sweep_count}
 use Rattle.spg_turn.specs.declared.rule.View.{View}
 use Rattle.spg_core.specs.Seen.{Seen, stage_at, past_of}
 use Rattle.spg_core.specs.Stage.{Stage, free, descending, reading, sweeping, IsStageOf, IsSweeping}
+use Rattle.spg_core.specs.Calls.{IsWhole}
+use Rattle.spg_core.proofs.Slots.{fits_stage}
 use Rattle.spg_core.specs.declared.answer.VacuumRefused.{VacuumRefused}
 use Rattle.spg_core.specs.declared.answer.VacuumRefused.TheVariants as vacuum_refused
 use Rattle.spg_calls.specs.Calls.{past_at, Watched, joined}
@@ -24,7 +26,7 @@ use Rattle.spg_calls.proofs.Doing.{sweeps_tell, swept_parts, swept_alone, doing_
 use Rattle.spg_desk.specs.Knowing.{doing_at, own_since, IsLent}
 use Rattle.spg_desk.specs.Told.{Told}
 use Rattle.spg_desk.specs.Acting.{Adds, sweepings, vacuum_events, HasVacuum, IsCounted, TellsSweep, OpensSweep, EndsSweep, sweep_end, no_memory}
-use Rattle.spg_desk.specs.Answers.{DidVacuum, ended_vacuum, swept_then}
+use Rattle.spg_desk.specs.Answers.{NoneSweeps, DidVacuum, ended_vacuum, refused_vacuum, swept_then}
 use Rattle.spg_desk.specs.declared.ended.Swept.{Swept}
 use Rattle.spg_desk.specs.declared.ended.Swept.TheVariants as swept
 use Rattle.spg_desk.proofs.Views.{lent_doing, told_add, told_doing}
@@ -44,6 +46,12 @@ module _ {O Key Recon Cond : Type 0} where
   of_stage has (reading s) of is = absurd is
   of_stage has (sweeping v) of is = of
 
+  does_sweep : (before : History O Key Recon Cond) (stage : Stage O Key Recon Cond) → IsStageOf (vacuuming before) stage → IsSweeping stage
+  does_sweep before free of = absurd (cc of)
+  does_sweep before (descending k d) of = absurd (cc of)
+  does_sweep before (reading s) of = let clash = of.1 in absurd (cc clash)
+  does_sweep before (sweeping v) of = tt
+
   -- by the journal that its turn was lent, the seat has swept what its pass added
   swept_since : (h : View (Event O Key Recon Cond)) → IsLent h → swept_after h.number 0 h.seen ≡ swept_after h.number (swept_after h.number 0 (take h.base h.seen)) h.mine
   swept_since h lent =
@@ -55,6 +63,14 @@ module _ {O Key Recon Cond : Type 0} where
   still_sweeps n (r ∷ rows) es is = ap (doing_after n sweeps) is ∙ (ap (λ b. doing_after n (cond b sweeps sweeps) (swept_rows n rows)) (eq-eqb n n refl) ∙ still_sweeps n rows (swept_rows n rows) refl)
 
 module _ {O Key Recon Cond : Type 0} (m : Meaning Key Recon Cond) where
+  -- what a seat has open is what the journal says
+  whole_stage : (seen : Seen O Key Recon Cond) → IsWhole m seen → (by : ℕ) → IsStageOf (open_of by (past_of seen)) (stage_at seen by)
+  whole_stage seen (s, same, kept, bounded) by =
+      subst (λ (x : Seen O Key Recon Cond). IsStageOf (open_of by (past_of x)) (stage_at x by)) same (fits_stage m s.table (reverse s.journal) by _ (kept.stages by))
+
+  pub none_sweeps : (seen : Seen O Key Recon Cond) → IsWhole m seen → ((by : ℕ) → IsSweeping (stage_at seen by) → ⊥) → NoneSweeps (past_of seen)
+  none_sweeps seen whole none by before is = none by (does_sweep before (stage_at seen by) (subst (λ (has : Opened O Key Recon Cond). IsStageOf has (stage_at seen by)) is (whole_stage seen whole by)))
+
   -- the number in the close of a vacuum
   close_counted : (h : View (Event O Key Recon Cond)) (journal : List (Event O Key Recon Cond)) (count : ℕ) → IsLent h → doing_at h ≡ sweeps → journal ≡ h.seen ++ CloseVacuum h.number count ∷ [] → Right m journal → (was : ℕ) × (count ≡ swept_after h.number was h.mine)
   close_counted h journal count lent does is right =
@@ -86,10 +102,10 @@ module _ {O Key Recon Cond : Type 0} (m : Meaning Key Recon Cond) where
       ((rows, all), sweep_counted v h w span rows out held own does after all.right)
 
   pub open_swept : (v w : View (Event O Key Recon Cond)) (old : Seen O Key Recon Cond) (span : Span) (r : Result (Unit {0}) VacuumRefused) → Told m v w span (vacuum_events v.number r) → past_at span.from w.seen ≡ past_of old
-      → ((by : ℕ) → IsErrOf r (vacuum_refused.Open by) → HasVacuum (past_of old) by) → OpensSweep m v w span r
-  open_swept v w old span (Ok x) told past opens = told
-  open_swept v w old span (Err (vacuum_refused.Open by)) told past opens = let found = opens by refl in (told, (found.0, ap (open_of by) past ∙ found.1))
-  open_swept v w old span (Err vacuum_refused.Memory) told past opens = told
+      → ((by : ℕ) → IsErrOf r (vacuum_refused.Open by) → HasVacuum (past_of old) by) → (IsErrOf r vacuum_refused.Memory → NoneSweeps (past_of old)) → OpensSweep m v w span r
+  open_swept v w old span (Ok x) told past opens none = told
+  open_swept v w old span (Err (vacuum_refused.Open by)) told past opens none = let found = opens by refl in (told, (found.0, ap (open_of by) past ∙ found.1))
+  open_swept v w old span (Err vacuum_refused.Memory) told past opens none = (told, λ by before is. none refl by before (sym (ap (open_of by) past) ∙ is))
 
   pub vacuum_doing : (v w : View (Event O Key Recon Cond)) (span : Span) → Told m v w span (OpenVacuum v.number ∷ []) → doing_at w ≡ sweeps
   vacuum_doing v w span told = told_doing m v w span (OpenVacuum v.number ∷ []) told ∙ (rw (eq-eqb v.number v.number refl) refl)
@@ -144,7 +160,11 @@ module _ {O Key Recon Cond : Type 0} (m : Meaning Key Recon Cond) where
   -- one that was not opened has done nothing
   pub not_opened : (v w : View (Event O Key Recon Cond)) (span : Span) (refused : VacuumRefused) → OpensSweep m v w span (Err refused) → Told m v w span []
   not_opened v w span (vacuum_refused.Open by) h = h.0
-  not_opened v w span vacuum_refused.Memory h = h
+  not_opened v w span vacuum_refused.Memory h = h.0
+
+  pub vacuum_refused_did : (v w : View (Event O Key Recon Cond)) (span : Span) (refused : VacuumRefused) → OpensSweep m v w span (Err refused) → DidVacuum m v w (refused_vacuum refused span)
+  vacuum_refused_did v w span (vacuum_refused.Open by) h = h
+  vacuum_refused_did v w span vacuum_refused.Memory h = inl h
 
   -- the events that it is told with
   pub vacuum_told : (v w : View (Event O Key Recon Cond)) (span : Span) (r : Result ℕ Memory) → EndsSweep m v w span r → (events : List (Event O Key Recon Cond)) × Told m v w span events

@@ -35,7 +35,7 @@ use Rattle.spg_desk.specs.declared.ended.Swept.TheVariants as swept
 use Rattle.spg_desk.specs.Full.{IsFullFor}
 use Rattle.spg_desk.specs.Knowing.{doing_at}
 use Rattle.spg_desk.specs.Told.{Told}
-use Rattle.spg_desk.specs.Answers.{swept_then}
+use Rattle.spg_desk.specs.Answers.{NoneSweeps, swept_then}
 
 -- how a section with this outcome ended the insert, if it did
 abbrev pub ended_of : InsertOut → Option Ended
@@ -205,7 +205,7 @@ module _ {O Key Recon Cond : Type 0} (m : Meaning Key Recon Cond) where
   abbrev pub OpensSweep : View (Event O Key Recon Cond) → View (Event O Key Recon Cond) → Span → Result (Unit {0}) VacuumRefused → Type 0
   OpensSweep v w span (Ok x) = Told m v w span (OpenVacuum v.number ∷ [])
   OpensSweep v w span (Err (vacuum_refused.Open by)) = Told m v w span [] × ((before : History O Key Recon Cond) × (open_of by (past_at span.from w.seen) ≡ vacuuming before))
-  OpensSweep v w span (Err vacuum_refused.Memory) = Told m v w span []
+  OpensSweep v w span (Err vacuum_refused.Memory) = Told m v w span [] × NoneSweeps (past_at span.from w.seen)
 
   -- the number of a vacuum that ended is that of the rows that its seat swept
   abbrev pub IsCounted : View (Event O Key Recon Cond) → Swept → Type 0

@@ -63,6 +63,10 @@ abbrev pub ended_vacuum : Result ℕ Memory → Span → VacuumAnswer
 ended_vacuum (Ok swept) span = vacuums.Vacuumed swept span
 ended_vacuum (Err e) span = vacuums.Memory span
 
+-- no seat has a vacuum open
+abbrev pub NoneSweeps : {O Key Recon Cond : Type 0} → History O Key Recon Cond → Type 0
+NoneSweeps {O} {Key} {Recon} {Cond} past = (by : ℕ) (before : History O Key Recon Cond) → open_of by past ≡ vacuuming before → ⊥
+
 module _ {O Key Recon Cond : Type 0} (m : Meaning Key Recon Cond) (v w : View (Event O Key Recon Cond)) where
   -- `RowUsed` and `RowHeld` are told of the journal where the span begins, `IndexFull` and `ClockFull` of that where it ends
   abbrev pub DidInsert : RowAt → Option Key → InsertAnswer → Type 0
@@ -86,10 +90,11 @@ module _ {O Key Recon Cond : Type 0} (m : Meaning Key Recon Cond) (v w : View (E
   abbrev pub swept_then : List RowAt → Event O Key Recon Cond → List (Event O Key Recon Cond)
   swept_then rows last = OpenVacuum v.number ∷ (map (λ r. Sweep v.number r) rows ++ last ∷ [])
 
+  -- `Open` and want of memory before the vacuum opened are told of the journal where the span begins
   abbrev pub DidVacuum : VacuumAnswer → Type 0
   DidVacuum (vacuums.Vacuumed swept span) = (rows : List RowAt) × (length rows ≡ swept) × Told m v w span (swept_then rows (CloseVacuum v.number swept))
   DidVacuum (vacuums.Open by span) = Told m v w span [] × ((before : History O Key Recon Cond) × (open_of by (past_at span.from w.seen) ≡ vacuuming before))
-  DidVacuum (vacuums.Memory span) = Told m v w span [] ⊎ ((rows : List RowAt) × Told m v w span (swept_then rows (Leave v.number)))
+  DidVacuum (vacuums.Memory span) = (Told m v w span [] × NoneSweeps (past_at span.from w.seen)) ⊎ ((rows : List RowAt) × Told m v w span (swept_then rows (Leave v.number)))
 
 module _ {O Recon Cond : Type 0} (m : Meaning Point Recon Cond) (v w : View (Event O Point Recon Cond)) where
   -- nothing was done, and the rows are the nearest after the events that the pass has seen then

@@ -8,6 +8,8 @@ use Rattle.spg_scan.specs.declared.scan_copy.ScanCopy.TheVariants as copies
 use Rattle.spg_core.specs.declared.answer.InsertOut.{InsertOut}
 use Rattle.spg_core.specs.declared.answer.VacuumOut.{VacuumOut}
 use Rattle.spg_core.specs.declared.answer.VacuumOut.TheVariants as works
+use Rattle.spg_tree.specs.declared.stand.StepRefused.{StepRefused}
+use Rattle.spg_tree.specs.declared.stand.StepRefused.TheVariants as steps
 use Rattle.spg_core.specs.declared.look.ApplyRefused.{ApplyRefused}
 use Rattle.spg_core.specs.declared.look.ApplyRefused.TheVariants as refused
 use Rattle.spg_core.specs.Seen.{Seen, stage_at}
@@ -23,7 +25,13 @@ use Rattle.spg_desk.specs.declared.ended.Swept.{Swept}
 use Rattle.spg_desk.specs.declared.ended.Swept.TheVariants as swept
 use Rattle.spg_desk.specs.Acting.{ended_of}
 
--- how an insert ends that is refused so: one that was changed meanwhile goes on
+-- how an insert ends of which a section is refused so
+abbrev pub step_end : StepRefused → Ended
+step_end steps.IndexFull = ended.Full
+step_end steps.ClockFull = ended.Clock
+step_end steps.Memory = ended.Refused
+
+-- how one ends that is refused so: one that was changed meanwhile goes on
 abbrev pub refused_end : ApplyRefused → Option Ended
 refused_end refused.Changed = None
 refused_end refused.IndexFull = Some ended.Full

@@ -1,7 +1,8 @@
 // The sections of an insert, on the index that a turn lends.
-ghost use Rattle.std.specs.Prelude.{◌≡◌, ◌+◌, ◌^◌, Option};
+ghost use Rattle.std.specs.Prelude.{◌≡◌, ◌+◌, ◌^◌, Option, Some};
 ghost use Rattle.spg_base.specs.Row.{RowAt};
 ghost use Rattle.spg_core.specs.declared.look.ApplyRefused.TheVariants as apply_refused;
+ghost use Rattle.spg_tree.specs.declared.stand.StepRefused.TheVariants as step_refused;
 ghost use Rattle.spg_core.specs.Seen.{stage_at, past_of};
 ghost use Rattle.spg_core.specs.Stage.{IsInserting, MayGiveUp};
 ghost use Rattle.spg_core.specs.Stepping.{IsNearLimit};
@@ -9,7 +10,7 @@ ghost use Rattle.spg_core.specs.Sections.{IsHeavy, GivesUp};
 ghost use Rattle.spg_core.specs.Looking.{IsSpotted, IsBunch};
 ghost use Rattle.spg_bounds.specs.Bounds.{IsLate};
 ghost use Rattle.spg_desk.specs.Acting.{IsPutting, LooksPut, StepsPut, ended_of};
-ghost use Rattle.spg_desk.specs.Progress.{GoesOn, LooksOn, refused_end};
+ghost use Rattle.spg_desk.specs.Progress.{GoesOn, LooksOn, step_end, refused_end};
 
 use crate::ended::{Ended, Looked};
 use spg_base::SeatNo;
@@ -40,6 +41,30 @@ fn give_up<O: OpClass>(bare: &mut Bare<O>, seat: SeatNo, why: Why)
     let _pages = bare.pages();
 }
 
+/// Gives the insert up after a refused section.
+fn refuse_step<O: OpClass>(bare: &mut Bare<O>, seat: SeatNo, refused: StepRefused) -> Ended
+    requires inserting { IsInserting (stage_at bare.old seat) }
+    requires full { refused ≡ step_refused.IndexFull → IsHeavy O.meaning bare.old seat × IsNearLimit bare.old.table }
+    requires clock { refused ≡ step_refused.ClockFull → IsHeavy O.meaning bare.old seat × (bare.old.table.clock + 1 ≡ 2 ^ 48) }
+    ensures end { result ≡ step_end refused }
+    ensures puts { (row : RowAt) (key : Option O.Key) → IsPutting row key (stage_at bare.old seat) → StepsPut O.meaning bare.old bare.new seat row key (Some result) }
+{
+    match refused {
+        StepRefused::IndexFull => {
+            give_up(bare, seat, Why::Full);
+            Ended::Full
+        }
+        StepRefused::ClockFull => {
+            give_up(bare, seat, Why::Clock);
+            Ended::Clock
+        }
+        StepRefused::Memory => {
+            bare.abandon(seat, Why::Given);
+            Ended::Refused
+        }
+    }
+}
+
 /// Looks at the seat's insert, and does its next section where the class has no say in it. After a
 /// refusal the insert is given up. It goes on only where a section was done, or the class is asked.
 pub(crate) fn look_on<O: OpClass>(bare: &mut Bare<O>, seat: SeatNo) -> Looked<O>
@@ -57,18 +82,7 @@ pub(crate) fn look_on<O: OpClass>(bare: &mut Bare<O>, seat: SeatNo) -> Looked<O>
                 Looked::Stepped(None)
             }
         }
-        Err(StepRefused::IndexFull) => {
-            give_up(bare, seat, Why::Full);
-            Looked::Stepped(Some(Ended::Full))
-        }
-        Err(StepRefused::ClockFull) => {
-            give_up(bare, seat, Why::Clock);
-            Looked::Stepped(Some(Ended::Clock))
-        }
-        Err(StepRefused::Memory) => {
-            bare.abandon(seat, Why::Given);
-            Looked::Stepped(Some(Ended::Refused))
-        }
+        Err(refused) => Looked::Stepped(Some(refuse_step(bare, seat, refused))),
     }
 }
 
@@ -82,18 +96,9 @@ fn refuse<O: OpClass>(bare: &mut Bare<O>, seat: SeatNo, refused: ApplyRefused) -
 {
     match refused {
         ApplyRefused::Changed => None,
-        ApplyRefused::IndexFull => {
-            give_up(bare, seat, Why::Full);
-            Some(Ended::Full)
-        }
-        ApplyRefused::ClockFull => {
-            give_up(bare, seat, Why::Clock);
-            Some(Ended::Clock)
-        }
-        ApplyRefused::Memory => {
-            bare.abandon(seat, Why::Given);
-            Some(Ended::Refused)
-        }
+        ApplyRefused::IndexFull => Some(refuse_step(bare, seat, StepRefused::IndexFull)),
+        ApplyRefused::ClockFull => Some(refuse_step(bare, seat, StepRefused::ClockFull)),
+        ApplyRefused::Memory => Some(refuse_step(bare, seat, StepRefused::Memory)),
     }
 }
 

@@ -12,7 +12,7 @@ ghost use Rattle.spg_desk.specs.Told.{Told};
 ghost use Rattle.spg_desk.specs.Progress.{SweepsOn};
 ghost use Rattle.spg_desk.specs.Acting.{HasVacuum, sweep_end, StepsSweep, OpensSweep, TellsSweep, EndsSweep};
 ghost use Rattle.spg_desk.specs.Passes.{desk_id, desk_of, view_of};
-ghost use Rattle.spg_desk.specs.Answers.{DidVacuum, refused_vacuum, ended_vacuum};
+ghost use Rattle.spg_desk.specs.Answers.{NoneSweeps, DidVacuum, refused_vacuum, ended_vacuum};
 
 use crate::answer::VacuumAnswer;
 use crate::desk::Desk;
@@ -30,12 +30,13 @@ fn open_on<O: OpClass>(bare: &mut Bare<O>, seat: SeatNo) -> Result<(), VacuumRef
     requires free { stage_at bare.old seat ≡ free }
     ensures ok { OnOk result (OpensVacuum bare.old bare.new seat) }
     ensures open { (by : ℕ) → IsErrOf result (VacuumRefused.Open by) → HasVacuum (past_of bare.old) by }
-    ensures memory { IsErrOf result VacuumRefused.Memory → (by : ℕ) → IsSweeping (stage_at bare.old by) → ⊥ }
+    ensures memory { IsErrOf result VacuumRefused.Memory → NoneSweeps (past_of bare.old) }
     ensures err { OnErr result (bare.new ≡ bare.old) }
 {
+    // What each seat has open is what the journal says.
+    let _journal = bare.journal();
     let opened = bare.open_vacuum(seat);
     if let Err(VacuumRefused::Open { by }) = &opened {
-        // What a seat has open is what the journal says.
         let _open = bare.open_of(*by);
     }
     opened

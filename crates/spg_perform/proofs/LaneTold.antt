@@ -65,7 +65,7 @@ module _ {O Key Recon Cond : Type 0} (m : Meaning Key Recon Cond) (speech : Spee
   pub went_vacuum : (answer : VacuumAnswer) → DidVacuum m v w answer → WentOne m speech v w asked.Vacuum (vacuum_record answer)
   went_vacuum (vacuums.Vacuumed swept span) told = went asked.Vacuum (vacuum_record (vacuums.Vacuumed swept span)) _ told.2 (λ block. (told.0, told.1, refl)) tt
   went_vacuum (vacuums.Open by span) told = went asked.Vacuum (vacuum_record (vacuums.Open by span)) _ told.0 (λ block. (told.1, refl)) tt
-  went_vacuum (vacuums.Memory span) (inl told) = went asked.Vacuum (vacuum_record (vacuums.Memory span)) _ told (λ block. inl refl) tt
+  went_vacuum (vacuums.Memory span) (inl told) = went asked.Vacuum (vacuum_record (vacuums.Memory span)) _ told.0 (λ block. inl refl) tt
   went_vacuum (vacuums.Memory span) (inr told) = went asked.Vacuum (vacuum_record (vacuums.Memory span)) _ told.1 (λ block. inr (length told.0, (told.0, refl, refl))) tt
 
 module _ {O Key Recon Cond : Type 0} (m : Meaning Key Recon Cond) (speech : Speech Key Cond) where

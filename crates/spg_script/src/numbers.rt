@@ -7,6 +7,9 @@ use spg_base::{Point, Row};
 /// Every number below 2^32 has at most so many digits.
 const MOST_DIGITS: usize = 10;
 
+/// So many digits spell a number below 2^64.
+const FEW_DIGITS: usize = 19;
+
 /// The number that the digits spell, where it is below 2^32. Leading zeros are let through.
 fn value(bytes: &[u8]) -> Option<u32>
     requires few { length bytes.now ≤ 10 }
@@ -40,11 +43,11 @@ pub fn number(bytes: &[u8]) -> Option<u32>
     }
 }
 
-/// The number that the digits spell, where it is below 2^64. Leading zeros are let through.
-fn wide_value(bytes: &[u8]) -> Option<u64>
-    ensures { result ≡ value_from (2 ^ 64) 0 bytes.now }
+/// The number that the digits spell behind those of `begun`, where it is below 2^64.
+fn value_behind(begun: u64, bytes: &[u8]) -> Option<u64>
+    ensures { result ≡ value_from (2 ^ 64) begun bytes.now }
 {
-    let mut value = 0u64;
+    let mut value = begun;
     for b in bytes {
         if *b < b'0' || *b > b'9' {
             return None;
@@ -52,6 +55,23 @@ fn wide_value(bytes: &[u8]) -> Option<u64>
         value = value.checked_mul(10)?.checked_add(u64::from(*b - b'0'))?;
     }
     Some(value)
+}
+
+/// The number that the digits spell, where it is below 2^64. Leading zeros are let through. The first 19
+/// digits need no test.
+fn wide_value(bytes: &[u8]) -> Option<u64>
+    ensures { result ≡ value_from (2 ^ 64) 0 bytes.now }
+{
+    let few = bytes.len().min(FEW_DIGITS);
+    let mut value = 0u64;
+    for at in 0..few {
+        let b = bytes[at];
+        if b < b'0' || b > b'9' {
+            return None;
+        }
+        value = value * 10 + u64::from(b - b'0');
+    }
+    value_behind(value, &bytes[few..])
 }
 
 /// The number that the bytes spell in decimal digits, without a leading zero. None exactly where they

@@ -58,7 +58,7 @@ module _ {O Key Recon Cond : Type 0} (m : Meaning Key Recon Cond) (v w : View (E
   pub vacuum_number : (answer : VacuumAnswer) → DidVacuum m v w answer → w.number ≡ v.number
   vacuum_number (vacuums.Vacuumed swept span) told = told_number span _ told.2
   vacuum_number (vacuums.Open by span) told = told_number span _ told.0
-  vacuum_number (vacuums.Memory span) (inl told) = told_number span _ told
+  vacuum_number (vacuums.Memory span) (inl told) = told_number span _ told.0
   vacuum_number (vacuums.Memory span) (inr told) = told_number span _ told.1
 
   pub copy_number : (answer : PagesAnswer) → DidCopy m v w answer → w.number ≡ v.number

@@ -46,19 +46,26 @@ fn digits(sifted: &Sifted<Quad>) -> u64 {
     number
 }
 
+/// Whether just these nodes, and no row, are left of a copy, which is kept.
+fn keeps_nodes(alloc: Global, copied: Copied<Quad>, nodes: u64) -> Result<bool, Memory> {
+    let again = copied.copy()?;
+    let sifted = sift(alloc, &Quad, copied)?;
+    Ok(digits(&sifted) == nodes && sifted.rows().is_empty() && sifted.copied().same(&again))
+}
+
+/// Whether the copy tells of its four nodes.
+fn is_inner(tuple: &InnerCopy<Quad>) -> bool {
+    tuple.links().len() == 4 && tuple.recon().same(&QuadRecon) && tuple.tuple().labels.len() == 4
+}
+
 #[test]
 fn nodes_of_an_inner_tuple_are_sifted(rt: HostRuntime) -> Result<(), Fail> {
     let alloc = rt.alloc();
+    let conds = conds_of(alloc, PointCond::Left(0))?;
     match inner(alloc)? {
         Some(tuple) => {
-            assert!(rt; tuple.links().len() == 4 && tuple.recon().same(&QuadRecon));
-            assert!(rt; tuple.tuple().labels.len() == 4);
-            let conds = conds_of(alloc, PointCond::Left(0))?;
-            let copied = Copied::Inner { tuple, conds };
-            let again = copied.copy()?;
-            let sifted = sift(alloc, &Quad, copied)?;
-            assert_eq!(rt; digits(&sifted), 34);
-            assert!(rt; sifted.rows().is_empty() && sifted.copied().same(&again));
+            assert!(rt; is_inner(&tuple));
+            assert!(rt; keeps_nodes(alloc, Copied::Inner { tuple, conds }, 34)?);
         }
         None => assert!(rt; false),
     }
@@ -68,31 +75,39 @@ fn nodes_of_an_inner_tuple_are_sifted(rt: HostRuntime) -> Result<(), Fail> {
 #[test]
 fn every_node_is_kept_without_conditions(rt: HostRuntime) -> Result<(), Fail> {
     let alloc = rt.alloc();
+    let conds = List::new(alloc);
     match inner(alloc)? {
-        Some(tuple) => {
-            let conds = List::new(alloc);
-            let sifted = sift(alloc, &Quad, Copied::Inner { tuple, conds })?;
-            assert_eq!(rt; digits(&sifted), 1234);
-        }
+        Some(tuple) => assert!(rt; keeps_nodes(alloc, Copied::Inner { tuple, conds }, 1234)?),
         None => assert!(rt; false),
     }
     Ok(())
 }
 
+/// Whether just row 1.2, and no node, is left of a copy, which is kept.
+fn keeps_the_second(alloc: Global, copied: Copied<Quad>) -> Result<bool, Memory> {
+    let again = copied.copy()?;
+    let sifted = sift(alloc, &Quad, copied)?;
+    Ok(
+        sifted.rows().len() == 1
+            && sifted.rows().get(0) == Some(&Row::at(1, 2))
+            && sifted.nodes().is_empty()
+            && sifted.copied().same(&again),
+    )
+}
+
+/// Whether the copy tells of its two leaves.
+fn are_leaves(leaves: &LeavesCopy<Quad>) -> bool {
+    leaves.rows().len() == 2 && leaves.rests().len() == 2 && leaves.recon().same(&QuadRecon)
+}
+
 #[test]
 fn rows_of_leaves_are_sifted(rt: HostRuntime) -> Result<(), Fail> {
     let alloc = rt.alloc();
+    let conds = conds_of(alloc, PointCond::Eq(Point { x: 5, y: -1 }))?;
     match leaves(alloc)? {
         Some(leaves) => {
-            assert!(rt; leaves.rows().len() == 2 && leaves.rests().len() == 2);
-            assert!(rt; leaves.recon().same(&QuadRecon));
-            let conds = conds_of(alloc, PointCond::Eq(Point { x: 5, y: -1 }))?;
-            let copied = Copied::Leaves { leaves, conds };
-            let again = copied.copy()?;
-            let sifted = sift(alloc, &Quad, copied)?;
-            assert_eq!(rt; sifted.rows().len(), 1);
-            assert!(rt; sifted.rows().get(0) == Some(&Row::at(1, 2)));
-            assert!(rt; sifted.nodes().is_empty() && sifted.copied().same(&again));
+            assert!(rt; are_leaves(&leaves));
+            assert!(rt; keeps_the_second(alloc, Copied::Leaves { leaves, conds })?);
         }
         None => assert!(rt; false),
     }

@@ -1,8 +1,9 @@
 //! The same calls, on files of the current folder and in memory, answer the same. Names that no file can have
-//! are refused.
+//! are refused. A file is kept open between reads alone.
 
 use spg_base::Bytes;
 use spg_io::{FolderImages, Images, IoRefused, PlainImages};
+use std::alloc::Global;
 use std::fs;
 use std::rt::Files;
 use std::test::Fail;
@@ -134,6 +135,34 @@ fn remove<R: Files>(rt: &R) {
     let _ = fs::remove_dir(rt, YARD);
 }
 
+/// What is called between two reads of a name whose file is taken away meanwhile and made anew, and the page
+/// that is read at last: 1 was put first, 2 in between, 3 by another.
+const BETWEEN: [(Option<Call>, u8); 4] = [
+    (None, 1),
+    (Some(Call::Len(TOWN)), 3),
+    (Some(Call::Clear(TOWN)), 3),
+    (Some(Call::Put(TOWN, 2)), 2),
+];
+
+/// Whether the page of this number is put.
+fn puts<I: Images>(images: &mut I, number: u8) -> bool {
+    images.put(TOWN, &page_of(number)).is_ok()
+}
+
+/// Whether the page of this number is read first.
+fn reads<I: Images>(images: &mut I, number: u8) -> bool {
+    let mut page = [0; 8192];
+    images.get(TOWN, 0, &mut page) == Ok(true) && page.as_slice() == page_of(number).as_slice()
+}
+
+/// Whether a call, where there is one, answers as it does on no images.
+fn is_called<I: Images>(alloc: Global, images: &mut I, call: Option<Call>) -> bool {
+    match call {
+        Some(call) => is_alike(images, &mut PlainImages::new(alloc), call),
+        None => true,
+    }
+}
+
 #[test]
 fn a_folder_holds_images_as_memory_does(rt: HostRuntime) -> Result<(), Fail> {
     remove(&rt);
@@ -167,5 +196,22 @@ fn a_folder_refuses_what_is_no_file(rt: HostRuntime) -> Result<(), Fail> {
     let up = fails(&mut images, "../spg-test-town");
     remove(&rt);
     assert!(rt; yard && up);
+    Ok(())
+}
+
+/// Between reads alone a file stays open, and every other call lets it go.
+#[test]
+fn each_call_but_a_read_looks_for_the_file_anew(rt: HostRuntime) -> Result<(), Fail> {
+    remove(&rt);
+    for (call, number) in &BETWEEN {
+        let mut images = FolderImages::new(&rt);
+        let first = puts(&mut images, 1) && reads(&mut images, 1);
+        remove(&rt);
+        let called = is_called(rt.alloc(), &mut images, *call);
+        let put = puts(&mut FolderImages::new(&rt), 3);
+        let last = reads(&mut images, *number);
+        remove(&rt);
+        assert!(rt; first && called && put && last, "page {number}");
+    }
     Ok(())
 }

@@ -10,7 +10,7 @@ use spg_test_calls::{
 };
 
 /// What a seat does.
-#[derive(Clone, Copy, Debug, PartialEq, Eq)]
+#[derive(Clone, Copy)]
 pub(crate) enum Call {
     /// Opens an insert of the point 0,0 with a row of block 9.
     Insert(u16),
@@ -31,7 +31,7 @@ pub(crate) enum Call {
 }
 
 /// What a call answered, with the block and the seat that it names.
-#[derive(Clone, Copy, Debug, PartialEq, Eq)]
+#[derive(Clone, Copy, PartialEq, Eq)]
 pub(crate) enum Answer {
     Done,
     Descended,

@@ -7,7 +7,9 @@ use crate::lent::{
 };
 use spg_base::{List, Memory, Point, PointCond, Row, Same, SeatNo, Stat};
 use spg_core::{ApplyRefused, Bare, InsertOut, Look, OpenKind, ScanCopy, SiftRefused};
-use spg_opclass::{Chosen, OpClass, Query, Sifted, choose_at, part_at, sift, start_at};
+use spg_opclass::{
+    Bunch, Chosen, Copied, OpClass, Query, Sifted, Spotted, choose_at, part_at, sift, start_at,
+};
 use spg_quad::Quad;
 use std::alloc::Global;
 use std::mem;
@@ -25,23 +27,39 @@ fn open(alloc: Global, bare: &mut Bare<Quad>, row: Row, x: i32) -> Result<(), Me
     }
 }
 
+/// What came of what the class answered.
+fn applied(came: Option<Result<InsertOut, ApplyRefused>>) -> Result<InsertOut, Memory> {
+    match came {
+        Some(Ok(out)) => Ok(out),
+        _ => Err(Memory),
+    }
+}
+
+/// Goes on by what the class chooses for a copy.
+fn by_choice(
+    alloc: Global,
+    bare: &mut Bare<Quad>,
+    spotted: Spotted<Quad>,
+) -> Result<InsertOut, Memory> {
+    let chosen = choose_at(alloc, &Quad, spotted)?;
+    applied(insert_choose(bare, SeatNo::first(), &chosen))
+}
+
+/// Goes on by how the class divides a copy.
+fn by_part(alloc: Global, bare: &mut Bare<Quad>, bunch: Bunch<Quad>) -> Result<InsertOut, Memory> {
+    if bunch.rests().is_empty() {
+        return Err(Memory);
+    }
+    let parted = part_at(alloc, &Quad, bunch)?;
+    applied(insert_part(bare, SeatNo::first(), &parted))
+}
+
 /// The next section of seat 0's insert, for which the class is asked on a copy.
 fn section(alloc: Global, bare: &mut Bare<Quad>) -> Result<InsertOut, Memory> {
-    let seat = SeatNo::first();
-    let applied = match insert_look(bare, seat) {
-        Some(Ok(Look::Stepped(out))) => return Ok(out),
-        Some(Ok(Look::Choose(spotted))) => {
-            let chosen = choose_at(alloc, &Quad, spotted)?;
-            insert_choose(bare, seat, &chosen)
-        }
-        Some(Ok(Look::Part(bunch))) if !bunch.rests().is_empty() => {
-            let parted = part_at(alloc, &Quad, bunch)?;
-            insert_part(bare, seat, &parted)
-        }
-        _ => return Err(Memory),
-    };
-    match applied {
-        Some(Ok(out)) => Ok(out),
+    match insert_look(bare, SeatNo::first()) {
+        Some(Ok(Look::Stepped(out))) => Ok(out),
+        Some(Ok(Look::Choose(spotted))) => by_choice(alloc, bare, spotted),
+        Some(Ok(Look::Part(bunch))) => by_part(alloc, bare, bunch),
         _ => Err(Memory),
     }
 }
@@ -77,7 +95,7 @@ const FILLED: Stat = Stat {
 };
 
 /// What a look of seat 0 gave.
-#[derive(Clone, Copy, Debug, PartialEq, Eq)]
+#[derive(Clone, Copy, PartialEq, Eq)]
 enum Seen {
     Stepped(InsertOut),
     /// A copy of an inner tuple; whether it has the centroid that is looked for.
@@ -86,22 +104,36 @@ enum Seen {
     Nothing,
 }
 
-/// What seat 0 looks at, where the centroid x,0 is looked for; with what the class chooses there.
-fn look(
-    alloc: Global,
-    bare: &mut Bare<Quad>,
-    x: i32,
-) -> Result<(Seen, Option<Chosen<Quad>>), Memory> {
+/// Whether a copied tuple has the centroid x,0.
+fn has_centroid(alloc: Global, spotted: &Spotted<Quad>, x: i32) -> Result<bool, Memory> {
+    let centroid = Quad.rest_of(alloc, &Point { x, y: 0 })?;
+    Ok(spotted.tuple().prefix.same(&centroid))
+}
+
+/// What the class chooses for a copied tuple, and whether that has the centroid x,0.
+fn look_at(alloc: Global, spotted: Spotted<Quad>, x: i32) -> Result<Looked, Memory> {
+    let same = has_centroid(alloc, &spotted, x)?;
+    let chosen = choose_at(alloc, &Quad, spotted)?;
+    Ok((Seen::Choose(same), Some(chosen)))
+}
+
+/// What a look of seat 0 gave, with what the class chooses there.
+type Looked = (Seen, Option<Chosen<Quad>>);
+
+/// What seat 0 looks at, where the centroid x,0 is looked for.
+fn look(alloc: Global, bare: &mut Bare<Quad>, x: i32) -> Result<Looked, Memory> {
     match insert_look(bare, SeatNo::first()) {
         Some(Ok(Look::Stepped(out))) => Ok((Seen::Stepped(out), None)),
-        Some(Ok(Look::Choose(spotted))) => {
-            let centroid = Quad.rest_of(alloc, &Point { x, y: 0 })?;
-            let same = spotted.tuple().prefix.same(&centroid);
-            Ok((Seen::Choose(same), Some(choose_at(alloc, &Quad, spotted)?)))
-        }
+        Some(Ok(Look::Choose(spotted))) => look_at(alloc, spotted, x),
         Some(Ok(Look::Part(_))) => Ok((Seen::Part, None)),
         _ => Ok((Seen::Nothing, None)),
     }
+}
+
+/// What seat 0 looks at, where nothing is looked for.
+fn glance(alloc: Global, bare: &mut Bare<Quad>) -> Result<Seen, Memory> {
+    let (seen, _) = look(alloc, bare, 0)?;
+    Ok(seen)
 }
 
 /// What comes of what was chosen, where something was.
@@ -123,32 +155,61 @@ fn chosen_at_root(
     x: i32,
 ) -> Result<Option<Chosen<Quad>>, Memory> {
     open(alloc, bare, row, x)?;
-    let (first, _) = look(alloc, bare, 147)?;
-    let (second, chosen) = look(alloc, bare, 147)?;
-    if (first, second) == (Seen::Stepped(InsertOut::Descended), Seen::Choose(true)) {
-        Ok(chosen)
-    } else {
-        Ok(None)
+    if glance(alloc, bare)? != Seen::Stepped(InsertOut::Descended) {
+        return Ok(None);
     }
+    match look(alloc, bare, 147)? {
+        (Seen::Choose(true), chosen) => Ok(chosen),
+        _ => Ok(None),
+    }
+}
+
+/// Whether an answer is taken, or else refused as one for another copy.
+fn is_taken(bare: &mut Bare<Quad>, chosen: &Option<Chosen<Quad>>) -> Option<bool> {
+    match choose(bare, chosen) {
+        Some(Ok(InsertOut::Descended)) => Some(true),
+        Some(Err(ApplyRefused::Changed)) => Some(false),
+        _ => None,
+    }
+}
+
+/// What was chosen for an insert that is given up.
+fn chosen_before(alloc: Global, bare: &mut Bare<Quad>) -> Result<Option<Chosen<Quad>>, Memory> {
+    let other = chosen_at_root(alloc, bare, Row::at(9, 2), 299);
+    give_up(bare, SeatNo::first());
+    other
+}
+
+/// Which of these answers are taken: one for another insert, one for this one, and that again.
+fn taken(
+    bare: &mut Bare<Quad>,
+    other: &Option<Chosen<Quad>>,
+    chosen: &Option<Chosen<Quad>>,
+) -> [Option<bool>; 3] {
+    [
+        is_taken(bare, other),
+        is_taken(bare, chosen),
+        is_taken(bare, chosen),
+    ]
 }
 
 /// An answer that was given for another insert is not taken; one that was given for this one is, once.
 fn takes_its_own(alloc: Global, bare: &mut Bare<Quad>) -> Result<bool, Memory> {
-    let other = chosen_at_root(alloc, bare, Row::at(9, 2), 299)?;
-    give_up(bare, SeatNo::first());
+    let other = chosen_before(alloc, bare)?;
     let chosen = chosen_at_root(alloc, bare, Row::at(9, 1), 300)?;
-    let refused = choose(bare, &other) == Some(Err(ApplyRefused::Changed));
-    let taken = choose(bare, &chosen) == Some(Ok(InsertOut::Descended));
-    let again = choose(bare, &chosen) == Some(Err(ApplyRefused::Changed));
-    Ok(refused && taken && again)
+    Ok(taken(bare, &other, &chosen) == [Some(false), Some(true), Some(false)])
+}
+
+/// The tuple at which seat 0 looks has the centroid x,0, and what the class chooses there is taken.
+fn goes_down(alloc: Global, bare: &mut Bare<Quad>, x: i32) -> Result<bool, Memory> {
+    let (seen, chosen) = look(alloc, bare, x)?;
+    Ok(seen == Seen::Choose(true) && is_taken(bare, &chosen) == Some(true))
 }
 
 /// The tuple below has the centroid 220,0, and a leaf is put below that.
 fn puts_below(alloc: Global, bare: &mut Bare<Quad>) -> Result<bool, Memory> {
-    let (seen, chosen) = look(alloc, bare, 220)?;
-    let taken = choose(bare, &chosen) == Some(Ok(InsertOut::Descended));
-    let (last, _) = look(alloc, bare, 0)?;
-    Ok(seen == Seen::Choose(true) && taken && last == Seen::Stepped(InsertOut::Put))
+    let down = goes_down(alloc, bare, 220)?;
+    Ok(glance(alloc, bare)? == Seen::Stepped(InsertOut::Put) && down)
 }
 
 /// Seat 0 opens a scan of the rows at the last point.
@@ -165,48 +226,75 @@ fn open_scan(alloc: Global, bare: &mut Bare<Quad>) -> Result<(), Memory> {
     }
 }
 
-/// The scan goes on by a copy of its first item: what the class answered.
-fn go_on(alloc: Global, bare: &mut Bare<Quad>) -> Result<Sifted<Quad>, Memory> {
-    let Some(Ok(ScanCopy::Sift(copied))) = scan_copy(bare, SeatNo::first()) else {
-        return Err(Memory);
-    };
-    let sifted = sift(alloc, &Quad, copied)?;
-    match scan_sifted(bare, SeatNo::first(), &sifted) {
-        Some(Ok(())) => Ok(sifted),
-        _ => Err(Memory),
+/// The copy of the first item of seat 0's scan.
+fn copied(bare: &mut Bare<Quad>) -> Option<Copied<Quad>> {
+    match scan_copy(bare, SeatNo::first()) {
+        Some(Ok(ScanCopy::Sift(copied))) => Some(copied),
+        _ => None,
     }
 }
 
-/// The copies are of the root, of the inner tuple below it and of the chain of 73 where the point stands. The
-/// last answer was used then, and is refused.
+/// What the class answers for the copy of the first item.
+fn sifted(alloc: Global, bare: &mut Bare<Quad>) -> Result<Sifted<Quad>, Memory> {
+    match copied(bare) {
+        Some(copied) => sift(alloc, &Quad, copied),
+        None => Err(Memory),
+    }
+}
+
+/// Whether the scan goes on by an answer, or else refuses it as one for another copy.
+fn is_sifted(bare: &mut Bare<Quad>, sifted: &Sifted<Quad>) -> Option<bool> {
+    match scan_sifted(bare, SeatNo::first(), sifted) {
+        Some(Ok(())) => Some(true),
+        Some(Err(SiftRefused::Changed)) => Some(false),
+        _ => None,
+    }
+}
+
+/// The scan goes on by a copy of its first item: what comes of the answer, and of the same once more.
+fn go_on(alloc: Global, bare: &mut Bare<Quad>) -> Result<[Option<bool>; 2], Memory> {
+    let sifted = sifted(alloc, bare)?;
+    Ok([is_sifted(bare, &sifted), is_sifted(bare, &sifted)])
+}
+
+/// An answer is taken once. The copies are of the root, of the inner tuple below it and of the chain of 73
+/// where the point stands.
+fn goes_on(alloc: Global, bare: &mut Bare<Quad>) -> Result<bool, Memory> {
+    for _ in 0..3u8 {
+        if go_on(alloc, bare)? != [Some(true), Some(false)] {
+            return Ok(false);
+        }
+    }
+    Ok(true)
+}
+
+/// The scan ends with the row of the point. It has met the two inner tuples and the chain.
+fn ends(bare: &mut Bare<Quad>) -> bool {
+    match close_scan(bare, SeatNo::first()) {
+        Some(Ok(closed)) => {
+            closed.met == 75 && closed.rows.as_slice() == [Row::at(1, POINTS)].as_slice()
+        }
+        _ => false,
+    }
+}
+
 fn scans_by_copies(alloc: Global, bare: &mut Bare<Quad>) -> Result<bool, Memory> {
     open_scan(alloc, bare)?;
-    go_on(alloc, bare)?;
-    go_on(alloc, bare)?;
-    let used = go_on(alloc, bare)?;
-    let again = scan_sifted(bare, SeatNo::first(), &used) == Some(Err(SiftRefused::Changed));
-    match close_scan(bare, SeatNo::first()) {
-        Some(Ok(closed)) => Ok(
-            again && closed.met == 75 && closed.rows.as_slice() == [Row::at(1, POINTS)].as_slice(),
-        ),
-        _ => Ok(false),
-    }
+    Ok(goes_on(alloc, bare)? && ends(bare))
 }
 
-/// What came of an index whose class is asked on copies: its counts, the length of its journal, and whether the
-/// scan and the inserts go as they are to.
-type Came = (Stat, u64, [bool; 3]);
-
-fn take(alloc: Global, bare: &mut Bare<Quad>) -> Result<Came, Memory> {
+/// Whether an index whose class is asked on copies has the counts and the journal of one whose sections ask at
+/// once, and its scan and inserts go as they are to.
+fn take(alloc: Global, bare: &mut Bare<Quad>) -> Result<[bool; 4], Memory> {
     fill(alloc, bare)?;
-    let (stat, events) = (bare.stat(), bare.journal().len());
+    let filled = bare.stat() == FILLED && bare.journal().len() == 584;
     let scanned = scans_by_copies(alloc, bare)?;
     let taken = takes_its_own(alloc, bare)?;
     let put = puts_below(alloc, bare)?;
-    Ok((stat, events, [scanned, taken, put]))
+    Ok([filled, scanned, taken, put])
 }
 
-fn come(alloc: Global) -> Result<Came, Memory> {
+fn come(alloc: Global) -> Result<[bool; 4], Memory> {
     let mut bare = Bare::new(alloc, 65536)?;
     let came = take(alloc, &mut bare);
     mem::forget(bare);
@@ -215,6 +303,6 @@ fn come(alloc: Global) -> Result<Came, Memory> {
 
 #[test]
 fn goes_on_by_copies(rt: HostRuntime) -> Result<(), Fail> {
-    assert_eq!(rt; come(rt.alloc())?, (FILLED, 584, [true; 3]));
+    assert!(rt; come(rt.alloc())? == [true; 4]);
     Ok(())
 }

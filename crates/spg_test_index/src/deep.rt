@@ -67,7 +67,7 @@ fn vacuum(state: &mut State<Radix>) -> Result<u64, Memory> {
 
 /// What came of the tree: the sections of the last insert, the inner tuples, what a find of the longest text
 /// gives and meets, how many rows were deleted and swept, and how many all are then.
-#[derive(Clone, Copy, Debug, PartialEq, Eq)]
+#[derive(Clone, Copy, PartialEq, Eq)]
 struct Came {
     sections: usize,
     inner: u64,
@@ -112,6 +112,6 @@ fn goes_down_many_levels(rt: HostRuntime) -> Result<(), Fail> {
         swept: 125,
         left: 125,
     };
-    assert_eq!(rt; come(rt.alloc())?, wanted);
+    assert!(rt; come(rt.alloc())? == wanted);
     Ok(())
 }

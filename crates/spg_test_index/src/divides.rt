@@ -190,6 +190,19 @@ fn fill<O: OpClass<Key = Point>>(
     Ok(())
 }
 
+/// Inserts so many points: whether the letters of the last insert are these.
+fn are_letters<O: OpClass<Key = Point>>(
+    alloc: Global,
+    state: &mut State<O>,
+    keys: Keys,
+    count: u16,
+    letters: &[u8],
+) -> Result<bool, Memory> {
+    let mut log = Vec::new(alloc);
+    fill(state, keys, count, &mut log)?;
+    Ok(reads(&log, letters))
+}
+
 /// Whether finds give and meet these.
 fn are_found<O: OpClass<Key = Point, Cond = PointCond>>(
     alloc: Global,
@@ -204,63 +217,65 @@ fn are_found<O: OpClass<Key = Point, Cond = PointCond>>(
     Ok(true)
 }
 
-/// What came of the inserts of a case: the letters, whether the finds give what they are to, and the counts.
-type Came = (Vec<u8>, bool, Stat);
-
+/// Whether the inserts of a case do what they are to, and leave these counts.
 fn take<O: OpClass<Key = Point, Cond = PointCond>>(
     alloc: Global,
     state: &mut State<O>,
     case: &Case,
-) -> Result<Came, Memory> {
-    let mut log = Vec::new(alloc);
-    fill(state, case.keys, case.count, &mut log)?;
+) -> Result<bool, Memory> {
+    let read = are_letters(alloc, state, case.keys, case.count, case.letters)?;
     let found = are_found(alloc, state, &case.finds)?;
-    Ok((log, found, state.stat()))
+    Ok(read && found && state.stat() == case.stat)
 }
 
-/// The same on a new index of at most so many pages.
-fn come<O: OpClass<Key = Point, Cond = PointCond>>(
+/// The same on a new index.
+fn is_so<O: OpClass<Key = Point, Cond = PointCond>>(
     alloc: Global,
     class: O,
     case: &Case,
-) -> Result<Came, Memory> {
+) -> Result<bool, Memory> {
     let mut state = State::new(alloc, class, 65536)?;
-    let came = take(alloc, &mut state, case);
+    let so = take(alloc, &mut state, case);
     mem::forget(state);
-    came
-}
-
-/// Whether a case came out as it says.
-fn is_so(came: &Came, case: &Case) -> bool {
-    let (log, found, stat) = came;
-    reads(log, case.letters) && *found && *stat == case.stat
+    so
 }
 
 #[test]
 fn divides_and_finds_again(rt: HostRuntime) -> Result<(), Fail> {
     for case in &QUAD {
-        assert!(rt; is_so(&come(rt.alloc(), Quad, case)?, case));
+        assert!(rt; is_so(rt.alloc(), Quad, case)?);
     }
-    assert!(rt; is_so(&come(rt.alloc(), Kd, &KD)?, &KD));
+    assert!(rt; is_so(rt.alloc(), Kd, &KD)?);
     Ok(())
 }
 
-/// Inserts one null more than a root leaf page holds, with rows 1.1, 1.2 and so on. What finds of nulls and of
-/// all give, whether the letters of the last insert are right, and the counts.
-fn take_nulls<O: OpClass>(
-    alloc: Global,
-    state: &mut State<O>,
-) -> Result<(Found, Found, bool, Stat), Memory> {
+/// The counts of an index of nulls, one more than a root leaf page holds.
+const NULLS: Stat = Stat {
+    pages: 5,
+    inner: 1,
+    leaf: 409,
+    placeholder: 50,
+    ..COUNTS
+};
+
+/// Inserts so many nulls with rows 1.1, 1.2 and so on: whether the letters of the last insert are right.
+fn fill_nulls<O: OpClass>(alloc: Global, state: &mut State<O>) -> Result<bool, Memory> {
     let mut log = Vec::new(alloc);
     for number in 1..=409 {
         insert(state, Row::at(1, number), None, &mut log)?;
     }
-    let nulls = find(state, Query::Null)?;
-    let all = find(state, Query::All)?;
-    Ok((nulls, all, reads(&log, b"DSDP"), state.stat()))
+    Ok(reads(&log, b"DSDP"))
 }
 
-fn nulls_of<O: OpClass>(alloc: Global, class: O) -> Result<(Found, Found, bool, Stat), Memory> {
+/// Whether the nulls are divided and found.
+fn take_nulls<O: OpClass>(alloc: Global, state: &mut State<O>) -> Result<bool, Memory> {
+    let read = fill_nulls(alloc, state)?;
+    let nulls = find(state, Query::Null)?;
+    let all = find(state, Query::All)?;
+    Ok(read && [nulls, all] == [(409, 410); 2] && state.stat() == NULLS)
+}
+
+fn are_nulls<O: OpClass>(alloc: Global, class: O) -> Result<bool, Memory> {
     let mut state = State::new(alloc, class, 65536)?;
     let came = take_nulls(alloc, &mut state);
     mem::forget(state);
@@ -270,17 +285,9 @@ fn nulls_of<O: OpClass>(alloc: Global, class: O) -> Result<(Found, Found, bool, 
 /// Nulls stand alike in each class.
 #[test]
 fn nulls_are_divided_in_each_class(rt: HostRuntime) -> Result<(), Fail> {
-    let stat = Stat {
-        pages: 5,
-        inner: 1,
-        leaf: 409,
-        placeholder: 50,
-        ..COUNTS
-    };
-    let wanted = ((409, 410), (409, 410), true, stat);
-    assert_eq!(rt; nulls_of(rt.alloc(), Quad)?, wanted);
-    assert_eq!(rt; nulls_of(rt.alloc(), Kd)?, wanted);
-    assert_eq!(rt; nulls_of(rt.alloc(), Radix)?, wanted);
+    assert!(rt; are_nulls(rt.alloc(), Quad)?);
+    assert!(rt; are_nulls(rt.alloc(), Kd)?);
+    assert!(rt; are_nulls(rt.alloc(), Radix)?);
     Ok(())
 }
 
@@ -305,13 +312,24 @@ const FULL: Stat = Stat {
     ..COUNTS
 };
 
+/// Whether the sections of an insert have these letters.
+fn goes_in(
+    alloc: Global,
+    state: &mut State<Quad>,
+    row: Row,
+    key: Option<Point>,
+    letters: &[u8],
+) -> Result<bool, Memory> {
+    let mut log = Vec::new(alloc);
+    insert(state, row, key, &mut log)?;
+    Ok(reads(&log, letters))
+}
+
 /// Whether the later inserts do what they are to.
 fn go_later(alloc: Global, state: &mut State<Quad>) -> Result<bool, Memory> {
-    let mut log = Vec::new(alloc);
     for (block, offset, key, letters) in &LATER {
         let row = Row::at(*block, (*offset).max(1));
-        insert(state, row, *key, &mut log)?;
-        if !reads(&log, letters) {
+        if !goes_in(alloc, state, row, *key, letters)? {
             return Ok(false);
         }
     }
@@ -333,27 +351,24 @@ fn vacuum(state: &mut State<Quad>) -> Result<u64, Memory> {
     Err(Memory)
 }
 
+/// How many tuples are dead, and how many leaves.
+fn dead_and_leaves(state: &State<Quad>) -> (u64, u64) {
+    let stat = state.stat();
+    (stat.dead, stat.leaf)
+}
+
 /// Whether the only tuple of a chain is dead once its row is swept, and the next point is put there.
 fn takes_a_dead_head(alloc: Global, state: &mut State<Quad>) -> Result<bool, Memory> {
-    let mut log = Vec::new(alloc);
     let killed = kill(state, SeatNo::first(), Row::at(2, 1)) == Some(Ok(true));
-    let swept = vacuum(state)? == 1;
-    let (dead, leaves) = (state.stat().dead, state.stat().leaf);
-    insert(
-        state,
-        Row::at(2, 4),
-        Some(Point { x: 201, y: -6 }),
-        &mut log,
-    )?;
-    let put = reads(&log, b"DDP") && state.stat().dead == 0;
-    Ok(killed && swept && (dead, leaves) == (1, 293) && put && state.stat().leaf == 294)
+    let swept = vacuum(state)? == 1 && dead_and_leaves(state) == (1, 293);
+    let comer = Some(Point { x: 201, y: -6 });
+    let put = goes_in(alloc, state, Row::at(2, 4), comer, b"DDP")?;
+    Ok(killed && swept && put && dead_and_leaves(state) == (0, 294))
 }
 
 /// Fills an index of five pages, of which a division of a chain needs more, and goes on.
 fn take_full(alloc: Global, state: &mut State<Quad>) -> Result<[bool; 5], Memory> {
-    let mut log = Vec::new(alloc);
-    fill(state, Keys::Line(0), 292, &mut log)?;
-    let full = reads(&log, b"DSDF") && state.stat() == FULL;
+    let full = are_letters(alloc, state, Keys::Line(0), 292, b"DSDF")? && state.stat() == FULL;
     let kept = are_found(alloc, state, &[(Ask::All, (291, 292))])?;
     let later = go_later(alloc, state)?;
     let found = are_found(alloc, state, &[(Ask::All, (294, 295))])?;
@@ -371,6 +386,6 @@ fn full(alloc: Global) -> Result<[bool; 5], Memory> {
 /// page go in.
 #[test]
 fn goes_on_when_full(rt: HostRuntime) -> Result<(), Fail> {
-    assert_eq!(rt; full(rt.alloc())?, [true; 5]);
+    assert!(rt; full(rt.alloc())? == [true; 5]);
     Ok(())
 }

@@ -78,7 +78,7 @@ fn points(alloc: Global) -> Result<(usize, usize), Memory> {
 /// the chains that the scan holds move and divide. The scan gives each row once.
 #[test]
 fn gives_each_row_of_a_chain_that_left(rt: HostRuntime) -> Result<(), Fail> {
-    assert_eq!(rt; points(rt.alloc())?, (8, 10_300));
+    assert!(rt; points(rt.alloc())? == (8, 10_300));
     Ok(())
 }
 
@@ -145,8 +145,6 @@ fn texts(alloc: Global) -> Result<[usize; 4], Memory> {
 /// since is found where it stands on what the scan reads later; what was deleted since is not.
 #[test]
 fn a_scan_holds_more_than_200_items(rt: HostRuntime) -> Result<(), Fail> {
-    let [first, most, killed, rows] = texts(rt.alloc())?;
-    assert_eq!(rt; (first, killed), (251, 100));
-    assert_eq!(rt; (most, rows), (251, 2_400));
+    assert!(rt; texts(rt.alloc())? == [251, 251, 100, 2_400]);
     Ok(())
 }

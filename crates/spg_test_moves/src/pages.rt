@@ -72,18 +72,18 @@ fn leaf_at(offset: u16) -> (u32, u16, i32, i32, bool) {
     }
 }
 
-/// Puts the leaf at an offset of the full page, and its item pointer.
-fn put_leaf(page: &mut [u8; 8192], offset: u16) {
-    if offset == 0 || offset > LEAVES {
-        return;
-    }
-    let (block, row, x, y, is_last) = leaf_at(offset);
-    let next = if is_last { 0 } else { offset + 1 };
-    let begin = END - 24 * offset;
-    let at = usize::from(begin);
+/// Puts the item pointer of an offset, whose tuple begins there.
+fn put_item(page: &mut [u8; 8192], offset: u16, begin: u16) {
     let item = usize::from(offset) * 4 + 20;
     put(page, item, &begin.to_le_bytes());
     put(page, item + 2, &[24]);
+}
+
+/// Puts the leaf of an offset where its tuple begins.
+fn put_tuple(page: &mut [u8; 8192], offset: u16, begin: u16) {
+    let (block, row, x, y, is_last) = leaf_at(offset);
+    let next = if is_last { 0 } else { offset.saturating_add(1) };
+    let at = usize::from(begin);
     put(page, at, &[2, 0, 24, 0]);
     put(page, at + 4, &next.to_le_bytes());
     put(page, at + 6, &row.to_le_bytes());
@@ -91,6 +91,16 @@ fn put_leaf(page: &mut [u8; 8192], offset: u16) {
     put(page, at + 12, &[8]);
     put(page, at + 16, &x.to_le_bytes());
     put(page, at + 20, &y.to_le_bytes());
+}
+
+/// Puts the leaf at an offset of the full page, and its item pointer.
+fn put_leaf(page: &mut [u8; 8192], offset: u16) {
+    if offset == 0 || offset > LEAVES {
+        return;
+    }
+    let begin = END - 24 * offset;
+    put_item(page, offset, begin);
+    put_tuple(page, offset, begin);
 }
 
 /// The bytes of the root's page.
@@ -112,16 +122,26 @@ fn full_bytes() -> [u8; 8192] {
     page
 }
 
-/// The pages of the index, from block 0 on.
+/// Puts an empty leaf page there.
+fn push_empty(alloc: Global, pages: &mut List<Page>, is_nulls: bool) -> Result<(), Memory> {
+    let page = Page::new(alloc, PageKind::Leaf, is_nulls)?;
+    pages.push(page)
+}
+
+/// Puts the pages of the index there, from block 0 on.
+fn push_pages(alloc: Global, pages: &mut List<Page>) -> Result<(), Memory> {
+    push_empty(alloc, pages, false)?;
+    push_read(alloc, pages, 1, &root_bytes())?;
+    push_empty(alloc, pages, true)?;
+    for _ in 3..7 {
+        push_empty(alloc, pages, false)?;
+    }
+    push_read(alloc, pages, 7, &full_bytes())
+}
+
 fn pages(alloc: Global) -> Result<List<Page>, Memory> {
     let mut pages = List::new(alloc);
-    pages.push(Page::new(alloc, PageKind::Leaf, false)?)?;
-    push_read(alloc, &mut pages, 1, &root_bytes())?;
-    pages.push(Page::new(alloc, PageKind::Leaf, true)?)?;
-    for _ in 3..7 {
-        pages.push(Page::new(alloc, PageKind::Leaf, false)?)?;
-    }
-    push_read(alloc, &mut pages, 7, &full_bytes())?;
+    push_pages(alloc, &mut pages)?;
     Ok(pages)
 }
 

@@ -11,7 +11,7 @@ pub(crate) type At = (u32, u16);
 
 /// What stands at a place: of a leaf its row and the next offset, of a redirect where it leads and its
 /// stamp, of an inner tuple of four nodes where these lead. 0, 0 stands for no place.
-#[derive(Clone, Copy, Debug, PartialEq, Eq)]
+#[derive(Clone, Copy, PartialEq, Eq)]
 pub(crate) enum Stands {
     Nothing,
     Inner([At; 4]),

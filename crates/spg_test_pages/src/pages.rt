@@ -6,7 +6,6 @@ ghost use Rattle.spg_page.specs.Kinds.{IsLive, IsInner};
 use spg_base::{Block, Bytes, Memory, Offset, Place, Row, Stamp};
 use spg_page::{InnerTuple, LeafTuple, Node, Nodes, Page, PageKind, Tuple, TupleBytes, TupleKind};
 use std::alloc::Global;
-use std::process::Abort;
 use std::test::Fail;
 
 /// The leaf of row 1.1 with point 3,4 at the end of its chain.
@@ -20,36 +19,59 @@ fn point_leaf(alloc: Global) -> Result<TupleBytes, Memory> {
     TupleBytes::of(alloc, &Tuple::Leaf(leaf))
 }
 
-#[test]
-fn bytes_of_a_page(rt: HostRuntime) -> Result<(), Fail> {
-    let alloc = rt.alloc();
-    let leaf = point_leaf(alloc)?;
-    let mut page = Page::new(alloc, PageKind::Leaf, false)?;
-    assert_eq!(rt; page.room(1), 8160);
-    assert!(rt; page.room(1) >= leaf.size() + 4);
-    let offset = page.add(&leaf);
-    assert_eq!(rt; offset, Offset(1));
-    assert_eq!(rt; page.free(), 8132);
+/// Whether the bytes from there on are these.
+fn has(bytes: &[u8], from: usize, wanted: &[u8]) -> bool {
+    let mut at = from;
+    let mut all = true;
+    for byte in wanted {
+        all = all && bytes.get(at) == Some(byte);
+        at = at.wrapping_add(1);
+    }
+    all
+}
+
+/// Adds a tuple to an empty page, and says whether it went to the first offset.
+fn adds_first(page: &mut Page, tuple: &TupleBytes) -> bool {
+    page.room(1) == 8160 && page.room(1) >= tuple.size() + 4 && page.add(tuple) == Offset(1)
+}
+
+/// Puts a tuple in the place of the first, where it fits.
+fn replace_first(page: &mut Page, tuple: &TupleBytes) {
+    if page.count() > 0 && tuple.size() <= page.size_at(Offset(1)) + page.free() {
+        page.replace(Offset(1), tuple);
+    }
+}
+
+/// Whether a page with the leaf alone has these bytes.
+fn shows_the_leaf(bytes: &[u8]) -> bool {
     let head = [83, 80, 71, 88, 1, 0, 3, 0, 0, 0, 0, 0, 1, 0, 0xe0, 0x1f];
-    assert_eq!(rt; &page.bytes()[..16], head.as_slice());
-    assert_eq!(rt; &page.bytes()[24..28], [0xe0, 0x1f, 0x18, 0].as_slice());
     let written = [
         2, 0, 0x18, 0, 0, 0, 1, 0, 1, 0, 0, 0, 8, 0, 0, 0, 3, 0, 0, 0, 4, 0, 0, 0,
     ];
-    assert_eq!(rt; &page.bytes()[8160..8184], written.as_slice());
-    assert!(rt; page.count() >= 1);
-    assert!(rt; page.size_at(Offset(1)) >= 16);
-    page.replace(Offset(1), &TupleBytes::dead());
-    assert_eq!(rt; &page.bytes()[14..16], [0xe8, 0x1f].as_slice());
-    assert_eq!(rt; page.free(), 8140);
-    let to = Place {
-        block: Block(8),
-        offset: Offset(1),
-    };
-    let redirect = TupleBytes::redirect(to, Stamp::at(0));
-    page.replace(Offset(1), &redirect);
+    has(bytes, 0, head.as_slice())
+        && has(bytes, 24, &[0xe0, 0x1f, 0x18, 0])
+        && has(bytes, 8160, written.as_slice())
+}
+
+#[test]
+fn bytes_of_a_page(rt: HostRuntime) -> Result<(), Fail> {
+    let leaf = point_leaf(rt.alloc())?;
+    let mut page = Page::new(rt.alloc(), PageKind::Leaf, false)?;
+    assert!(rt; adds_first(&mut page, &leaf));
+    assert!(rt; page.free() == 8132 && shows_the_leaf(page.bytes().as_slice()));
+    Ok(())
+}
+
+#[test]
+fn bytes_of_smaller_tuples(rt: HostRuntime) -> Result<(), Fail> {
+    let leaf = point_leaf(rt.alloc())?;
+    let mut page = Page::new(rt.alloc(), PageKind::Leaf, false)?;
+    assert!(rt; adds_first(&mut page, &leaf));
+    replace_first(&mut page, &TupleBytes::dead());
+    assert!(rt; page.free() == 8140 && has(page.bytes().as_slice(), 14, &[0xe8, 0x1f]));
+    replace_first(&mut page, &TupleBytes::redirect(place(8), Stamp::at(0)));
     let written = [4, 0, 0x10, 0, 8, 0, 0, 0, 1, 0, 0, 0, 0, 0, 0, 0];
-    assert_eq!(rt; &page.bytes()[8168..8184], written.as_slice());
+    assert!(rt; has(page.bytes().as_slice(), 8168, written.as_slice()));
     Ok(())
 }
 
@@ -143,21 +165,33 @@ fn size_of(item: Item) -> u16 {
     }
 }
 
+fn add_item(alloc: Global, page: &mut Page, item: Item) -> Result<(), Memory> {
+    let bytes = bytes_of(alloc, item)?;
+    if page.room(1) >= bytes.size() + 4 {
+        page.add(&bytes);
+    }
+    Ok(())
+}
+
+fn replace_item(alloc: Global, page: &mut Page, o: u16, item: Item) -> Result<(), Memory> {
+    let bytes = bytes_of(alloc, item)?;
+    if 0 < o && o <= page.count() && bytes.size() <= page.size_at(Offset(o)) + page.free() {
+        page.replace(Offset(o), &bytes);
+    }
+    Ok(())
+}
+
+fn set_link(page: &mut Page, o: u16, block: u32) {
+    if is_inner(page, o) && 0 < page.node_count_at(Offset(o)) && 0 < block {
+        page.set_link(Offset(o), 0, Some(place(block)));
+    }
+}
+
 /// The change of the page, where its conditions hold.
 fn change_page(alloc: Global, page: &mut Page, change: Change) -> Result<(), Memory> {
     match change {
-        Change::Add(item) => {
-            let bytes = bytes_of(alloc, item)?;
-            if page.room(1) >= bytes.size() + 4 {
-                page.add(&bytes);
-            }
-        }
-        Change::Replace(o, item) => {
-            let bytes = bytes_of(alloc, item)?;
-            if 0 < o && o <= page.count() && bytes.size() <= page.size_at(Offset(o)) + page.free() {
-                page.replace(Offset(o), &bytes);
-            }
-        }
+        Change::Add(item) => add_item(alloc, page, item)?,
+        Change::Replace(o, item) => replace_item(alloc, page, o, item)?,
         Change::Remove(o) => {
             if is_live(page, o) {
                 page.remove(Offset(o));
@@ -168,11 +202,7 @@ fn change_page(alloc: Global, page: &mut Page, change: Change) -> Result<(), Mem
                 page.set_next(Offset(o), Some(Offset(next)));
             }
         }
-        Change::SetLink(o, block) => {
-            if is_inner(page, o) && 0 < page.node_count_at(Offset(o)) && 0 < block {
-                page.set_link(Offset(o), 0, Some(place(block)));
-            }
-        }
+        Change::SetLink(o, block) => set_link(page, o, block),
         Change::Blank(first, second) => page.blank(&marks(first, second)),
         Change::TrimEnd => {
             page.trim_end();
@@ -308,70 +338,92 @@ fn seen(page: &Page, o: u16) -> Option<Item> {
     }
 }
 
-/// The page tells of the list's tuples, and of the bytes that they leave.
-fn assert_equal(rt: &impl Abort, page: &Page, list: &Vec<Item>, change: Change) {
-    assert_eq!(rt; page.count() as usize, list.len(), "{change:?}");
+/// Whether the page tells of the list's tuples, and of the bytes that they leave.
+fn is_equal(page: &Page, list: &[Item]) -> bool {
+    let mut all = page.count() as usize == list.len();
     let mut used = 0u64;
     let mut empty = 0u64;
-    for i in 0..list.len() {
-        assert!(rt; i < 408);
-        let o = i as u16 + 1;
-        assert_eq!(rt; seen(page, o), at(list, o), "{change:?}, offset {o}");
-        assert!(rt; used <= 8160);
-        used += size_of(list[i]) as u64 + 4;
-        if list[i] == Item::Placeholder {
-            assert!(rt; empty <= 408);
-            empty += 1;
-        }
+    let mut o = 0u16;
+    for item in list {
+        o = o.wrapping_add(1);
+        all = all && seen(page, o) == Some(*item);
+        used = used.wrapping_add(size_of(*item) as u64 + 4);
+        empty = empty.wrapping_add((*item == Item::Placeholder) as u64);
     }
-    assert!(rt; used <= 8160);
-    assert_eq!(rt; page.free() as u64, 8160 - used, "{change:?}");
-    assert_eq!(rt; page.placeholders() as u64, empty, "{change:?}");
+    all && used.wrapping_add(page.free() as u64) == 8160 && page.placeholders() as u64 == empty
+}
+
+const CHANGES: [Change; 22] = [
+    Change::Add(Item::Leaf(1, 8, 0)),
+    Change::Add(Item::Leaf(2, 0, 1)),
+    Change::Add(Item::Inner(0)),
+    Change::Add(Item::Redirect(6)),
+    Change::SetLink(3, 70_000),
+    Change::SetNext(2, 4),
+    Change::Replace(1, Item::Placeholder),
+    Change::Replace(4, Item::Placeholder),
+    Change::Add(Item::Leaf(5, 200, 0)),
+    Change::Replace(3, Item::Leaf(6, 3, 9)),
+    Change::Remove(2),
+    Change::Add(Item::Dead),
+    Change::Blank(1, 3),
+    Change::Add(Item::Leaf(7, 40, 0)),
+    Change::Add(Item::Dead),
+    Change::Replace(2, Item::Inner(3)),
+    Change::Replace(1, Item::Leaf(4, 1, 2)),
+    Change::Add(Item::Placeholder),
+    Change::Add(Item::Placeholder),
+    Change::Replace(3, Item::Placeholder),
+    Change::TrimEnd,
+    Change::Add(Item::Leaf(9, 255, 0)),
+];
+
+/// Changes both, and says whether the page tells of the list then.
+fn change_both(
+    alloc: Global,
+    page: &mut Page,
+    list: &mut Vec<Item>,
+    change: Change,
+) -> Result<bool, Memory> {
+    change_page(alloc, page, change)?;
+    change_list(list, change)?;
+    Ok(is_equal(page, list.as_slice()))
+}
+
+/// Whether the tuple at the second offset is seen as it was written.
+fn shows_the_inner(alloc: Global, page: &Page) -> Result<bool, Memory> {
+    if !is_inner(page, 2) {
+        return Ok(false);
+    }
+    let view = page.view_at(alloc, Offset(2))?;
+    Ok(
+        view.all_same
+            && view.prefix.as_slice() == [9; 5].as_slice()
+            && view.labels.as_slice() == [-2].as_slice(),
+    )
+}
+
+/// Whether a page of another kind becomes the same page.
+fn is_copied(alloc: Global, page: &Page) -> Result<bool, Memory> {
+    let mut other = Page::new(alloc, PageKind::Inner, false)?;
+    other.copy_from(page);
+    Ok(
+        other.kind() == PageKind::Leaf
+            && other.is_nulls()
+            && other.bytes().as_slice() == page.bytes().as_slice(),
+    )
 }
 
 #[test]
 fn changes_match_a_list(rt: HostRuntime) -> Result<(), Fail> {
-    let alloc = rt.alloc();
-    let changes = [
-        Change::Add(Item::Leaf(1, 8, 0)),
-        Change::Add(Item::Leaf(2, 0, 1)),
-        Change::Add(Item::Inner(0)),
-        Change::Add(Item::Redirect(6)),
-        Change::SetLink(3, 70_000),
-        Change::SetNext(2, 4),
-        Change::Replace(1, Item::Placeholder),
-        Change::Replace(4, Item::Placeholder),
-        Change::Add(Item::Leaf(5, 200, 0)),
-        Change::Replace(3, Item::Leaf(6, 3, 9)),
-        Change::Remove(2),
-        Change::Add(Item::Dead),
-        Change::Blank(1, 3),
-        Change::Add(Item::Leaf(7, 40, 0)),
-        Change::Add(Item::Dead),
-        Change::Replace(2, Item::Inner(3)),
-        Change::Replace(1, Item::Leaf(4, 1, 2)),
-        Change::Add(Item::Placeholder),
-        Change::Add(Item::Placeholder),
-        Change::Replace(3, Item::Placeholder),
-        Change::TrimEnd,
-        Change::Add(Item::Leaf(9, 255, 0)),
-    ];
-    let mut page = Page::new(alloc, PageKind::Leaf, true)?;
-    let mut list = Vec::new(alloc);
-    for change in changes {
-        change_page(alloc, &mut page, change)?;
-        change_list(&mut list, change)?;
-        assert_equal(&rt, &page, &list, change);
+    let mut page = Page::new(rt.alloc(), PageKind::Leaf, true)?;
+    let mut list = Vec::new(rt.alloc());
+    for change in &CHANGES {
+        assert!(rt;
+            change_both(rt.alloc(), &mut page, &mut list, *change)?,
+            "{change:?}"
+        );
     }
-    assert!(rt; is_inner(&page, 2));
-    let view = page.view_at(alloc, Offset(2))?;
-    assert_eq!(rt; view.all_same, true);
-    assert_eq!(rt; view.prefix.as_slice(), [9; 5].as_slice());
-    assert_eq!(rt; view.labels.as_slice(), [-2].as_slice());
-    let mut other = Page::new(alloc, PageKind::Inner, false)?;
-    other.copy_from(&page);
-    assert_eq!(rt; other.kind(), PageKind::Leaf);
-    assert_eq!(rt; other.is_nulls(), true);
-    assert_eq!(rt; other.bytes().as_slice(), page.bytes().as_slice());
+    assert!(rt; shows_the_inner(rt.alloc(), &page)? && is_copied(rt.alloc(), &page)?);
     Ok(())
 }

@@ -246,14 +246,22 @@ const STEPS: [Step; 23] = [
 
 #[test]
 fn picks_and_latches(rt: HostRuntime) -> Result<(), Fail> {
-    let alloc = rt.alloc();
-    let mut table = PageTable::new(alloc, 9)?;
-    for step in STEPS {
-        assert!(rt; is_right(alloc, &mut table, step)?, "at {step:?}");
+    let mut table = PageTable::new(rt.alloc(), 9)?;
+    for step in &STEPS {
+        assert!(rt; is_right(rt.alloc(), &mut table, *step)?, "at {step:?}");
     }
-    assert_eq!(rt; table.page_count(), 9);
-    assert_eq!(rt; table.meta().remembered, [7, 6, 4, 8, 0, 0, 4, 0]);
+    assert!(rt; table.page_count() == 9);
+    assert!(rt; table.meta().remembered == [7, 6, 4, 8, 0, 0, 4, 0]);
     Ok(())
+}
+
+/// Whether the touched blocks are those that were set.
+fn sets_touched(table: &mut PageTable) -> bool {
+    let mut touched = Touched::new();
+    touched.push(Block(3));
+    touched.push_range(4, 6);
+    table.set_touched(touched);
+    table.touched().as_slice() == [3, 4, 5].as_slice()
 }
 
 #[test]
@@ -263,13 +271,9 @@ fn numbers(rt: HostRuntime) -> Result<(), Fail> {
     table.back_to(mark);
     let meta = table.meta();
     table.set_meta(meta);
-    let mut touched = Touched::new();
-    touched.push(Block(3));
-    touched.push_range(4, 6);
-    table.set_touched(touched);
-    assert_eq!(rt; table.touched().as_slice(), [3, 4, 5].as_slice());
+    assert!(rt; sets_touched(&mut table));
     table.turn_counter();
-    assert_eq!(rt; table.counter(), 1);
+    assert!(rt; table.counter() == 1);
     Ok(())
 }
 
@@ -291,17 +295,18 @@ fn want(kind: PageKind, parity: Option<u8>) -> Want
     }
 }
 
-#[test]
-fn two_pages_or_none(rt: HostRuntime) -> Result<(), Fail> {
+/// Picks an inner page and a leaf page at once.
+fn picked_two(alloc: Global, table: &mut PageTable) -> Result<(Block, Block), PickRefused> {
     let first = want(PageKind::Inner, Some(0));
     let second = want(PageKind::Leaf, None);
+    table.pick_two(alloc, &first, &second)
+}
+
+#[test]
+fn two_pages_or_none(rt: HostRuntime) -> Result<(), Fail> {
     let mut small = PageTable::new(rt.alloc(), 4)?;
-    assert!(rt; small.pick_two(rt.alloc(), &first, &second).is_err());
-    assert_eq!(rt; small.page_count(), 3);
+    assert!(rt; picked_two(rt.alloc(), &mut small).is_err() && small.page_count() == 3);
     let mut table = PageTable::new(rt.alloc(), 5)?;
-    assert_eq!(rt;
-        table.pick_two(rt.alloc(), &first, &second),
-        Ok((Block(3), Block(4)))
-    );
+    assert!(rt; picked_two(rt.alloc(), &mut table) == Ok((Block(3), Block(4))));
     Ok(())
 }

@@ -1,6 +1,7 @@
+use crate::tuples::tuple_with;
 use spg_base::{Bytes, Memory, Point, PointCond};
 use spg_opclass::{Choice, InnerView, OpClass, Picked};
-use spg_points::{decode, encode, zero_labels};
+use spg_points::{decode, encode};
 use spg_quad::{Quad, QuadRecon};
 use std::alloc::Global;
 use std::test::Fail;
@@ -8,6 +9,40 @@ use std::test::Fail;
 const MIN: i32 = i32::MIN;
 
 const MAX: i32 = i32::MAX;
+
+/// Two points each, with their centroid and their nodes.
+const PAIRS: [([(i32, i32); 2], (i32, i32), u64); 5] = [
+    ([(0, 0), (1, 0)], (1, 0), 31),
+    ([(-1, -1), (-2, -4)], (-1, -2), 13),
+    ([(MIN, MIN), (MAX, MAX)], (0, 0), 31),
+    ([(MAX, MAX), (MAX, MAX)], (MAX, MAX), 11),
+    ([(-7, -7), (-7, -6)], (-7, -6), 21),
+];
+
+/// Points about the middle, with their nodes.
+const POINTS: [(i32, i32, u16); 6] = [
+    (0, MAX, 0),
+    (0, -1, 1),
+    (MAX, MIN, 1),
+    (-1, 0, 2),
+    (-1, 1, 3),
+    (MIN, MAX, 3),
+];
+
+/// Conditions, with the nodes that are visited.
+const CONDS: [(PointCond, u64); 11] = [
+    (PointCond::Eq(Point { x: 0, y: 0 }), 1),
+    (PointCond::Left(0), 34),
+    (PointCond::Left(1), 1234),
+    (PointCond::Left(MIN), 0),
+    (PointCond::Right(-1), 12),
+    (PointCond::Right(MAX), 0),
+    (PointCond::Below(0), 23),
+    (PointCond::Below(1), 123),
+    (PointCond::Above(0), 14),
+    (PointCond::Above(-1), 134),
+    (PointCond::Above(MAX), 0),
+];
 
 /// The nodes, each plus one, as the digits of a number.
 fn digits(nodes: &[u16]) -> u64 {
@@ -52,11 +87,8 @@ fn divides(
 }
 
 fn tuple_at(alloc: Global, all_same: bool, c: Point) -> Result<InnerView, Memory> {
-    Ok(InnerView {
-        all_same,
-        prefix: encode(alloc, c)?,
-        labels: zero_labels(alloc, if all_same { 8 } else { 4 })?,
-    })
+    let nodes = if all_same { 8 } else { 4 };
+    tuple_with(alloc, all_same, encode(alloc, c)?, nodes)
 }
 
 /// The node that is chosen for a point.
@@ -78,75 +110,87 @@ fn admits(tuple: &InnerView, node: u16, p: Point) -> bool {
     (node as usize) < tuple.labels.len() && Quad.admits(&QuadRecon, tuple, node, &p)
 }
 
+/// Whether each two are divided as they should be.
+fn divides_pairs(alloc: Global) -> Result<bool, Memory> {
+    let mut all = true;
+    for (points, centroid, nodes) in &PAIRS {
+        all = all && divides(alloc, points.as_slice(), *centroid, *nodes)?;
+    }
+    Ok(all)
+}
+
 #[test]
 fn divides_at_the_ceiling_of_the_average(rt: HostRuntime) -> Result<(), Fail> {
     let alloc = rt.alloc();
-    let pairs = [
-        ([(0, 0), (1, 0)], (1, 0), 31),
-        ([(-1, -1), (-2, -4)], (-1, -2), 13),
-        ([(MIN, MIN), (MAX, MAX)], (0, 0), 31),
-        ([(MAX, MAX), (MAX, MAX)], (MAX, MAX), 11),
-        ([(-7, -7), (-7, -6)], (-7, -6), 21),
-    ];
-    for (points, centroid, nodes) in &pairs {
-        assert!(rt; divides(alloc, points.as_slice(), *centroid, *nodes)?);
-    }
+    assert!(rt; divides_pairs(alloc)?);
     assert!(rt; divides(alloc, &[(MIN, MAX)], (MIN, MAX), 1)?);
     assert!(rt; divides(alloc, &[(1, 1), (1, -1), (-1, -1), (-1, 1)], (0, 0), 1234)?);
     Ok(())
 }
 
+/// Whether each point goes to its node, and may not stand below the next.
+fn points_go(alloc: Global, tuple: &InnerView) -> Result<bool, Memory> {
+    let mut all = true;
+    for (x, y, node) in &POINTS {
+        let p = Point { x: *x, y: *y };
+        all = all && chosen(alloc, tuple, p)? == *node;
+        all = all && admits(tuple, *node, p) && !admits(tuple, (*node + 1) % 4, p);
+    }
+    Ok(all)
+}
+
+/// Whether each condition has its nodes.
+fn keeps_its_nodes(alloc: Global, tuple: &InnerView) -> Result<bool, Memory> {
+    let mut all = true;
+    for (cond, nodes) in &CONDS {
+        all = all && kept(alloc, tuple, *cond)? == *nodes;
+    }
+    Ok(all)
+}
+
+fn goes_by_quadrant(alloc: Global) -> Result<bool, Memory> {
+    let tuple = tuple_at(alloc, false, Point { x: 0, y: 0 })?;
+    Ok(points_go(alloc, &tuple)? && keeps_its_nodes(alloc, &tuple)?)
+}
+
+/// Whether all nodes of an all-the-same tuple are visited, or none.
+fn keeps_the_same(alloc: Global) -> Result<bool, Memory> {
+    let same = tuple_at(alloc, true, Point { x: 0, y: 0 })?;
+    Ok(
+        Quad.nodes_ok(&same)
+            && admits(&same, 7, Point { x: 5, y: 5 })
+            && kept(alloc, &same, PointCond::Left(MIN))? == 0
+            && kept(alloc, &same, PointCond::Left(0))? == 12345678,
+    )
+}
+
 #[test]
 fn goes_and_looks_by_quadrant(rt: HostRuntime) -> Result<(), Fail> {
-    let alloc = rt.alloc();
-    let tuple = tuple_at(alloc, false, Point { x: 0, y: 0 })?;
-    let points = [
-        (0, MAX, 0),
-        (0, -1, 1),
-        (MAX, MIN, 1),
-        (-1, 0, 2),
-        (-1, 1, 3),
-        (MIN, MAX, 3),
-    ];
-    for (x, y, node) in &points {
-        let p = Point { x: *x, y: *y };
-        assert_eq!(rt; chosen(alloc, &tuple, p)?, *node);
-        assert!(rt; admits(&tuple, *node, p) && !admits(&tuple, (*node + 1) % 4, p));
-    }
-    let conds = [
-        (PointCond::Eq(Point { x: 0, y: 0 }), 1),
-        (PointCond::Left(0), 34),
-        (PointCond::Left(1), 1234),
-        (PointCond::Left(MIN), 0),
-        (PointCond::Right(-1), 12),
-        (PointCond::Right(MAX), 0),
-        (PointCond::Below(0), 23),
-        (PointCond::Below(1), 123),
-        (PointCond::Above(0), 14),
-        (PointCond::Above(-1), 134),
-        (PointCond::Above(MAX), 0),
-    ];
-    for (cond, nodes) in &conds {
-        assert_eq!(rt; kept(alloc, &tuple, *cond)?, *nodes);
-    }
-    let same = tuple_at(alloc, true, Point { x: 0, y: 0 })?;
-    assert!(rt; Quad.nodes_ok(&same) && admits(&same, 7, Point { x: 5, y: 5 }));
-    assert_eq!(rt; kept(alloc, &same, PointCond::Left(MIN))?, 0);
-    assert_eq!(rt; kept(alloc, &same, PointCond::Left(0))?, 12345678);
+    assert!(rt; goes_by_quadrant(rt.alloc())?);
+    assert!(rt; keeps_the_same(rt.alloc())?);
     Ok(())
+}
+
+/// Whether those bytes are a rest, a prefix and a key, and two are none.
+fn tells(bytes: &[u8]) -> bool {
+    Quad.rest_ok(bytes)
+        && Quad.prefix_ok(bytes)
+        && !Quad.prefix_ok(&[0, 0])
+        && Quad.key_ok(&QuadRecon, bytes)
+        && !Quad.key_ok(&QuadRecon, &[0, 0])
+}
+
+/// Whether the key is left of 4 and above that height.
+fn is_there(bytes: &[u8], above: i32) -> bool {
+    let conds = [PointCond::Left(4), PointCond::Above(above)];
+    Quad.leaf_consistent(&QuadRecon, bytes, &conds)
 }
 
 #[test]
 fn tells_keys_of_rests(rt: HostRuntime) -> Result<(), Fail> {
-    let alloc = rt.alloc();
-    let rest = Quad.rest_of(alloc, &Point { x: 3, y: -4 })?;
+    let rest = Quad.rest_of(rt.alloc(), &Point { x: 3, y: -4 })?;
     let bytes = rest.as_slice();
     assert_eq!(rt; bytes, [3, 0, 0, 0, 252, 255, 255, 255].as_slice());
-    assert!(rt; Quad.rest_ok(bytes) && Quad.prefix_ok(bytes) && !Quad.prefix_ok(&[0, 0]));
-    assert!(rt; Quad.key_ok(&QuadRecon, bytes) && !Quad.key_ok(&QuadRecon, &[0, 0]));
-    let conds = [PointCond::Left(4), PointCond::Above(-5)];
-    assert!(rt; Quad.leaf_consistent(&QuadRecon, bytes, &conds));
-    let conds = [PointCond::Left(4), PointCond::Above(-4)];
-    assert!(rt; !Quad.leaf_consistent(&QuadRecon, bytes, &conds));
+    assert!(rt; tells(bytes) && is_there(bytes, -5) && !is_there(bytes, -4));
     Ok(())
 }

@@ -56,122 +56,144 @@ fn near(alloc: Global) -> Result<Outcome, Memory> {
     Ok(Outcome::Near { rows, walk: 12 })
 }
 
+/// Whether the line of an outcome is as wanted.
+fn tells(line: &mut Line, outcome: Outcome, wanted: &[u8]) -> Result<bool, Memory> {
+    line.clear();
+    push_plain_result(line, 10, &done(outcome))?;
+    Ok(line.as_slice() == wanted)
+}
+
+fn tells_of_inserts(line: &mut Line) -> Result<bool, Memory> {
+    let by = SeatNo::first();
+    Ok(
+        tells(line, Outcome::Added, b"10 18 20 added")?
+            && tells(line, Outcome::RowUsed, b"10 18 20 row used")?
+            && tells(line, Outcome::RowHeld { by }, b"10 18 20 row held by 0")?
+            && tells(line, Outcome::Full, b"10 18 20 full")?
+            && tells(line, Outcome::ClockFull, b"10 18 20 clock full")?,
+    )
+}
+
+fn tells_of_searches(line: &mut Line, alloc: Global) -> Result<bool, Memory> {
+    let walked = b"10 18 20 found 2 walk 12 1.1 4294967295.65535";
+    let plain = b"10 18 20 found 2 1.1 4294967295.65535";
+    let nearest = b"10 18 20 near 2 walk 12 1.1:0 4294967295.65535:36893488130239234050";
+    Ok(
+        tells(line, found(alloc, Some(12))?, walked)?
+            && tells(line, found(alloc, None)?, plain)?
+            && tells(line, near(alloc)?, nearest)?,
+    )
+}
+
+fn tells_of_vacuums(line: &mut Line) -> Result<bool, Memory> {
+    let by = SeatNo::first();
+    Ok(
+        tells(line, Outcome::Killed, b"10 18 20 killed")?
+            && tells(line, Outcome::NotLive, b"10 18 20 not live")?
+            && tells(line, Outcome::Vacuumed(3), b"10 18 20 vacuumed 3")?
+            && tells(line, Outcome::OpenBy(by), b"10 18 20 open by 0")?,
+    )
+}
+
+fn tells_of_the_rest(line: &mut Line) -> Result<bool, Memory> {
+    let stat = b"10 18 20 stat pages 5 inner 1 leaf 290 redirect 2 dead 3 placeholder 4 clock 7";
+    Ok(
+        tells(line, Outcome::Saved(5), b"10 18 20 saved 5")?
+            && tells(line, Outcome::ImageFault, b"10 18 20 image fault")?
+            && tells(line, Outcome::Stat(STAT), stat)?
+            && tells(line, Outcome::Memory, b"10 18 20 memory")?,
+    )
+}
+
 #[test]
 fn tells_what_became_of_a_command(rt: HostRuntime) -> Result<(), Fail> {
-    let alloc = rt.alloc();
-    let first = SeatNo::first();
-    let table: [(Outcome, &[u8]); 16] = [
-        (Outcome::Added, b"10 18 20 added"),
-        (Outcome::RowUsed, b"10 18 20 row used"),
-        (Outcome::RowHeld { by: first }, b"10 18 20 row held by 0"),
-        (Outcome::Full, b"10 18 20 full"),
-        (Outcome::ClockFull, b"10 18 20 clock full"),
-        (Outcome::Killed, b"10 18 20 killed"),
-        (Outcome::NotLive, b"10 18 20 not live"),
-        (
-            found(alloc, Some(12))?,
-            b"10 18 20 found 2 walk 12 1.1 4294967295.65535",
-        ),
-        (
-            found(alloc, None)?,
-            b"10 18 20 found 2 1.1 4294967295.65535",
-        ),
-        (Outcome::Vacuumed(3), b"10 18 20 vacuumed 3"),
-        (Outcome::OpenBy(first), b"10 18 20 open by 0"),
-        (Outcome::Saved(5), b"10 18 20 saved 5"),
-        (Outcome::ImageFault, b"10 18 20 image fault"),
-        (
-            Outcome::Stat(STAT),
-            b"10 18 20 stat pages 5 inner 1 leaf 290 redirect 2 dead 3 placeholder 4 clock 7",
-        ),
-        (
-            near(alloc)?,
-            b"10 18 20 near 2 walk 12 1.1:0 4294967295.65535:36893488130239234050",
-        ),
-        (Outcome::Memory, b"10 18 20 memory"),
-    ];
-    let mut line = Line::new(alloc);
-    for (outcome, wanted) in table {
-        line.clear();
-        push_plain_result(&mut line, 10, &done(outcome))?;
-        assert!(rt; line.as_slice() == wanted);
-    }
-    let none: [Option<u64>; 0] = [];
-    let line = result_line(alloc, 10, &done(Outcome::Added), none.as_slice());
-    assert!(rt; is(line, b"10 18 20 added"));
-    assert!(rt;
-        is(
-            stat_line(alloc, &STAT),
-            b"stat pages 5 inner 1 leaf 290 redirect 2 dead 3 placeholder 4 clock 7"
-        )
-    );
+    let mut line = Line::new(rt.alloc());
+    assert!(rt; tells_of_inserts(&mut line)?);
+    assert!(rt; tells_of_searches(&mut line, rt.alloc())?);
+    assert!(rt; tells_of_vacuums(&mut line)?);
+    assert!(rt; tells_of_the_rest(&mut line)?);
     Ok(())
 }
 
 #[test]
-fn tells_what_an_event_did(rt: HostRuntime) -> Result<(), Fail> {
-    let alloc = rt.alloc();
+fn makes_a_line_of_its_own(rt: HostRuntime) -> Result<(), Fail> {
+    let none: [Option<u64>; 0] = [];
+    let line = result_line(rt.alloc(), 10, &done(Outcome::Added), none.as_slice());
+    assert!(rt; is(line, b"10 18 20 added"));
+    let stat = b"stat pages 5 inner 1 leaf 290 redirect 2 dead 3 placeholder 4 clock 7";
+    assert!(rt; is(stat_line(rt.alloc(), &STAT), stat));
+    Ok(())
+}
+
+/// Whether the line of an event is as wanted.
+fn shows(alloc: Global, event: Event<Quad>, wanted: &[u8]) -> bool {
+    is(event_line(alloc, &Quad, 7, &event), wanted)
+}
+
+fn shows_inserts(alloc: Global) -> bool {
     let seat = SeatNo::first();
     let row = Row::at(1, 2);
+    let key = Some(Point { x: 3, y: -4 });
+    let point = Event::OpenInsert { seat, row, key };
+    let null = Event::OpenInsert {
+        seat,
+        row,
+        key: None,
+    };
+    shows(alloc, point, b"7 0 open insert 1.2 3,-4")
+        && shows(alloc, null, b"7 0 open insert 1.2 null")
+}
+
+fn shows_rows(alloc: Global) -> bool {
+    let seat = SeatNo::first();
+    let row = Row::at(1, 2);
+    let why = Why::Full;
+    shows(alloc, Event::Put { seat, row }, b"7 0 put 1.2")
+        && shows(alloc, Event::Drop { seat, row, why }, b"7 0 drop 1.2")
+        && shows(alloc, Event::Kill { seat, row }, b"7 0 kill 1.2")
+        && shows(alloc, Event::Sweep { seat, row }, b"7 0 sweep 1.2")
+}
+
+fn conds(alloc: Global) -> Result<List<PointCond>, Memory> {
     let mut conds = List::new(alloc);
     conds.push(PointCond::Left(3))?;
     conds.push(PointCond::Above(-4))?;
-    let table: [(Event<Quad>, &[u8]); 12] = [
-        (
-            Event::OpenInsert {
-                seat,
-                row,
-                key: Some(Point { x: 3, y: -4 }),
-            },
-            b"7 0 open insert 1.2 3,-4",
-        ),
-        (
-            Event::OpenInsert {
-                seat,
-                row,
-                key: None,
-            },
-            b"7 0 open insert 1.2 null",
-        ),
-        (Event::Put { seat, row }, b"7 0 put 1.2"),
-        (
-            Event::Drop {
-                seat,
-                row,
-                why: Why::Full,
-            },
-            b"7 0 drop 1.2",
-        ),
-        (Event::Kill { seat, row }, b"7 0 kill 1.2"),
-        (
-            Event::OpenScan {
-                seat,
-                query: Query::All,
-            },
-            b"7 0 open scan all",
-        ),
-        (
-            Event::OpenScan {
-                seat,
-                query: Query::Where(conds),
-            },
-            b"7 0 open scan where left 3 and above -4",
-        ),
-        (
-            Event::CloseScan {
-                seat,
-                rows: List::new(alloc),
-            },
-            b"7 0 close scan 0",
-        ),
-        (Event::OpenVacuum { seat }, b"7 0 open vacuum"),
-        (Event::Sweep { seat, row }, b"7 0 sweep 1.2"),
-        (Event::CloseVacuum { seat, swept: 1 }, b"7 0 close vacuum 1"),
-        (Event::Leave { seat }, b"7 0 leave"),
-    ];
-    for (event, wanted) in table {
-        let line = event_line(alloc, &Quad, 7, &event);
-        assert!(rt; is(line, wanted));
-    }
+    Ok(conds)
+}
+
+fn shows_scans(alloc: Global) -> Result<bool, Memory> {
+    let seat = SeatNo::first();
+    let all = Event::OpenScan {
+        seat,
+        query: Query::All,
+    };
+    let some = Event::OpenScan {
+        seat,
+        query: Query::Where(conds(alloc)?),
+    };
+    let rows = List::new(alloc);
+    Ok(
+        shows(alloc, all, b"7 0 open scan all")
+            && shows(alloc, some, b"7 0 open scan where left 3 and above -4")
+            && shows(alloc, Event::CloseScan { seat, rows }, b"7 0 close scan 0"),
+    )
+}
+
+fn shows_vacuums(alloc: Global) -> bool {
+    let seat = SeatNo::first();
+    shows(alloc, Event::OpenVacuum { seat }, b"7 0 open vacuum")
+        && shows(
+            alloc,
+            Event::CloseVacuum { seat, swept: 1 },
+            b"7 0 close vacuum 1",
+        )
+        && shows(alloc, Event::Leave { seat }, b"7 0 leave")
+}
+
+#[test]
+fn tells_what_an_event_did(rt: HostRuntime) -> Result<(), Fail> {
+    assert!(rt; shows_inserts(rt.alloc()) && shows_rows(rt.alloc()));
+    assert!(rt; shows_scans(rt.alloc())?);
+    assert!(rt; shows_vacuums(rt.alloc()));
     Ok(())
 }

@@ -5,8 +5,8 @@ use spg_quad::Quad;
 use spg_radix::Radix;
 use spg_range::Ranges;
 use spg_script::{
-    AnyQuery, ClassLine, ClassName, Command, PartRef, Script, ScriptRefused, Spoken, generate,
-    parse, print,
+    AnyCond, AnyKey, AnyQuery, ClassLine, ClassName, Command, PartRef, Script, ScriptRefused,
+    Spoken, generate, parse, print,
 };
 use std::alloc::Global;
 use std::test::Fail;
@@ -369,15 +369,52 @@ fn with_text(alloc: Global, count: usize, spelled: &[u8]) -> Result<Bytes, Memor
     Ok(script)
 }
 
+/// Whether a text of so many bytes is read, and printed as it stands.
+fn takes(alloc: Global, count: usize, spelled: &[u8]) -> Result<bool, Memory> {
+    let script = with_text(alloc, count, spelled)?;
+    prints_as(alloc, script.as_slice(), script.as_slice())
+}
+
+/// Whether a text of so many bytes is no key.
+fn refuses(alloc: Global, count: usize, spelled: &[u8]) -> Result<bool, Memory> {
+    let script = with_text(alloc, count, spelled)?;
+    Ok(is_bad(alloc, script.as_slice(), 2))
+}
+
 #[test]
 fn takes_texts_of_3900_bytes(rt: HostRuntime) -> Result<(), Fail> {
-    let alloc = rt.alloc();
     let spellings: [&[u8]; 2] = [b"x", b"\\x01"];
     for spelled in &spellings {
-        let longest = with_text(alloc, 3900, spelled)?;
-        assert!(rt; prints_as(alloc, longest.as_slice(), longest.as_slice())?);
-        let longer = with_text(alloc, 3901, spelled)?;
-        assert!(rt; is_bad(alloc, longer.as_slice(), 2));
+        assert!(rt; takes(rt.alloc(), 3900, spelled)?);
+        assert!(rt; refuses(rt.alloc(), 3901, spelled)?);
+    }
+    Ok(())
+}
+
+/// Adds a key as the class spells it, behind a bar.
+fn push_key<O: Spoken>(
+    alloc: Global,
+    class: &O,
+    key: &AnyKey,
+    text: &mut Bytes,
+) -> Result<(), Memory> {
+    if let Some(key) = class.key_in(key)? {
+        text.push(b'|')?;
+        text.extend(class.key_text(alloc, &key)?.as_slice())?;
+    }
+    Ok(())
+}
+
+/// Adds a condition as the class spells it, behind a bar.
+fn push_cond<O: Spoken>(
+    alloc: Global,
+    class: &O,
+    cond: &AnyCond,
+    text: &mut Bytes,
+) -> Result<(), Memory> {
+    if let Some(cond) = class.cond_in(cond)? {
+        text.push(b'|')?;
+        text.extend(class.cond_text(alloc, &cond)?.as_slice())?;
     }
     Ok(())
 }
@@ -390,25 +427,17 @@ fn push_spoken<O: Spoken>(
     text: &mut Bytes,
 ) -> Result<(), Memory> {
     match command {
-        Command::Insert { key: Some(key), .. } => {
-            if let Some(key) = class.key_in(key)? {
-                text.push(b'|')?;
-                text.extend(class.key_text(alloc, &key)?.as_slice())?;
-            }
-        }
+        Command::Insert { key: Some(key), .. } => push_key(alloc, class, key, text),
         Command::Find {
             query: AnyQuery::Where(conds),
         } => {
             for cond in conds.as_slice() {
-                if let Some(cond) = class.cond_in(cond)? {
-                    text.push(b'|')?;
-                    text.extend(class.cond_text(alloc, &cond)?.as_slice())?;
-                }
+                push_cond(alloc, class, cond, text)?;
             }
+            Ok(())
         }
-        _ => {}
+        _ => Ok(()),
     }
-    Ok(())
 }
 
 /// The keys and conditions that the class has among those of a script without lanes.
@@ -424,43 +453,71 @@ fn spoken<O: Spoken>(alloc: Global, class: &O, bytes: &[u8]) -> Result<Bytes, Me
     Ok(text)
 }
 
+/// Whether just that is spoken.
+fn says<O: Spoken>(alloc: Global, class: &O, bytes: &[u8], wanted: &[u8]) -> Result<bool, Memory> {
+    Ok(spoken(alloc, class, bytes)?.as_slice() == wanted)
+}
+
+const POINTS: &[u8] =
+    b"class kd\ninsert 1.1 -3,4\ninsert 1.2 null\nfind where left 7 and in 0,1,2,3\nstat\n";
+
+const TEXTS: &[u8] =
+    b"class radix\ninsert 1.1 \"a\\x41\\x0A\"\nfind where starts \"b\" and le \"\"\nvacuum\n";
+
 #[test]
 fn classes_speak(rt: HostRuntime) -> Result<(), Fail> {
     let alloc = rt.alloc();
-    let points =
-        b"class kd\ninsert 1.1 -3,4\ninsert 1.2 null\nfind where left 7 and in 0,1,2,3\nstat\n";
-    let texts =
-        b"class radix\ninsert 1.1 \"a\\x41\\x0A\"\nfind where starts \"b\" and le \"\"\nvacuum\n";
-    let of_points: &[u8] = b"|-3,4|left 7|in 0,1,2,3";
-    let of_texts: &[u8] = b"|\"aA\\x0a\"|starts \"b\"|le \"\"";
-    assert!(rt; spoken(alloc, &Kd, points)?.as_slice() == of_points);
-    assert!(rt; spoken(alloc, &Quad, points)?.as_slice() == of_points);
-    assert!(rt; spoken(alloc, &Radix, texts)?.as_slice() == of_texts);
-    assert!(rt; spoken(alloc, &Quad, texts)?.is_empty());
-    assert!(rt; spoken(alloc, &Radix, points)?.is_empty());
+    assert!(rt; says(alloc, &Kd, POINTS, b"|-3,4|left 7|in 0,1,2,3")?);
+    assert!(rt; says(alloc, &Quad, POINTS, b"|-3,4|left 7|in 0,1,2,3")?);
+    assert!(rt; says(alloc, &Radix, TEXTS, b"|\"aA\\x0a\"|starts \"b\"|le \"\"")?);
+    assert!(rt; says(alloc, &Quad, TEXTS, b"")? && says(alloc, &Radix, POINTS, b"")?);
     Ok(())
+}
+
+const NUMBERED: &[u8] = b"class kd value\ninsert 1.1 -3,4 value 0\nfind where left 7\n";
+
+const NUMBERED_TEXTS: &[u8] =
+    b"class radix value\ninsert 1.1 \"\\x41\" value 18446744073709551615\nfind where le \"\"\n";
+
+const RANGES: &[u8] =
+    b"class range\ninsert 1.1 empty\ninsert 1.2 [-1,2]\nfind where within [0,0]\n";
+
+/// Whether the classes of points speak of points with numbers, and without them of no key.
+fn points_speak(alloc: Global) -> Result<bool, Memory> {
+    let of_points: &[u8] = b"|-3,4 value 0|left 7";
+    Ok(
+        says(alloc, &With { inner: Quad }, NUMBERED, of_points)?
+            && says(alloc, &With { inner: Kd }, NUMBERED, of_points)?
+            && says(alloc, &Kd, NUMBERED, b"|left 7")?,
+    )
+}
+
+/// Whether the classes of texts with numbers and of ranges speak of their own.
+fn others_speak(alloc: Global) -> Result<bool, Memory> {
+    let of_texts: &[u8] = b"|\"A\" value 18446744073709551615|le \"\"";
+    let of_ranges: &[u8] = b"|empty|[-1,2]|within [0,0]";
+    Ok(
+        says(alloc, &With { inner: Radix }, NUMBERED_TEXTS, of_texts)?
+            && says(alloc, &Ranges, RANGES, of_ranges)?,
+    )
+}
+
+/// Whether no class speaks of another's.
+fn none_speaks(alloc: Global) -> Result<bool, Memory> {
+    Ok(
+        says(alloc, &With { inner: Kd }, NUMBERED_TEXTS, b"")?
+            && says(alloc, &With { inner: Radix }, NUMBERED, b"")?
+            && says(alloc, &With { inner: Kd }, RANGES, b"")?
+            && says(alloc, &Ranges, NUMBERED, b"")?,
+    )
 }
 
 /// The script of a class with numbers beside its keys, or of ranges, is spoken by that class alone.
 #[test]
 fn classes_speak_of_numbers_and_ranges(rt: HostRuntime) -> Result<(), Fail> {
-    let alloc = rt.alloc();
-    let points = b"class kd value\ninsert 1.1 -3,4 value 0\nfind where left 7\n";
-    let texts =
-        b"class radix value\ninsert 1.1 \"\\x41\" value 18446744073709551615\nfind where le \"\"\n";
-    let ranges = b"class range\ninsert 1.1 empty\ninsert 1.2 [-1,2]\nfind where within [0,0]\n";
-    let of_points: &[u8] = b"|-3,4 value 0|left 7";
-    let of_texts: &[u8] = b"|\"A\" value 18446744073709551615|le \"\"";
-    let of_ranges: &[u8] = b"|empty|[-1,2]|within [0,0]";
-    assert!(rt; spoken(alloc, &With { inner: Quad }, points)?.as_slice() == of_points);
-    assert!(rt; spoken(alloc, &With { inner: Kd }, points)?.as_slice() == of_points);
-    assert!(rt; spoken(alloc, &With { inner: Radix }, texts)?.as_slice() == of_texts);
-    assert!(rt; spoken(alloc, &Ranges, ranges)?.as_slice() == of_ranges);
-    assert!(rt; spoken(alloc, &With { inner: Kd }, texts)?.is_empty());
-    assert!(rt; spoken(alloc, &With { inner: Radix }, points)?.is_empty());
-    assert!(rt; spoken(alloc, &With { inner: Kd }, ranges)?.is_empty());
-    assert!(rt; spoken(alloc, &Ranges, points)?.is_empty());
-    assert!(rt; spoken(alloc, &Kd, points)?.as_slice() == b"|left 7".as_slice());
+    assert!(rt; points_speak(rt.alloc())?);
+    assert!(rt; others_speak(rt.alloc())?);
+    assert!(rt; none_speaks(rt.alloc())?);
     Ok(())
 }
 
@@ -479,17 +536,31 @@ fn values<O: Spoken>(alloc: Global, class: &O, bytes: &[u8]) -> Result<List<Opti
     Ok(values)
 }
 
+/// Whether just those numbers stand beside the keys.
+fn tells<O: Spoken>(
+    alloc: Global,
+    class: &O,
+    bytes: &[u8],
+    wanted: &[Option<u64>],
+) -> Result<bool, Memory> {
+    Ok(values(alloc, class, bytes)?.as_slice() == wanted)
+}
+
 #[test]
 fn classes_tell_numbers(rt: HostRuntime) -> Result<(), Fail> {
     let alloc = rt.alloc();
     let points =
         b"class quad value\ninsert 1.1 0,0 value 5\ninsert 1.2 null\ninsert 1.3 0,0 value 18446744073709551615\n";
-    let of_points = values(alloc, &With { inner: Quad }, points)?;
-    assert!(rt; of_points.as_slice() == [Some(5), Some(u64::MAX)].as_slice());
-    let of_plain = values(alloc, &Quad, b"class quad\ninsert 1.1 0,0\n")?;
-    assert!(rt; of_plain.as_slice() == [None].as_slice());
-    let of_ranges = values(alloc, &Ranges, b"class range\ninsert 1.1 empty\n")?;
-    assert!(rt; of_ranges.as_slice() == [None].as_slice());
+    assert!(rt;
+        tells(
+            alloc,
+            &With { inner: Quad },
+            points,
+            &[Some(5), Some(u64::MAX)]
+        )?
+    );
+    assert!(rt; tells(alloc, &Quad, b"class quad\ninsert 1.1 0,0\n", &[None])?);
+    assert!(rt; tells(alloc, &Ranges, b"class range\ninsert 1.1 empty\n", &[None])?);
     let with = With { inner: Radix };
     assert!(rt; with.valued() && !Radix.valued() && !Ranges.valued() && !Kd.valued());
     Ok(())
@@ -514,12 +585,16 @@ const LOADS: [(ClassName, u32, &[u8]); 3] = [
     ),
 ];
 
+/// Whether the script is printed so.
+fn is_printed(alloc: Global, script: &Script, text: &[u8]) -> Result<bool, Memory> {
+    Ok(print(alloc, script)?.as_slice() == text)
+}
+
 #[test]
 fn generates_loads(rt: HostRuntime) -> Result<(), Fail> {
-    let alloc = rt.alloc();
     for (class, seed, text) in &LOADS {
-        let script = generate(alloc, 5, *seed, 2, *class)?;
-        assert!(rt; print(alloc, &script)?.as_slice() == *text);
+        let script = generate(rt.alloc(), 5, *seed, 2, *class)?;
+        assert!(rt; is_printed(rt.alloc(), &script, *text)?);
     }
     Ok(())
 }
@@ -537,13 +612,14 @@ fn sizes(alloc: Global, script: &Script) -> Result<List<usize>, Memory> {
     Ok(sizes)
 }
 
+/// The largest load has 17 lanes, the last a vacuum's.
+fn are_largest(sizes: &[usize]) -> bool {
+    sizes.len() == 17 && sizes[..3] == [16_666, 16_667, 16_667] && sizes.get(16).copied() == Some(4)
+}
+
 #[test]
 fn generates_the_largest_load(rt: HostRuntime) -> Result<(), Fail> {
-    let alloc = rt.alloc();
-    let script = generate(alloc, 200_000, 999_999, 16, ClassName::Radix)?;
-    let sizes = sizes(alloc, &script)?;
-    assert!(rt; sizes.len() == 17);
-    assert!(rt; sizes.as_slice()[..3] == [16_666, 16_667, 16_667]);
-    assert!(rt; sizes.get(16).copied() == Some(4));
+    let script = generate(rt.alloc(), 200_000, 999_999, 16, ClassName::Radix)?;
+    assert!(rt; are_largest(sizes(rt.alloc(), &script)?.as_slice()));
     Ok(())
 }

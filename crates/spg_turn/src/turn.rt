@@ -25,7 +25,7 @@ const SLEEPERS: usize = 67;
 const WORDS: usize = 68;
 
 // How often who waits looks before it sleeps. To wake who sleeps takes longer than tens of sections.
-const LOOKS: u8 = 250;
+pub(crate) const LOOKS: u8 = 250;
 
 // How often it looks before it lets other threads run in between.
 const SPINS: u8 = 40;
@@ -106,6 +106,23 @@ impl<S: Recorded> Turn<S> {
         ensures entries { by_seat S.seat_of (pass_view pass).number (drop (pass_view pass).base (S.entries (held_state result))) ≡ (pass_view pass).mine }
         ensures view { held_view result ≡ record (pass_view pass) { seen = S.entries (held_state result) } }
     {
+        self.enter_after(rt, pass, LOOKS)
+    }
+
+    // Takes the pass's turn. Who has to wait looks so often before it sleeps.
+    pub(crate) fn enter_after<R: Wait>(
+        &self,
+        rt: &R,
+        pass: Pass<S, S::Entry>,
+        looks: u8,
+    ) -> Held<S, S::Entry>
+        requires own { pass_turn pass ≡ turn_id self.now }
+        ensures own { held_turn result ≡ pass_turn pass }
+        ensures origin { S.origin_of (held_state result) ≡ (pass_view pass).origin }
+        ensures begins { StartsWith (S.entries (held_state result)) (pass_view pass).seen }
+        ensures entries { by_seat S.seat_of (pass_view pass).number (drop (pass_view pass).base (S.entries (held_state result))) ≡ (pass_view pass).mine }
+        ensures view { held_view result ≡ record (pass_view pass) { seen = S.entries (held_state result) } }
+    {
         let Pass {
             mut seat,
             number,
@@ -115,7 +132,7 @@ impl<S: Recorded> Turn<S> {
         } = pass;
         let shared = &self.table.shared;
         let ticket = shared.fetch_add::<Draw>(&mut seat, NEXT, 1);
-        self.wait(rt, &mut seat, ticket);
+        self.wait(rt, &mut seat, ticket, looks);
         let found = shared.exchange(&mut seat, 0, None);
         let Some(state) = found else { unreachable!() };
         let seen = state.len();
@@ -131,7 +148,13 @@ impl<S: Recorded> Turn<S> {
 
     // Waits until the ticket is served, and takes the slot. Who is about to sleep tells it before the
     // last look, and has read the bell before: so who serves the ticket after that look rings the bell.
-    fn wait<R: Wait>(&self, rt: &R, seat: &mut Seat<Option<S>, View<S::Entry>>, ticket: u64)
+    fn wait<R: Wait>(
+        &self,
+        rt: &R,
+        seat: &mut Seat<Option<S>, View<S::Entry>>,
+        ticket: u64,
+        most: u8,
+    )
         requires own { seat.old.table_id ≡ turn_id self.now }
         requires waiting { (t : ℕ) × (ticket ≡ t % cycle) × (seat.old.me.0.stage ≡ Waiting t) × (seat.old.me.0.spent ≡ false) × (seat.old.me.1 ≡ []) }
         ensures own { (seat.new.table_id ≡ seat.old.table_id) × (seat.new.id ≡ seat.old.id) }
@@ -142,7 +165,7 @@ impl<S: Recorded> Turn<S> {
         let mut looks = 0;
         for _ in rt.forever() {
             let rung = shared.peek(bell);
-            let sleeps = looks >= LOOKS;
+            let sleeps = looks >= most;
             self.begin_sleep(seat, sleeps);
             let now = shared.load::<Look>(seat, NOW);
             if now == ticket {

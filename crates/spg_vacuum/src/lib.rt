@@ -7,8 +7,6 @@ mod latch;
 mod laws;
 mod pending;
 mod place;
-#[cfg(test)]
-mod tests;
 mod vacuum;
 
 pub use done::{Done, Work};

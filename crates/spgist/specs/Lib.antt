@@ -1,4 +1,5 @@
 pub mod Builds
+pub mod Words
 pub use Rattle.spg_base.specs.Row
 pub use Rattle.spg_opclass.specs.Meaning
 pub use Rattle.spg_opclass.specs.Laws
@@ -14,6 +15,8 @@ pub use Rattle.spg_core.specs.Sections
 pub use Rattle.spg_core.specs.Counts
 pub use Rattle.spg_whole.specs.Answers
 pub use Rattle.spg_whole.specs.Calls
+pub use Rattle.spg_peek.specs.Peeking
+pub use Rattle.spg_quad.specs.Quad
 pub use Rattle.spg_near.specs.Laws as NearLaws
 pub use Rattle.spg_near.specs.Nearest
 pub use Rattle.spg_build.specs.Built

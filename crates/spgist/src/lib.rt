@@ -2,8 +2,8 @@
 //! are. All that an embedder needs is here under one name; docs/EMBEDDING.md shows each call.
 //!
 //! An `Index` belongs to one owner, and its calls are whole: `insert`, `delete`, `find`, `vacuum`. `near` gives the rows
-//! nearest to a point, `save` and `load_index` write and read images, `build_index` makes an index of many rows at once,
-//! `renew` begins a journal anew.
+//! nearest to a point, `find_some` and `Reader` search an index that many threads read, `save` and `load_index` write and
+//! read images, `build_index` makes an index of many rows at once, `renew` begins a journal anew.
 //! Threads share it by the crate `spg_share`. A class is `Quad` or `Kd` for points, `Radix` for texts, `Ranges` for ranges
 //! of whole numbers, or `With` one of these and a number beside each key; docs/CLASSES.md tells how another one is made.
 #![tactic(auto)]
@@ -27,7 +27,9 @@ pub use spg_base::{
 };
 pub use spg_build::{BuildRefused, Entry, Gathered, build};
 pub use spg_clauses::{Fault, Reason};
-pub use spg_core::State;
+pub use spg_core::{
+    InsertOut, OpenKind, OpenRefused, ReadOut, State, StepRefused, VacuumOut, VacuumRefused,
+};
 pub use spg_image::{ImageRefused, SaveRefused, Verified, load, save, verify};
 pub use spg_io::{FolderImages, Images, IoRefused};
 pub use spg_kd::Kd;
@@ -35,6 +37,7 @@ pub use spg_near::{NearClass, NearRow};
 pub use spg_opclass::{
     Choice, InnerRef, InnerView, OpClass, Picked, Query, SharedClass, TakesValue, With, WithKey,
 };
+pub use spg_peek::{Reader, find_some};
 pub use spg_quad::Quad;
 pub use spg_radix::{ByteText, Radix, TextCond};
 pub use spg_range::{Range32, RangeCond, Ranges};

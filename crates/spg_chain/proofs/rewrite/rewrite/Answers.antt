@@ -1,99 +1,97 @@
-use Rattle.std.proofs.Common.{◌≡◌, ℕ, ◌-◌, length, ap, sym, ◌∙◌, subst, arith, Some, None, Option}
+use Rattle.std.proofs.Common.{◌≡◌, ◌-◌, ℕ, Some, Result, IfOk, Ok, Err, Option, ap, sym, ◌∙◌, subst, arith}
 use Rattle.std.specs.BTreeSet.{contains}
 use Rattle.spg_base.specs.Row.{row_cmp}
-use Rattle.spg_forest.specs.Tuples.{Live, IsAmong}
-use Rattle.spg_forest.specs.Pages.{tuple_on, with_tuple}
-use Rattle.spg_forest.specs.Sheets.{Sheet, with_tuples}
-use Rattle.spg_cover.specs.Swept.{emptied}
-use Rattle.spg_page.specs.Kinds.{IsOffset, IsLive}
-use Rattle.spg_page.specs.Reads.{leaf_in}
-use Rattle.spg_page.specs.Told.{number_of}
-use Rattle.spg_chain.proofs.Staying.{list_range, list_some}
-use Rattle.spg_chain.proofs.Clearing.{get_among}
-use Rattle.spg_chain.proofs.Renewing.{Renewing, renewing_begun, renewing_target, renewing_first, renewing_next, renewed_some, chain_at, from_there, next_positive, page_offset, any_offset, first_get, ok_map, page_room, not_again, not_head, in_os}
-use Rattle.spg_chain.proofs.rewrite.rewrite.Goals.{in-Some+in_ok-put_leaf_at, in_default}
+use Rattle.spg_forest.specs.Sheets.{Sheet}
+use Rattle.spg_chain.specs.Sweeps.{IsRenewed}
+use Rattle.spg_chain.proofs.Staying.{list_some}
+use Rattle.spg_chain.proofs.Renewing.{Renewing, any_offset, among, still_live, renewing_target, renewing_stays, first_positive, first_get, renewed_none, renewed_there, first_offset, first_live, head_empty, renewed_moved}
 use Rattle.spg_chain.proofs.rewrite.rewrite.Goals as goal
-
-pub clear-requires : goal.clear-requires
-clear-requires c = λ o a. let (p, q) = list_range c.args.old.now.tuples c.args.offsets.now c.requires.chain o a in let e = ap (λ (s : Sheet). length s.tuples) c.requires.same in (p, omega arith)
-
-pub loop-left-init : goal.loop-left-init
-loop-left-init c = subst (λ (p : Sheet). Renewing (contains row_cmp c.args.targets.now.rows) c.args.old.now c.args.offsets.now p None None (length c.args.offsets.now))
-    (sym (c.clear.ensures ∙ ap (λ (s : Sheet). with_tuples s (emptied s.tuples c.args.offsets.now)) c.requires.same)) (renewing_begun (contains row_cmp c.args.targets.now.rows) c.args.old.now c.args.offsets.now)
-
-pub bounds-offsets-left : goal.bounds-offsets-left
-bounds-offsets-left c = let f = c.loop-left.invariant.few in let h = c.loop-left-test.true in omega arith
 
 pub row_at-requires-clause-offset : goal.row_at-requires-clause-offset
 row_at-requires-clause-offset c =
-    let f = c.loop-left.invariant.few in let h = c.loop-left-test.true in
-    subst (λ x. IsOffset c.args.old.now.tuples x) (sym c.index-offsets-left.is) (chain_at (contains row_cmp c.args.targets.now.rows) c.args.old.now c.args.offsets.now c.requires.chain (let r = c.free-room.ensures.room in omega arith) (c.loop-left.left - 1) c.index-offsets-left.result (omega arith)).0
+    let h = c.loop-left-test.true in
+    any_offset (contains row_cmp c.args.targets.now.rows) c.args.page.now c.args.offsets.now c.requires c.loop-left.page c.loop-left.first c.loop-left.left c.loop-left.invariant c.index-offsets-left.result
+    (among (contains row_cmp c.args.targets.now.rows) c.args.page.now c.args.offsets.now c.requires c.loop-left.page c.loop-left.first c.loop-left.left c.loop-left.invariant (c.loop-left.left - 1) c.index-offsets-left.result (omega arith) c.index-offsets-left.is)
 
 pub row_at-requires-clause-live : goal.row_at-requires-clause-live
 row_at-requires-clause-live c =
-    let f = c.loop-left.invariant.few in let h = c.loop-left-test.true in
-    subst (λ x. IsLive (tuple_on c.args.old.now.tuples x)) (sym c.index-offsets-left.is) (chain_at (contains row_cmp c.args.targets.now.rows) c.args.old.now c.args.offsets.now c.requires.chain (let r = c.free-room.ensures.room in omega arith) (c.loop-left.left - 1) c.index-offsets-left.result (omega arith)).1
+    let h = c.loop-left-test.true in
+    still_live (contains row_cmp c.args.targets.now.rows) c.args.page.now c.args.offsets.now c.requires c.loop-left.page c.loop-left.first c.loop-left.left c.loop-left.invariant (c.loop-left.left - 1) c.index-offsets-left.result (omega arith) c.index-offsets-left.is
 
-pub put_leaf_at-requires-clause-from : goal.put_leaf_at-requires-clause-from
-put_leaf_at-requires-clause-from c = (from_there (contains row_cmp c.args.targets.now.rows) c.args.old.now c.args.offsets.now c.requires.chain (let r = c.free-room.ensures.room in omega arith) c.loop-left.page c.in-Some.later c.loop-left.next c.loop-left.left (subst (λ (f : Option ℕ). Renewing (contains row_cmp c.args.targets.now.rows) c.args.old.now c.args.offsets.now c.loop-left.page f c.loop-left.next c.loop-left.left) c.in-Some.is c.loop-left.invariant)).0
+pub loop-left-preserved-then-has : goal.loop-left-preserved-then-has
+loop-left-preserved-then-has c =
+    let h = c.loop-left-test.true in
+    subst (λ (q : Sheet). Renewing (contains row_cmp c.args.targets.now.rows) c.args.page.now c.args.offsets.now q c.loop-left.first (c.loop-left.left - 1)) (sym c.put_placeholder.ensures)
+    (renewing_target (contains row_cmp c.args.targets.now.rows) c.args.page.now c.args.offsets.now c.requires c.loop-left.page c.loop-left.first c.loop-left.left c.loop-left.invariant (c.loop-left.left - 1) c.index-offsets-left.result (omega arith) c.index-offsets-left.is
+    (ap (contains row_cmp c.args.targets.now.rows) (sym c.row_at.ensures) ∙ sym c.has.ensures ∙ c.if-has.true))
 
-pub put_leaf_at-requires-clause-live : goal.put_leaf_at-requires-clause-live
-put_leaf_at-requires-clause-live c = (from_there (contains row_cmp c.args.targets.now.rows) c.args.old.now c.args.offsets.now c.requires.chain (let r = c.free-room.ensures.room in omega arith) c.loop-left.page c.in-Some.later c.loop-left.next c.loop-left.left (subst (λ (f : Option ℕ). Renewing (contains row_cmp c.args.targets.now.rows) c.args.old.now c.args.offsets.now c.loop-left.page f c.loop-left.next c.loop-left.left) c.in-Some.is c.loop-left.invariant)).1
-
-pub put_leaf_at-requires-clause-next : goal.put_leaf_at-requires-clause-next
-put_leaf_at-requires-clause-next c = next_positive (contains row_cmp c.args.targets.now.rows) c.args.old.now c.args.offsets.now c.requires.chain (let r = c.free-room.ensures.room in omega arith) c.loop-left.page c.in-Some.later c.loop-left.next c.loop-left.left (subst (λ (f : Option ℕ). Renewing (contains row_cmp c.args.targets.now.rows) c.args.old.now c.args.offsets.now c.loop-left.page f c.loop-left.next c.loop-left.left) c.in-Some.is c.loop-left.invariant)
-
-pub put_leaf_at-requires-clause-at : goal.put_leaf_at-requires-clause-at
-put_leaf_at-requires-clause-at c = page_offset (contains row_cmp c.args.targets.now.rows) c.args.old.now c.args.offsets.now c.requires.chain (let r = c.free-room.ensures.room in omega arith) c.loop-left.page c.in-Some.later c.loop-left.next c.loop-left.left (subst (λ (f : Option ℕ). Renewing (contains row_cmp c.args.targets.now.rows) c.args.old.now c.args.offsets.now c.loop-left.page f c.loop-left.next c.loop-left.left) c.in-Some.is c.loop-left.invariant) c.in-Some.later (in_os (contains row_cmp c.args.targets.now.rows) c.args.old.now c.args.offsets.now c.requires.chain (let r = c.free-room.ensures.room in omega arith) c.loop-left.page c.in-Some.later c.loop-left.next c.loop-left.left (subst (λ (f : Option ℕ). Renewing (contains row_cmp c.args.targets.now.rows) c.args.old.now c.args.offsets.now c.loop-left.page f c.loop-left.next c.loop-left.left) c.in-Some.is c.loop-left.invariant))
-
-pub put_leaf_at-requires-clause-room : goal.put_leaf_at-requires-clause-room
-put_leaf_at-requires-clause-room c = page_room (contains row_cmp c.args.targets.now.rows) c.args.old.now c.args.offsets.now c.requires.chain (let r = c.free-room.ensures.room in omega arith) c.loop-left.page c.in-Some.later c.loop-left.next c.loop-left.left (subst (λ (f : Option ℕ). Renewing (contains row_cmp c.args.targets.now.rows) c.args.old.now c.args.offsets.now c.loop-left.page f c.loop-left.next c.loop-left.left) c.in-Some.is c.loop-left.invariant) c.in-Some.later (in_os (contains row_cmp c.args.targets.now.rows) c.args.old.now c.args.offsets.now c.requires.chain (let r = c.free-room.ensures.room in omega arith) c.loop-left.page c.in-Some.later c.loop-left.next c.loop-left.left (subst (λ (f : Option ℕ). Renewing (contains row_cmp c.args.targets.now.rows) c.args.old.now c.args.offsets.now c.loop-left.page f c.loop-left.next c.loop-left.left) c.in-Some.is c.loop-left.invariant)) (not_again (contains row_cmp c.args.targets.now.rows) c.args.old.now c.args.offsets.now c.requires.chain (let r = c.free-room.ensures.room in omega arith) c.loop-left.page c.in-Some.later c.loop-left.next c.loop-left.left (subst (λ (f : Option ℕ). Renewing (contains row_cmp c.args.targets.now.rows) c.args.old.now c.args.offsets.now c.loop-left.page f c.loop-left.next c.loop-left.left) c.in-Some.is c.loop-left.invariant))
-
-pub loop-left-preserved-then-not-has : goal.loop-left-preserved-then-not-has
-loop-left-preserved-then-not-has c =
-    let f = c.loop-left.invariant.few in let h = c.loop-left-test.true in
-    elim c.match-first.branch [
-      | in-Some+in_ok-put_leaf_at w ↦
-          subst (λ (g : Sheet). Renewing (contains row_cmp c.args.targets.now.rows) c.args.old.now c.args.offsets.now g (Some c.index-offsets-left.result) c.match-first.next (c.loop-left.left - 1)) (sym (w.page-is ∙ w.in_ok-put_leaf_at.ensures))
-          (subst (λ (n : Option ℕ). Renewing (contains row_cmp c.args.targets.now.rows) c.args.old.now c.args.offsets.now (with_tuples c.loop-left.page (with_tuple c.loop-left.page.tuples w.in-Some.later (Live (leaf_in (tuple_on c.args.old.now.tuples w.in-Some.later)) (number_of c.loop-left.next)))) (Some c.index-offsets-left.result) n (c.loop-left.left - 1)) (sym w.next-is)
-          (renewing_next (contains row_cmp c.args.targets.now.rows) c.args.old.now c.args.offsets.now c.loop-left.page w.in-Some.later c.loop-left.next c.loop-left.left (c.loop-left.left - 1) c.index-offsets-left.result (omega arith) c.index-offsets-left.is (subst (λ (f : Option ℕ). Renewing (contains row_cmp c.args.targets.now.rows) c.args.old.now c.args.offsets.now c.loop-left.page f c.loop-left.next c.loop-left.left) w.in-Some.is c.loop-left.invariant)
-          (ap (contains row_cmp c.args.targets.now.rows) (sym c.row_at.ensures) ∙ sym c.has.ensures ∙ c.if-not-has.true)))
-      | in_default w ↦
-          subst (λ (g : Sheet). Renewing (contains row_cmp c.args.targets.now.rows) c.args.old.now c.args.offsets.now g (Some c.index-offsets-left.result) c.match-first.next (c.loop-left.left - 1)) (sym w.page-is)
-          (subst (λ (n : Option ℕ). Renewing (contains row_cmp c.args.targets.now.rows) c.args.old.now c.args.offsets.now c.loop-left.page (Some c.index-offsets-left.result) n (c.loop-left.left - 1)) (sym w.next-is)
-          (renewing_first (contains row_cmp c.args.targets.now.rows) c.args.old.now c.args.offsets.now c.loop-left.page c.loop-left.next c.loop-left.left (c.loop-left.left - 1) c.index-offsets-left.result (omega arith) c.index-offsets-left.is (subst (λ (f : Option ℕ). Renewing (contains row_cmp c.args.targets.now.rows) c.args.old.now c.args.offsets.now c.loop-left.page f c.loop-left.next c.loop-left.left) w.in_default.is c.loop-left.invariant)
-          (ap (contains row_cmp c.args.targets.now.rows) (sym c.row_at.ensures) ∙ sym c.has.ensures ∙ c.if-not-has.true)))
-    ]
+pub set_next-requires-clause-next : goal.set_next-requires-clause-next
+set_next-requires-clause-next c = first_positive (contains row_cmp c.args.targets.now.rows) c.args.page.now c.args.offsets.now c.requires c.loop-left.page c.loop-left.first c.loop-left.left c.loop-left.invariant
 
 pub loop-left-preserved : goal.loop-left-preserved
 loop-left-preserved c =
-    let f = c.loop-left.invariant.few in let h = c.loop-left-test.true in
-    renewing_target (contains row_cmp c.args.targets.now.rows) c.args.old.now c.args.offsets.now c.loop-left.page c.loop-left.first c.loop-left.next c.loop-left.left (c.loop-left.left - 1) c.index-offsets-left.result (omega arith) c.index-offsets-left.is c.loop-left.invariant (ap (contains row_cmp c.args.targets.now.rows) (sym c.row_at.ensures) ∙ sym c.has.ensures ∙ c.if-not-has.false)
+    let h = c.loop-left-test.true in
+    subst (λ (q : Sheet). Renewing (contains row_cmp c.args.targets.now.rows) c.args.page.now c.args.offsets.now q (Some c.index-offsets-left.result) (c.loop-left.left - 1)) (sym c.set_next.ensures)
+    (renewing_stays (contains row_cmp c.args.targets.now.rows) c.args.page.now c.args.offsets.now c.requires c.loop-left.page c.loop-left.first c.loop-left.left c.loop-left.invariant (c.loop-left.left - 1) c.index-offsets-left.result (omega arith) c.index-offsets-left.is
+    (ap (contains row_cmp c.args.targets.now.rows) (sym c.row_at.ensures) ∙ sym c.has.ensures ∙ c.if-has.false))
 
-pub put_dead-requires : goal.put_dead-requires
-put_dead-requires c = any_offset (contains row_cmp c.args.targets.now.rows) c.args.old.now c.args.offsets.now c.requires.chain (let r = c.free-room.ensures.room in omega arith) c.loop-left.page c.loop-left.first c.loop-left.next c.loop-left.left c.index-offsets-0.result c.loop-left.invariant (subst (λ x. IsAmong x c.args.offsets.now) (sym c.index-offsets-0.is) (get_among c.args.offsets.now 0 c.index-offsets-0.result (list_some c.args.old.now.tuples c.args.offsets.now c.requires.chain)))
-
-pub put_leaf_at-requires-2-clause-from : goal.put_leaf_at-requires-2-clause-from
-put_leaf_at-requires-2-clause-from c = (from_there (contains row_cmp c.args.targets.now.rows) c.args.old.now c.args.offsets.now c.requires.chain (let r = c.free-room.ensures.room in omega arith) c.loop-left.page c.in-Some-first.first c.loop-left.next c.loop-left.left (subst (λ (f : Option ℕ). Renewing (contains row_cmp c.args.targets.now.rows) c.args.old.now c.args.offsets.now c.loop-left.page f c.loop-left.next c.loop-left.left) c.in-Some-first.is c.loop-left.invariant)).0
-
-pub put_leaf_at-requires-2-clause-live : goal.put_leaf_at-requires-2-clause-live
-put_leaf_at-requires-2-clause-live c = (from_there (contains row_cmp c.args.targets.now.rows) c.args.old.now c.args.offsets.now c.requires.chain (let r = c.free-room.ensures.room in omega arith) c.loop-left.page c.in-Some-first.first c.loop-left.next c.loop-left.left (subst (λ (f : Option ℕ). Renewing (contains row_cmp c.args.targets.now.rows) c.args.old.now c.args.offsets.now c.loop-left.page f c.loop-left.next c.loop-left.left) c.in-Some-first.is c.loop-left.invariant)).1
-
-pub put_leaf_at-requires-2-clause-next : goal.put_leaf_at-requires-2-clause-next
-put_leaf_at-requires-2-clause-next c = next_positive (contains row_cmp c.args.targets.now.rows) c.args.old.now c.args.offsets.now c.requires.chain (let r = c.free-room.ensures.room in omega arith) c.loop-left.page c.in-Some-first.first c.loop-left.next c.loop-left.left (subst (λ (f : Option ℕ). Renewing (contains row_cmp c.args.targets.now.rows) c.args.old.now c.args.offsets.now c.loop-left.page f c.loop-left.next c.loop-left.left) c.in-Some-first.is c.loop-left.invariant)
-
-pub put_leaf_at-requires-2-clause-at : goal.put_leaf_at-requires-2-clause-at
-put_leaf_at-requires-2-clause-at c = page_offset (contains row_cmp c.args.targets.now.rows) c.args.old.now c.args.offsets.now c.requires.chain (let r = c.free-room.ensures.room in omega arith) c.loop-left.page c.in-Some-first.first c.loop-left.next c.loop-left.left (subst (λ (f : Option ℕ). Renewing (contains row_cmp c.args.targets.now.rows) c.args.old.now c.args.offsets.now c.loop-left.page f c.loop-left.next c.loop-left.left) c.in-Some-first.is c.loop-left.invariant) c.index-offsets-0.result (subst (λ x. IsAmong x c.args.offsets.now) (sym c.index-offsets-0.is) (get_among c.args.offsets.now 0 c.index-offsets-0.result (list_some c.args.old.now.tuples c.args.offsets.now c.requires.chain)))
-
-pub put_leaf_at-requires-2-clause-room : goal.put_leaf_at-requires-2-clause-room
-put_leaf_at-requires-2-clause-room c =
+pub returns-in_default : goal.returns-in_default
+returns-in_default c =
     let z : c.loop-left.left ≡ 0 = (let k = c.loop-left-test.false in omega arith) in
-    page_room (contains row_cmp c.args.targets.now.rows) c.args.old.now c.args.offsets.now c.requires.chain (let r = c.free-room.ensures.room in omega arith) c.loop-left.page c.in-Some-first.first c.loop-left.next 0 (subst (λ (i : ℕ). Renewing (contains row_cmp c.args.targets.now.rows) c.args.old.now c.args.offsets.now c.loop-left.page (Some c.in-Some-first.first) c.loop-left.next i) z (subst (λ (f : Option ℕ). Renewing (contains row_cmp c.args.targets.now.rows) c.args.old.now c.args.offsets.now c.loop-left.page f c.loop-left.next c.loop-left.left) c.in-Some-first.is c.loop-left.invariant)) c.index-offsets-0.result (subst (λ x. IsAmong x c.args.offsets.now) (sym c.index-offsets-0.is) (get_among c.args.offsets.now 0 c.index-offsets-0.result (list_some c.args.old.now.tuples c.args.offsets.now c.requires.chain))) (not_head (contains row_cmp c.args.targets.now.rows) c.args.old.now c.args.offsets.now c.requires.chain (let r = c.free-room.ensures.room in omega arith) c.index-offsets-0.result c.index-offsets-0.is)
+    subst (λ (q : Sheet). IsRenewed (contains row_cmp c.args.targets.now.rows) c.args.page.now c.args.offsets.now q) (sym c.put_dead.ensures)
+    (renewed_none (contains row_cmp c.args.targets.now.rows) c.args.page.now c.args.offsets.now c.requires c.loop-left.page c.index-offsets-0.result
+    (first_get c.args.offsets.now c.index-offsets-0.result (list_some c.args.page.now.tuples c.args.offsets.now c.requires) c.index-offsets-0.is)
+    (subst (λ (f : Option ℕ). Renewing (contains row_cmp c.args.targets.now.rows) c.args.page.now c.args.offsets.now c.loop-left.page f 0) c.in_default.is
+    (subst (λ (i : ℕ). Renewing (contains row_cmp c.args.targets.now.rows) c.args.page.now c.args.offsets.now c.loop-left.page c.loop-left.first i) z c.loop-left.invariant)))
+
+pub returns-then-first-head : goal.returns-then-first-head
+returns-then-first-head c =
+    let z : c.loop-left.left ≡ 0 = (let k = c.loop-left-test.false in omega arith) in
+    let e : c.in-Some.first ≡ c.index-offsets-0.result = (let k = c.if-first-head.true in omega arith) in
+    renewed_there (contains row_cmp c.args.targets.now.rows) c.args.page.now c.args.offsets.now c.requires c.loop-left.page c.index-offsets-0.result
+    (first_get c.args.offsets.now c.index-offsets-0.result (list_some c.args.page.now.tuples c.args.offsets.now c.requires) c.index-offsets-0.is)
+    c.in-Some.first
+    (subst (λ (f : Option ℕ). Renewing (contains row_cmp c.args.targets.now.rows) c.args.page.now c.args.offsets.now c.loop-left.page f 0) c.in-Some.is
+    (subst (λ (i : ℕ). Renewing (contains row_cmp c.args.targets.now.rows) c.args.page.now c.args.offsets.now c.loop-left.page c.loop-left.first i) z c.loop-left.invariant)) e
+
+pub move_leaf-requires-clause-from : goal.move_leaf-requires-clause-from
+move_leaf-requires-clause-from c =
+    let z : c.loop-left.left ≡ 0 = (let k = c.loop-left-test.false in omega arith) in
+    first_offset (contains row_cmp c.args.targets.now.rows) c.args.page.now c.args.offsets.now c.requires c.loop-left.page c.index-offsets-0.result
+    (first_get c.args.offsets.now c.index-offsets-0.result (list_some c.args.page.now.tuples c.args.offsets.now c.requires) c.index-offsets-0.is)
+    c.in-Some.first
+    (subst (λ (f : Option ℕ). Renewing (contains row_cmp c.args.targets.now.rows) c.args.page.now c.args.offsets.now c.loop-left.page f 0) c.in-Some.is
+    (subst (λ (i : ℕ). Renewing (contains row_cmp c.args.targets.now.rows) c.args.page.now c.args.offsets.now c.loop-left.page c.loop-left.first i) z c.loop-left.invariant))
+
+pub move_leaf-requires-clause-live : goal.move_leaf-requires-clause-live
+move_leaf-requires-clause-live c =
+    let z : c.loop-left.left ≡ 0 = (let k = c.loop-left-test.false in omega arith) in
+    first_live (contains row_cmp c.args.targets.now.rows) c.args.page.now c.args.offsets.now c.requires c.loop-left.page c.index-offsets-0.result
+    (first_get c.args.offsets.now c.index-offsets-0.result (list_some c.args.page.now.tuples c.args.offsets.now c.requires) c.index-offsets-0.is)
+    c.in-Some.first
+    (subst (λ (f : Option ℕ). Renewing (contains row_cmp c.args.targets.now.rows) c.args.page.now c.args.offsets.now c.loop-left.page f 0) c.in-Some.is
+    (subst (λ (i : ℕ). Renewing (contains row_cmp c.args.targets.now.rows) c.args.page.now c.args.offsets.now c.loop-left.page c.loop-left.first i) z c.loop-left.invariant))
+
+pub move_leaf-requires-clause-empty : goal.move_leaf-requires-clause-empty
+move_leaf-requires-clause-empty c =
+    let z : c.loop-left.left ≡ 0 = (let k = c.loop-left-test.false in omega arith) in
+    head_empty (contains row_cmp c.args.targets.now.rows) c.args.page.now c.args.offsets.now c.requires c.loop-left.page c.index-offsets-0.result
+    (first_get c.args.offsets.now c.index-offsets-0.result (list_some c.args.page.now.tuples c.args.offsets.now c.requires) c.index-offsets-0.is)
+    c.in-Some.first
+    (subst (λ (f : Option ℕ). Renewing (contains row_cmp c.args.targets.now.rows) c.args.page.now c.args.offsets.now c.loop-left.page f 0) c.in-Some.is
+    (subst (λ (i : ℕ). Renewing (contains row_cmp c.args.targets.now.rows) c.args.page.now c.args.offsets.now c.loop-left.page c.loop-left.first i) z c.loop-left.invariant))
+    (λ (e : c.in-Some.first ≡ c.index-offsets-0.result). let k = c.if-first-head.false in absurd (k (omega arith)))
 
 pub returns : goal.returns
 returns c =
     let z : c.loop-left.left ≡ 0 = (let k = c.loop-left-test.false in omega arith) in
-    ok_map c.put_leaf_at-2.result _ _
-    (λ e. e ∙ renewed_some (contains row_cmp c.args.targets.now.rows) c.args.old.now c.args.offsets.now c.loop-left.page c.in-Some-first.first c.loop-left.next c.index-offsets-0.result (first_get c.args.offsets.now c.index-offsets-0.result (list_some c.args.old.now.tuples c.args.offsets.now c.requires.chain) c.index-offsets-0.is)
-    (subst (λ (i : ℕ). Renewing (contains row_cmp c.args.targets.now.rows) c.args.old.now c.args.offsets.now c.loop-left.page (Some c.in-Some-first.first) c.loop-left.next i) z (subst (λ (f : Option ℕ). Renewing (contains row_cmp c.args.targets.now.rows) c.args.old.now c.args.offsets.now c.loop-left.page f c.loop-left.next c.loop-left.left) c.in-Some-first.is c.loop-left.invariant)))
-    c.put_leaf_at-2.ensures
+    by c.move_leaf.result (λ e. subst (λ (q : Sheet). IsRenewed (contains row_cmp c.args.targets.now.rows) c.args.page.now c.args.offsets.now q) (sym e)
+    (renewed_moved (contains row_cmp c.args.targets.now.rows) c.args.page.now c.args.offsets.now c.requires c.loop-left.page c.index-offsets-0.result
+    (first_get c.args.offsets.now c.index-offsets-0.result (list_some c.args.page.now.tuples c.args.offsets.now c.requires) c.index-offsets-0.is)
+    c.in-Some.first
+    (subst (λ (f : Option ℕ). Renewing (contains row_cmp c.args.targets.now.rows) c.args.page.now c.args.offsets.now c.loop-left.page f 0) c.in-Some.is
+    (subst (λ (i : ℕ). Renewing (contains row_cmp c.args.targets.now.rows) c.args.page.now c.args.offsets.now c.loop-left.page c.loop-left.first i) z c.loop-left.invariant)))) c.move_leaf.ensures
+  where
+    by : {X E : Type 0} (r : Result X E) {P Q : Type 0} → (P → Q) → IfOk r (λ d. P) → IfOk r (λ d. Q)
+    by (Ok x) f a = f a
+    by (Err e) f a = tt

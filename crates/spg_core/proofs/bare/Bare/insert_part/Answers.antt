@@ -1,43 +1,19 @@
-use Rattle.std.proofs.Common.{Some, sym, ◌∙◌}
-use Rattle.std.proofs.lemmas.Bool.{false≢true}
-use Rattle.spg_core.specs.declared.guide.Guide.TheVariants as guides
-use Rattle.spg_core.specs.Looking.{IsBunch, StepsInsert}
-use Rattle.spg_core.proofs.Refusals.{ok_with}
-use Rattle.spg_core.proofs.Inserts.{is_insert, guide_seen, bunch_seen, bunch_kept, may_step}
-use Rattle.spg_core.proofs.bare.Bare.insert_part.Given.{Over}
+use Rattle.std.proofs.Common.{◌≡◌, ◌+◌, ◌^◌, ◌⊎◌, sym, ◌∙◌, subst}
+use Rattle.std.specs.Result.{IfOk, IsErrOf}
+use Rattle.spg_core.specs.declared.look.ApplyRefused.TheVariants.{IndexFull, Memory}
+use Rattle.spg_core.specs.Seen.{Seen}
+use Rattle.spg_core.specs.Looking.{IsBunch}
+use Rattle.spg_core.specs.Sections.{SeatFindsNoPage, SeatTicks}
+use Rattle.spg_core.specs.Calls.{Inserts}
 use Rattle.spg_core.proofs.bare.Bare.insert_part.Goals as goal
-use Rattle.spg_core.proofs.bare.Bare.insert_part.Goals.{Then-not-branch}
 
-pub descent_at-descent-requires-clause-insert : goal.descent_at-descent-requires-clause-insert
-descent_at-descent-requires-clause-insert g c = is_insert c.self.inside c.args.self.now c.self.view_is c.args.seat c.deref.result.now c.deref.ensures.value c.requires.inserting
+pub returns-clause-others : goal.returns-clause-others
+returns-clause-others g c = rw (sym (c.deref_mut.ensures.value ∙ c.self.view_is)) c.insert_part.ensures.others
 
-pub is_bunch-requires : goal.is_bunch-requires
-is_bunch-requires g c = record { can = may_step g.O.OpClass.meaning g.O.OpClass.codes c.self.inside c.self.invariant.0 c.args.seat c.descent_at-descent.result.now c.deref.result.now c.deref.ensures.value c.descent_at-descent.ensures }
+pub returns-clause-no_page : goal.returns-clause-no_page
+returns-clause-no_page g c =
+    let m = g.O.OpClass.meaning in
+    subst (λ (v : Seen _ _ _ _). IsBunch v c.args.seat c.args.parted.now → SeatFindsNoPage m v c.args.seat → (SeatTicks m v c.args.seat → v.table.clock + 1 ≡ 2 ^ 48 → ⊥) → IsErrOf c.insert_part.result IndexFull ⊎ IsErrOf c.insert_part.result Memory) (c.deref_mut.ensures.value ∙ c.self.view_is) c.insert_part.ensures.no_page
 
--- a look would not give the copy
-no_copy : (g : Over) (c : Then-not-branch g) → IsBunch c.args.self.now c.args.seat c.args.parted.now → ⊥
-no_copy g c is = false≢true (sym c.if-not-branch.true ∙ c.in_ok-is_bunch.ensures.1 (bunch_kept c.self.inside c.args.self.now c.self.view_is c.args.seat c.descent_at-descent.result.now c.deref.result.now c.deref.ensures.value c.descent_at-descent.ensures c.args.parted.now is))
-
-pub returns-then-not-branch-clause-changed : goal.returns-then-not-branch-clause-changed
-returns-then-not-branch-clause-changed g c = λ h is. no_copy g c is
-
-pub returns-then-not-branch-clause-clock_first : goal.returns-then-not-branch-clause-clock_first
-returns-then-not-branch-clause-clock_first g c = λ is ticks last. absurd (no_copy g c is)
-
-pub returns-then-not-branch-clause-no_page : goal.returns-then-not-branch-clause-no_page
-returns-then-not-branch-clause-no_page g c = λ is none apart. absurd (no_copy g c is)
-
-pub apply-requires-clause-guided : goal.apply-requires-clause-guided
-apply-requires-clause-guided g c =
-    guide_seen c.self.inside c.args.self.now c.self.view_is c.args.seat c.descent_at-descent.result.now c.deref.result.now c.deref.ensures.value c.descent_at-descent.ensures g.O.OpClass.meaning (guides.Parted (Some c.args.parted))
-    (c.in_ok-is_bunch.ensures.0 c.if-not-branch.false)
-
-pub returns-clause-ok : goal.returns-clause-ok
-returns-clause-ok g c =
-    ok_with (IsBunch c.args.self.now c.args.seat c.args.parted.now) (λ out. StepsInsert g.O.OpClass.meaning c.args.self.now c.apply.new.self c.args.seat out) c.apply.result (bunch_seen c.self.inside c.args.self.now c.self.view_is c.args.seat c.descent_at-descent.result.now c.deref.result.now c.deref.ensures.value c.descent_at-descent.ensures c.args.parted.now (c.in_ok-is_bunch.ensures.0 c.if-not-branch.false)) c.apply.ensures.ok
-
-pub returns-clause-full : goal.returns-clause-full
-returns-clause-full g c = λ h. (bunch_seen c.self.inside c.args.self.now c.self.view_is c.args.seat c.descent_at-descent.result.now c.deref.result.now c.deref.ensures.value c.descent_at-descent.ensures c.args.parted.now (c.in_ok-is_bunch.ensures.0 c.if-not-branch.false), (c.apply.ensures.full h).0, (c.apply.ensures.full h).1)
-
-pub returns-clause-clock : goal.returns-clause-clock
-returns-clause-clock g c = λ h. (bunch_seen c.self.inside c.args.self.now c.self.view_is c.args.seat c.descent_at-descent.result.now c.deref.result.now c.deref.ensures.value c.descent_at-descent.ensures c.args.parted.now (c.in_ok-is_bunch.ensures.0 c.if-not-branch.false), (c.apply.ensures.clock h).0, (c.apply.ensures.clock h).1)
+pub returns-clause-call : goal.returns-clause-call
+returns-clause-call g c = subst (λ (v : Seen _ _ _ _). IfOk c.insert_part.result (λ out. Inserts g.O.OpClass.meaning v c.insert_part.new.self c.args.seat out)) (c.deref_mut.ensures.value ∙ c.self.view_is) c.insert_part.ensures.call

@@ -28,4 +28,4 @@ returns-clause-told g c =
     let adds = sweep_adds old new c.seat-seat.result r c.open_on-opened.ensures.ok c.open_on-opened.ensures.err in
     let told = section_did m v (held_view c.enter-held.result) w (held_state c.enter-held.result) old new c.seat-seat.result c.leave-going.result.1 (λ n. vacuum_events n r) e.view c.state_mut.ensures.value c.seat-seat.ensures e.watched adds c.leave-going.ensures.told in
     let past = section_past v (held_view c.enter-held.result) w (held_state c.enter-held.result) old new c.leave-going.result.1 _ e.view c.state_mut.ensures.value adds c.leave-going.ensures.seen c.leave-going.ensures.span in
-    open_swept m v w old c.leave-going.result.1 r told past c.open_on-opened.ensures.open
+    open_swept m v w old c.leave-going.result.1 r told past c.open_on-opened.ensures.open c.open_on-opened.ensures.memory

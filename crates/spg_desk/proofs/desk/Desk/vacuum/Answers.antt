@@ -2,7 +2,7 @@ use Rattle.std.proofs.Common.{◌≡◌, [], ◌∷◌, sym, ap, ◌∙◌, subs
 use Rattle.spg_turn.specs.Passes.{pass_view}
 use Rattle.spg_calls.specs.Calls.{joined}
 use Rattle.spg_desk.specs.Passes.{view_of}
-use Rattle.spg_desk.proofs.Sweeping.{vacuum_doing, vacuum_idle, vacuum_told, vacuumed, not_opened}
+use Rattle.spg_desk.proofs.Sweeping.{vacuum_doing, vacuum_idle, vacuum_told, vacuumed, not_opened, vacuum_refused_did}
 use Rattle.spg_desk.proofs.Views.{at_rest, rest_on}
 use Rattle.spg_desk.proofs.desk.Desk.vacuum.Goals as goal
 
@@ -38,3 +38,8 @@ returns-in-Err-clause-free g c =
     let w = pass_view c.open_vacuum-going.result.0.pass in
     let told = rw c.in-Err.is at c.open_vacuum-going.ensures.told in
     rest_on m v w c.open_vacuum-going.result.1 c.open_vacuum-going.result.0.passed (not_opened m v w c.open_vacuum-going.result.1 _ told) c.args.pass.idle
+
+pub returns-in-Err-clause-did : goal.returns-in-Err-clause-did
+returns-in-Err-clause-did g c =
+    let told = rw c.in-Err.is at c.open_vacuum-going.ensures.told in
+    rw c.refused_vacuum.ensures (vacuum_refused_did g.O.OpClass.meaning (view_of c.args.pass) (pass_view c.open_vacuum-going.result.0.pass) c.open_vacuum-going.result.1 c.in-Err.refused told)
