@@ -75,7 +75,7 @@ module _ {O Key Recon Cond : Type 0} where
         → HasImageCause {T = Seen O Key Recon Cond} f g (Err e) → IsUnbegun m code limit (Some name) (outside held f) (outside now g) (status_of e)
     why name held now f g (refused.BadImage block reason) h cause = h
     why name held now f g refused.ImageFault h cause = cause.fault refl
-    why name held now f g refused.Memory h cause = tt
+    why name held now f g refused.Memory h cause = cause.refused (λ same. (cc))
 
     loaded_or_not : (name : List ℕ) (held now : Option Holding) (f g : ℕ) (result : Result (Seen O Key Recon Cond) ImageRefused)
         → Holds held name (λ bytes. MatchResult result (λ seen. IsLoadOf m code limit bytes seen) (λ e. IfBad e (λ (x : Fault). FailsFirst m code limit bytes x)))
@@ -106,14 +106,14 @@ pub bad_refusal : (name : List ℕ) (held now : Option Holding) (f g : ℕ) (e :
     → IsImageRefusal IsBadImage name (outside held f) (outside now g) (status_of e)
 bad_refusal name held now f g (refused.BadImage block reason) h cause = h
 bad_refusal name held now f g refused.ImageFault h cause = cause.fault refl
-bad_refusal name held now f g refused.Memory h cause = tt
+bad_refusal name held now f g refused.Memory h cause = cause.refused (λ same. (cc))
 
 pub refusal_as : (fails : Option (List ℕ) → Fault → Type 0) (name : List ℕ) (old now : Outside) (e : ImageRefused) (status : Status) → status ≡ status_of e → IsImageRefusal fails name old now (status_of e) → IsImageRefusal fails name old now status
 refusal_as fails name old now e status is refusal = subst (λ (s : Status). IsImageRefusal fails name old now s) (sym is) refusal
 
-pub memory_unbegun : {Key Recon Cond : Type 0} (m : Meaning Key Recon Cond) (code limit : ℕ) (from : Option (List ℕ)) (old now : Outside) → IsUnbegun m code limit from old now Memory
-memory_unbegun m code limit None old now = refl
-memory_unbegun m code limit (Some name) old now = tt
+pub memory_unbegun : {Key Recon Cond : Type 0} (m : Meaning Key Recon Cond) (code limit : ℕ) (from : Option (List ℕ)) (old now : Outside) → now.faults ≡ old.faults → IsUnbegun m code limit from old now Memory
+memory_unbegun m code limit None old now same = refl
+memory_unbegun m code limit (Some name) old now same = same
 
 pub unbegun_as : {Key Recon Cond : Type 0} (m : Meaning Key Recon Cond) (code limit : ℕ) (from : Option (List ℕ)) (old now : Outside) (e : ImageRefused) (status : Status) → status ≡ status_of e → IsUnbegun m code limit from old now (status_of e) → IsUnbegun m code limit from old now status
 unbegun_as m code limit from old now e status is unbegun = subst (λ (s : Status). IsUnbegun m code limit from old now s) (sym is) unbegun

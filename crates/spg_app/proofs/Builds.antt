@@ -50,7 +50,7 @@ module _ (name : List ℕ) (left left_after : Option (List ℕ)) (f g : ℕ) (ou
   pub build_complete : HoldsInserts left → (Rose f g → ⊥) → (Rose out.write_faults out.write_faults_after → ⊥) → (Rose out.images.faults out.images_after.faults → ⊥) → (status ≡ Done) ⊎ ((status ≡ Full) ⊎ (status ≡ Memory))
   build_complete holds no_read no_write no_image = by run
     where
-      ends : (building : IsBuilding name left left_after out status) → IsBuilt name building.inserts out status ⊎ IsUnbuilt name building.inserts out status → Decided status
+      ends : (building : IsBuilding name left left_after f g out status) → IsBuilt name building.inserts out status ⊎ IsUnbuilt name building.inserts out status → Decided status
       ends building (inl built) =
           let later : out.images.faults ≤ out.images_after.faults = omega (arith, built.creation.same) in
           built_decided status
@@ -101,12 +101,12 @@ line_refused left left_after f g ImageFault n r holds no_fault = absurd r
 line_refused left left_after f g (BadImage block reason) n r holds no_fault = absurd r
 line_refused left left_after f g Full n r holds no_fault = absurd r
 
-none_given : (left left_after : Option (List ℕ)) (n : ℕ) (name : List ℕ) (out : Outlets) (status : Status) → HoldsNoInserts left n → IsBuilding name left left_after out status → ⊥
-none_given None left_after n name out status holds building = holds
-none_given (Some all) left_after n name out status (inl bad) building =
+none_given : (left left_after : Option (List ℕ)) (f g n : ℕ) (name : List ℕ) (out : Outlets) (status : Status) → HoldsNoInserts left n → IsBuilding name left left_after f g out status → ⊥
+none_given None left_after f g n name out status holds building = holds
+none_given (Some all) left_after f g n name out status (inl bad) building =
     no_inserts all n bad.1 building.inserts (subst (λ l. IsInserts l building.inserts) (sym (whole all left_after building.gave.bytes building.gave.read.0 building.gave.read.1)) building.gave.is_script)
-none_given (Some all) left_after n name out status (inr long) building = omega (arith, building.gave.short, long.0, ap length (whole all left_after building.gave.bytes building.gave.read.0 building.gave.read.1))
+none_given (Some all) left_after f g n name out status (inr long) building = omega (arith, building.gave.short, long.0, ap length (whole all left_after building.gave.bytes building.gave.read.0 building.gave.read.1))
 
 pub build_refused : (name : List ℕ) (left left_after : Option (List ℕ)) (f g : ℕ) (out : Outlets) (status : Status) → IsBuildOf name left left_after f g out status → (n : ℕ) → HoldsNoInserts left n → (Rose f g → ⊥) → (status ≡ BadScript n) ⊎ (status ≡ Memory)
 build_refused name left left_after f g out status (inl (refusal, alone)) n holds no_fault = line_refused left left_after f g status n refusal holds no_fault
-build_refused name left left_after f g out status (inr building) n holds no_fault = absurd (none_given left left_after n name out status holds building)
+build_refused name left left_after f g out status (inr building) n holds no_fault = absurd (none_given left left_after f g n name out status holds building)

@@ -1,5 +1,5 @@
 -- A run whose images were read before its commands.
-use Rattle.std.proofs.Common.{◌≡◌, ◌≤◌, ◌+◌, ◌-◌, ◌^◌, min, ℕ, Bool, true, false, List, [], ◌∷◌, Option, Some, None, refl, sym, ◌∙◌, subst, arith}
+use Rattle.std.proofs.Common.{◌≡◌, ◌≤◌, ◌+◌, ◌-◌, ◌^◌, inl, inr, min, ℕ, Bool, true, false, List, [], ◌∷◌, Option, Some, None, refl, sym, ◌∙◌, subst, arith}
 use Rattle.spg_base.specs.declared.recorded.Origin.{Origin}
 use Rattle.spg_opclass.specs.Meaning.{Meaning}
 use Rattle.spg_forest.specs.Sheets.{Sheets}
@@ -16,6 +16,7 @@ use Rattle.spg_histories.specs.Tasks.{Task}
 use Rattle.spg_histories.specs.Pages.{HoldsAt, present_at}
 use Rattle.spg_histories.specs.Telling.{Step, steps_of, is_save, WhereTrue, OnSaved, IsGiven, TellsAll, TellAll}
 use Rattle.spg_perform.specs.Session.{Outside, told_of, ReadsBack, StillTell, image_faults, RoseBy, Session}
+use Rattle.spg_perform.specs.Remains.{AfterSave, Remains}
 use Rattle.spg_app.specs.Beginning.{OnlyRead}
 
 still : (a b c : Option Holding) → Stays a b → StillTell b c → StillTell a c
@@ -60,6 +61,25 @@ module _ (O : Type 0) {Key Recon Cond : Type 0} (m : Meaning Key Recon Cond) (sp
     leaves = t.leaves;
   }
 
+  -- what stood under a name after saves
+  after_untold : (told : Option (Option (List ℕ))) (holds : Sheets → ℕ → Type 0) (at : ℕ) (o : Outcome) (stands stands2 : Type 0) → (stands → stands2) → AfterSave code holds told at o stands → AfterSave code holds None at o stands2
+  after_untold told holds at (outcome.Saved pages) stands stands2 more (g, leaves, is) = (g, tt, is)
+  after_untold told holds at outcome.ImageFault stands stands2 more (inl is) = inl (more is)
+  after_untold told holds at outcome.ImageFault stands stands2 more (inr (g, leaves, is)) = inr (g, tt, is)
+  after_untold told holds at outcome.Memory stands stands2 more (inl is) = inl (more is)
+  after_untold told holds at outcome.Memory stands stands2 more (inr (g, leaves, is)) = inr (g, tt, is)
+  after_untold told holds at o stands stands2 more is = absurd is
+
+  remains_untold : (told was : Option (Option (List ℕ))) (holds : Sheets → ℕ → Type 0) (name : List ℕ) (past : List Step) → Remains code holds told was name past → Remains code holds None None name past
+  remains_untold told was holds name [] h = refl
+  remains_untold told was holds name (x ∷ past) h =
+      untold_where (is_save name x.task.command) _ _ _ _ (after_untold told holds x.done.span.from x.done.outcome (Remains code holds told was name past) (Remains code holds None None name past) (remains_untold told was holds name past)) (remains_untold told was holds name past) h
+
+  remains_earlier : (a b c : Option Holding) (holds : Sheets → ℕ → Type 0) (name : List ℕ) (steps : List Step) → Stays a b → Remains code holds (told_of b c name) (told_of b b name) name steps → Remains code holds (told_of a c name) (told_of a a name) name steps
+  remains_earlier None b c holds name steps s h = remains_untold (told_of b c name) (told_of b b name) holds name steps h
+  remains_earlier (Some a) None c holds name steps s h = absurd s
+  remains_earlier (Some a) (Some b) c holds name steps s h = subst (λ (x : Option (List ℕ)). Remains code holds (told_of (Some a) c name) (Some x) name steps) (s name) h
+
   pub from_earlier : (loaded : List (Entry Key)) (origin : Origin) (a b c : Outside) (tasks : List Task) (seen : Seen O Key Recon Cond) (records : List Record) → OnlyRead a b → b.faults ≡ a.faults
       → Session m speech code loaded origin b c tasks seen records → Session m speech code loaded origin a c tasks seen records
   from_earlier loaded origin a b c tasks seen records read same s = record {
@@ -67,6 +87,8 @@ module _ (O : Type 0) {Key Recon Cond : Type 0} (m : Meaning Key Recon Cond) (sp
     right = s.right;
     causes = s.causes;
     tells = tells_earlier seen.journal a.held b.held c.held (sheets_of seen.table) tasks records read.stays s.tells;
+    remains = λ name. remains_earlier a.held b.held c.held (HoldsAt m seen.journal) name (steps_of tasks records) read.stays (s.remains name);
+    counted = s.counted;
     closed = s.closed;
     made = s.made;
     images = still a.held b.held c.held read.stays s.images;

@@ -21,11 +21,11 @@ pub unbegun_ends : (limit : ℕ) (from : Option (List ℕ)) (script : Script) (o
 unbegun_ends limit from script out status line same unbegun left =
     (subst (λ (c : ClassLine). IsUnbegun (class_at c).meaning (class_at c).code limit from out.images out.images_after status) (sym same) unbegun, left)
 
-memory_refused : (io : Streams) (status : Status) → status ≡ Memory → IsRefusal io.left io.left_after io.read_faults io.read_faults_after status
-memory_refused io status e = subst (λ (s : Status). IsRefusal io.left io.left_after io.read_faults io.read_faults_after s) (sym e) tt
+memory_refused : (io : Streams) (status : Status) → status ≡ Memory → io.read_faults_after ≡ io.read_faults → IsRefusal io.left io.left_after io.read_faults io.read_faults_after status
+memory_refused io status e same = subst (λ (s : Status). IsRefusal io.left io.left_after io.read_faults io.read_faults_after s) (sym e) same
 
 -- of a script that the source gave
 pub run_ended : (limit : ℕ) (from : Option (List ℕ)) (io : Streams) (out : Outlets) (script : Script) (status : Status) (answer : Option EndState) → GaveScript io.left io.left_after script → io.read_faults_after ≡ io.read_faults → Ends limit from script out status answer → IsRun limit from io out status answer
 run_ended limit from io out script status (Some end) gave unfailed ends = record { script = script; gave = gave; unfailed = unfailed; of_class = ends.0; run = ends.1 }
-run_ended limit None io out script status None gave unfailed ends = inl (memory_refused io status ends.0, record { sink = ends.1.sink; images = ends.1.images })
-run_ended limit (Some name) io out script status None gave unfailed ends = inr (record { script = script; gave = gave; refusal = ends.0; left = ends.1 })
+run_ended limit None io out script status None gave unfailed ends = inl (memory_refused io status ends.0 unfailed, record { sink = ends.1.sink; images = ends.1.images })
+run_ended limit (Some name) io out script status None gave unfailed ends = inr (record { script = script; gave = gave; unfailed = unfailed; refusal = ends.0; left = ends.1 })

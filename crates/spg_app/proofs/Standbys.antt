@@ -28,10 +28,10 @@ use Rattle.spg_app.proofs.Complete.{whole, no_shorter}
 pub mirrored_ends : (limit lag : ℕ) (s : Sequence) (out : Sunk) (status : Status) (end : EndState) (answer : Option EndState) → answer ≡ Some end → MirroredTo limit lag s out status (state_of end) → EndsMirrored limit lag s out status answer
 mirrored_ends limit lag s out status end answer is mirrored = subst (EndsMirrored limit lag s out status) (sym is) mirrored
 
-pub mirrored_ended : (limit lag : ℕ) (left left_after : Option (List ℕ)) (f g : ℕ) (out : Sunk) (s : Sequence) (status : Status) (answer : Option EndState) → GaveSequence left left_after s → EndsMirrored limit lag s out status answer
+pub mirrored_ended : (limit lag : ℕ) (left left_after : Option (List ℕ)) (f g : ℕ) (out : Sunk) (s : Sequence) (status : Status) (answer : Option EndState) → GaveSequence left left_after s → g ≡ f → EndsMirrored limit lag s out status answer
     → IsStandbyRun lag limit left left_after f g out status answer
-mirrored_ended limit lag left left_after f g out s status (Some end) gave ends = record { sequence = s; gave = gave; ends = ends }
-mirrored_ended limit lag left left_after f g out s status None gave ends = (subst (λ (x : Status). IsSequenceRefusal left left_after f g x) (sym ends.0) tt, ends.1)
+mirrored_ended limit lag left left_after f g out s status (Some end) gave unfailed ends = record { sequence = s; gave = gave; unfailed = unfailed; ends = ends }
+mirrored_ended limit lag left left_after f g out s status None gave unfailed ends = (subst (λ (x : Status). IsSequenceRefusal left left_after f g x) (sym ends.0) unfailed, ends.1)
 
 -- ---- commands are done
 

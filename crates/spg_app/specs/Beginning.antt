@@ -1,5 +1,5 @@
 -- With what the commands of a run begin, and why they do not.
-use Rattle.std.specs.Prelude.{◌≡◌, ◌≤◌, ⊤, ℕ, false, List, [], Option, Some, None, Result, IfOk, IfErr, OnOk}
+use Rattle.std.specs.Prelude.{◌≡◌, ◌≤◌, ℕ, false, List, [], Option, Some, None, Result, IfOk, IfErr, OnOk}
 use Rattle.spg_base.specs.declared.recorded.Origin.{Origin}
 use Rattle.spg_io.specs.Held.{Holding, Holds, Stays}
 use Rattle.spg_io.specs.Causes.{Rose}
@@ -56,11 +56,11 @@ status_of (refused.BadImage block reason) = BadImage block reason
 status_of refused.ImageFault = ImageFault
 status_of refused.Memory = Memory
 
--- Why the image under a name was not taken: a call on the images failed, or it fails a clause, where the images tell it; want of memory is free
+-- Why the image under a name was not taken: a call on the images failed, or it fails a clause, where the images tell it; want of memory may come where no call failed
 abbrev pub IsImageRefusal : (Option (List ℕ) → Fault → Type 0) → List ℕ → Outside → Outside → Status → Type 0
 IsImageRefusal fails name old now (BadImage block reason) = Holds old.held name (λ bytes. fails bytes (record { block = block; reason = reason }))
 IsImageRefusal fails name old now ImageFault = Rose old.faults now.faults
-IsImageRefusal fails name old now Memory = ⊤
+IsImageRefusal fails name old now Memory = now.faults ≡ old.faults
 IsImageRefusal fails name old now Done = ⊥
 IsImageRefusal fails name old now Usage = ⊥
 IsImageRefusal fails name old now (BadScript n) = ⊥

@@ -1,5 +1,5 @@
 -- What `build` says of the inserts that a source gave, and of the index that was built of them.
-use Rattle.std.specs.Prelude.{◌≡◌, ◌⊎◌, ◌<◌, ◌≤◌, ◌++◌, List, [], ◌∷◌, ℕ, length, true, Option, Result, Ok, Err, IsSomeAnd, ⊤, codes}
+use Rattle.std.specs.Prelude.{◌≡◌, ◌⊎◌, ◌<◌, ◌≤◌, ◌++◌, List, [], ◌∷◌, ℕ, length, true, Option, Result, Ok, Err, IsSomeAnd, codes}
 use Rattle.std.specs.Fmt.{decimal}
 use Rattle.spg_io.specs.Causes.{Rose}
 use Rattle.spg_radix.specs.Texts.{is_bytes}
@@ -39,11 +39,11 @@ pub record GaveNoInserts (left left_after : Option (List ℕ)) (n : ℕ) : Type 
 abbrev pub IsOtherScript : Option (List ℕ) → Option (List ℕ) → ℕ → Type 0
 IsOtherScript left left_after n = GaveNoInserts left left_after n ⊎ ((n ≡ 0) × ReadMore left left_after longest_script)
 
--- why no inserts were had of a source; want of memory is free
+-- why no inserts were had of a source; want of memory may come where no read failed
 abbrev pub IsInsertRefusal : (left left_after : Option (List ℕ)) (read_faults read_faults_after : ℕ) → Status → Type 0
 IsInsertRefusal left left_after f f_after ReadFault = Rose f f_after
 IsInsertRefusal left left_after f f_after (BadScript n) = IsOtherScript left left_after n
-IsInsertRefusal left left_after f f_after Memory = ⊤
+IsInsertRefusal left left_after f f_after Memory = f_after ≡ f
 IsInsertRefusal left left_after f f_after Done = ⊥
 IsInsertRefusal left left_after f f_after Usage = ⊥
 IsInsertRefusal left left_after f f_after WriteFault = ⊥
@@ -84,15 +84,16 @@ pub record IsUnbuilt (name : List ℕ) (i : Inserts) (out : Outlets) (status : S
   pub status_is : status ≡ unbuilt_status why
   pub sink : out.taken_after ≡ out.taken
 
--- the source gave inserts, of which an index was built or not
-pub record IsBuilding (name : List ℕ) (left left_after : Option (List ℕ)) (out : Outlets) (status : Status) : Type 0 where
+-- the source gave inserts, where no read failed, of which an index was built or not
+pub record IsBuilding (name : List ℕ) (left left_after : Option (List ℕ)) (read_faults read_faults_after : ℕ) (out : Outlets) (status : Status) : Type 0 where
   pub inserts : Inserts
   pub gave : GaveInserts left left_after inserts
+  pub unfailed : read_faults_after ≡ read_faults
   pub ends : IsBuilt name inserts out status ⊎ IsUnbuilt name inserts out status
 
 -- what is said of `build` of an image of this name; without inserts nothing was written
 abbrev pub IsBuildOf : List ℕ → (left left_after : Option (List ℕ)) (read_faults read_faults_after : ℕ) → Outlets → Status → Type 0
-IsBuildOf name left left_after f f_after out status = (IsInsertRefusal left left_after f f_after status × LeftAlone out) ⊎ IsBuilding name left left_after out status
+IsBuildOf name left left_after f f_after out status = (IsInsertRefusal left left_after f f_after status × LeftAlone out) ⊎ IsBuilding name left left_after f f_after out status
 
 -- ---- what a source holds
 

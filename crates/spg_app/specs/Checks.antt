@@ -15,10 +15,11 @@ use Rattle.spg_app.specs.Ending.{Outlets}
 abbrev pub counts_text : Verified → List ℕ
 counts_text v = ((codes "ok pages " ++ decimal v.pages) ++ (codes " entries " ++ decimal v.entries)) ++ 10 ∷ []
 
--- These are the numbers of the image, which fails no clause where the images tell it. The sink took their line, or a front of it where it failed or memory was wanting
+-- These are the numbers of the image, which fails no clause where the images tell it, and no call on the images failed. The sink took their line, or a front of it where it failed or memory was wanting
 pub record IsSoundImage (name : List ℕ) (out : Outlets) (status : Status) : Type 0 where
   pub verified : Verified
   pub image : Holds out.images.held name (λ bytes. IsImageOf bytes verified)
+  pub unfailed : out.images_after.faults ≡ out.images.faults
   pub writing : Writing
   pub wrote : Wrote writing out.taken out.taken_after (counts_text verified)
   pub cause : writing ≡ write_failed → Rose out.write_faults out.write_faults_after

@@ -1,9 +1,10 @@
 -- What the process tells at its end.
-use Rattle.std.specs.Prelude.{ℕ, List, [], Option, Some, None, Result, Ok, Err, codes}
+use Rattle.std.specs.Prelude.{ℕ, List, [], ◌∷◌, ◌++◌, Option, Some, None, Result, Ok, Err, codes}
+use Rattle.std.specs.Fmt.{decimal}
 use Rattle.spg_io.specs.declared.sink.IoRefused.{IoRefused}
 use Rattle.spg_histories.specs.declared.status.Status.{Status}
 use Rattle.spg_histories.specs.declared.status.Status.TheVariants.{Done, Usage, BadScript, ReadFault, WriteFault, ImageFault, BadImage, Memory, Full}
-use Rattle.spg_app.specs.Reasons.{reason_name}
+use Rattle.spg_verify.specs.Reasons.{reason_name}
 
 -- the status of the process: a sink that did not finish is a write fault
 abbrev pub last_status : {A : Type 0} → Status → Result A IoRefused → Status
@@ -45,3 +46,21 @@ reason_of ImageFault = []
 reason_of (BadImage block reason) = reason_name reason
 reason_of Memory = []
 reason_of Full = []
+
+-- the line on standard error; empty where there is none
+abbrev pub line_of : Status → List ℕ
+line_of Done = []
+line_of Usage = codes "usage"
+line_of (BadScript line) = codes "bad script line " ++ decimal line
+line_of ReadFault = codes "read fault"
+line_of WriteFault = codes "write fault"
+line_of ImageFault = codes "image fault"
+line_of (BadImage block reason) = codes "bad image " ++ decimal block ++ 32 ∷ reason_name reason
+line_of Memory = codes "memory"
+line_of Full = codes "full"
+
+-- words, and behind them a number and the name of a clause, where there are such
+abbrev pub line_with : List ℕ → Option ℕ → List ℕ → List ℕ
+line_with words None reason = words
+line_with words (Some number) [] = words ++ 32 ∷ decimal number
+line_with words (Some number) (c ∷ reason) = words ++ 32 ∷ decimal number ++ 32 ∷ c ∷ reason

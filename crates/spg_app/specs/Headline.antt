@@ -73,11 +73,11 @@ pub record GaveNoScript (left left_after : Option (List ℕ)) (n : ℕ) : Type 0
 abbrev pub IsBadScript : Option (List ℕ) → Option (List ℕ) → ℕ → Type 0
 IsBadScript left left_after n = GaveNoScript left left_after n ⊎ ((n ≡ 0) × ReadMore left left_after longest_script)
 
--- why no script was had of a source; want of memory is free
+-- why no script was had of a source; want of memory may come where no read failed
 abbrev pub IsRefusal : (left left_after : Option (List ℕ)) (read_faults read_faults_after : ℕ) → Status → Type 0
 IsRefusal left left_after f f_after ReadFault = Rose f f_after
 IsRefusal left left_after f f_after (BadScript n) = IsBadScript left left_after n
-IsRefusal left left_after f f_after Memory = ⊤
+IsRefusal left left_after f f_after Memory = f_after ≡ f
 IsRefusal left left_after f f_after Done = ⊥
 IsRefusal left left_after f f_after Usage = ⊥
 IsRefusal left left_after f f_after WriteFault = ⊥
@@ -89,10 +89,11 @@ IsRefusal left left_after f f_after (BadImage block reason) = ⊥
 abbrev pub FailsFor : ClassLine → ℕ → Option (List ℕ) → Fault → Type 0
 FailsFor line limit bytes f = FailsAs (class_at line).meaning (class_at line).code limit bytes f
 
--- the source gave a script, and its commands did not begin: the image of the name was refused, or memory was wanting; nothing was written
+-- the source gave a script, where no read failed, and its commands did not begin: the image of the name was refused, or memory was wanting; nothing was written
 pub record IsStopped (limit : ℕ) (name : List ℕ) (io : Streams) (out : Outlets) (status : Status) : Type 0 where
   pub script : Script
   pub gave : GaveScript io.left io.left_after script
+  pub unfailed : io.read_faults_after ≡ io.read_faults
   pub refusal : IsImageRefusal (FailsFor script.class limit) name out.images out.images_after status
   pub left : Unwritten (Some name) out
 

@@ -1,5 +1,4 @@
 pub mod Io
-pub mod Reasons
 pub mod Classes
 pub mod Beginning
 pub mod Ending

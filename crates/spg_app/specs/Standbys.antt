@@ -1,5 +1,5 @@
 -- What `standby` says of the commands that a source gave, and of what was done on an index and its standby.
-use Rattle.std.specs.Prelude.{◌≡◌, ◌⊎◌, ◌<◌, ◌≤◌, List, ℕ, length, true, Option, Some, None, IsSomeAnd, ⊤}
+use Rattle.std.specs.Prelude.{◌≡◌, ◌⊎◌, ◌<◌, ◌≤◌, List, ℕ, length, true, Option, Some, None, IsSomeAnd}
 use Rattle.spg_io.specs.Causes.{Rose}
 use Rattle.spg_opclass.specs.Meaning.{Meaning}
 use Rattle.spg_radix.specs.Texts.{is_bytes}
@@ -42,11 +42,11 @@ pub record GaveNoSequence (left left_after : Option (List ℕ)) (n : ℕ) : Type
 abbrev pub IsForeignScript : Option (List ℕ) → Option (List ℕ) → ℕ → Type 0
 IsForeignScript left left_after n = GaveNoSequence left left_after n ⊎ ((n ≡ 0) × ReadMore left left_after longest_script)
 
--- why no commands were had of a source; want of memory is free
+-- why no commands were had of a source; want of memory may come where no read failed
 abbrev pub IsSequenceRefusal : (left left_after : Option (List ℕ)) (read_faults read_faults_after : ℕ) → Status → Type 0
 IsSequenceRefusal left left_after f f_after ReadFault = Rose f f_after
 IsSequenceRefusal left left_after f f_after (BadScript n) = IsForeignScript left left_after n
-IsSequenceRefusal left left_after f f_after Memory = ⊤
+IsSequenceRefusal left left_after f f_after Memory = f_after ≡ f
 IsSequenceRefusal left left_after f f_after Done = ⊥
 IsSequenceRefusal left left_after f f_after Usage = ⊥
 IsSequenceRefusal left left_after f f_after WriteFault = ⊥
@@ -87,15 +87,16 @@ abbrev pub EndsMirrored : ℕ → ℕ → Sequence → Sunk → Status → Optio
 EndsMirrored limit lag s out status (Some end) = MirroredTo limit lag s out status (state_of end)
 EndsMirrored limit lag s out status None = (status ≡ Memory) × (out.taken_after ≡ out.taken)
 
--- the source gave these commands, and they were done
-pub record IsMirroring (limit lag : ℕ) (left left_after : Option (List ℕ)) (out : Sunk) (status : Status) (end : EndState) : Type 0 where
+-- the source gave these commands, where no read failed, and they were done
+pub record IsMirroring (limit lag : ℕ) (left left_after : Option (List ℕ)) (read_faults read_faults_after : ℕ) (out : Sunk) (status : Status) (end : EndState) : Type 0 where
   pub sequence : Sequence
   pub gave : GaveSequence left left_after sequence
+  pub unfailed : read_faults_after ≡ read_faults
   pub ends : MirroredTo limit lag sequence out status (state_of end)
 
 -- what is said of a run with a standby: of its commands where a state is handed back, else why there were none; nothing was written then
 abbrev pub IsStandbyRun : (lag limit : ℕ) (left left_after : Option (List ℕ)) (read_faults read_faults_after : ℕ) → Sunk → Status → Option EndState → Type 0
-IsStandbyRun lag limit left left_after f f_after out status (Some end) = IsMirroring limit lag left left_after out status end
+IsStandbyRun lag limit left left_after f f_after out status (Some end) = IsMirroring limit lag left left_after f f_after out status end
 IsStandbyRun lag limit left left_after f f_after out status None = IsSequenceRefusal left left_after f f_after status × (out.taken_after ≡ out.taken)
 
 -- ---- what a source holds

@@ -44,6 +44,7 @@ fn read_inserts<S: Source, G: Gate>(
 ) -> Result<Inserts, Status>
     ensures inserts { IfOk result (λ inserts. GaveInserts (S.left source.old) (S.left source.new) inserts) }
     ensures written { IfOk result (λ inserts. IsWritten (script_of inserts)) }
+    ensures unfailed { OnOk result (S.faults source.new ≡ S.faults source.old) }
     ensures status { IfErr result (λ status. IsInsertRefusal (S.left source.old) (S.left source.new) (S.faults source.old) (S.faults source.new) status) }
 {
     let bytes = match read_all(alloc, source) {

@@ -1,15 +1,16 @@
-ghost use Rattle.std.specs.Prelude.{◌≡◌};
+ghost use Rattle.std.specs.Prelude.{◌≡◌, Some};
 ghost use Rattle.spg_histories.specs.Ending.{code_of};
-ghost use Rattle.spg_app.specs.Farewell.{last_status, words_of, number_of, reason_of};
+ghost use Rattle.spg_app.specs.Farewell.{last_status, words_of, number_of, reason_of, line_of, line_with};
 
-use crate::reasons::reason_name;
 use spg_histories::Status;
 use spg_io::IoRefused;
+use spg_verify::reason_name;
+use std::fmt;
 
 /// What the process tells at its end.
 #[derive(Clone, Copy, Debug, PartialEq, Eq)]
 pub struct Farewell {
-    /// The line on standard error; empty where there is none.
+    /// The words on standard error; empty where there are none.
     pub words: &'static str,
     /// The number that stands behind the words, where one does.
     pub number: Option<u32>,
@@ -17,6 +18,21 @@ pub struct Farewell {
     pub reason: &'static str,
     /// The exit status.
     pub code: u8,
+}
+
+/// The line on standard error; empty where there is none.
+impl fmt::Display for Farewell {
+    ghost output = { λ f. Some (line_with f.words.now f.number f.reason.now) };
+
+    fn fmt<W: fmt::Write>(&self, f: &mut fmt::Formatter<W>) -> fmt::Result {
+        let words = self.words;
+        let reason = self.reason;
+        match self.number {
+            Some(number) if reason.is_empty() => write!(f, "{words} {number}"),
+            Some(number) => write!(f, "{words} {number} {reason}"),
+            None => write!(f, "{words}"),
+        }
+    }
 }
 
 /// The words of a status.
@@ -63,6 +79,7 @@ pub fn last_words(status: Status, finished: Result<(), IoRefused>) -> Farewell
     ensures words { result.words.now ≡ words_of (last_status status finished) }
     ensures number { result.number ≡ number_of (last_status status finished) }
     ensures reason { result.reason.now ≡ reason_of (last_status status finished) }
+    ensures line { line_with result.words.now result.number result.reason.now ≡ line_of (last_status status finished) }
     ensures code { result.code ≡ code_of (last_status status finished) }
 {
     let last = match finished {

@@ -11,7 +11,6 @@ mod farewell;
 mod generated;
 mod laws;
 mod program;
-mod reasons;
 mod session;
 mod standby;
 mod stream;

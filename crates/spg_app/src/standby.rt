@@ -1,4 +1,4 @@
-ghost use Rattle.std.specs.Prelude.{◌≡◌, ◌≤◌, ◌<◌, ◌-◌, ◌^◌, true, IfOk, IfErr, length};
+ghost use Rattle.std.specs.Prelude.{◌≡◌, ◌≤◌, ◌<◌, ◌-◌, ◌^◌, true, IfOk, IfErr, OnOk, length};
 ghost use Rattle.std.specs.List.{AllByRecursion};
 ghost use Rattle.spg_radix.specs.Texts.{is_bytes};
 ghost use Rattle.spg_script.specs.Script.{IsWritten, IsLaneCommand};
@@ -38,6 +38,7 @@ fn read_sequence<S: Source, G: Gate>(
 ) -> Result<Sequence, Status>
     ensures sequence { IfOk result (λ sequence. GaveSequence (S.left source.old) (S.left source.new) sequence) }
     ensures written { IfOk result (λ sequence. IsWritten (script_of sequence)) }
+    ensures unfailed { OnOk result (S.faults source.new ≡ S.faults source.old) }
     ensures status { IfErr result (λ status. IsSequenceRefusal (S.left source.old) (S.left source.new) (S.faults source.old) (S.faults source.new) status) }
 {
     let bytes = match read_all(alloc, source) {

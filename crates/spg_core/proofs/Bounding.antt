@@ -76,7 +76,7 @@ module _ {O Key Recon Cond : Type 0} (m : Meaning Key Recon Cond) (s : Inside O 
 
     pub moved_bounded : (seat : ℕ) (stage : Stage O Key Recon Cond) → IsNoInsert m stage → (s2 : Fields O Key Recon Cond) → shown s2 ≡ moved seen seat stage (untouched seen.table) → stage_in s2.stages seat ≡ stage → IsBounded m s2
     moved_bounded seat stage idle s2 eq here =
-        let all : shown s2 ≡ logged_all seen seat [] stage (untouched seen.table) = eq ∙ ap (λ j. seen_as j (set seen.stages seat stage) (untouched seen.table) seen.origin) (sym (append-nil seen.journal)) in
+        let all : shown s2 ≡ logged_all seen seat [] stage (untouched seen.table) = eq ∙ ap (λ j. record (moved seen seat stage (untouched seen.table)) { journal = j }) (sym (append-nil seen.journal)) in
         still m (fields_of s) s2 seat stage I B idle (turned seat stage [] (untouched seen.table) s2 all here) (in_table seat stage [] s2 all) (none_logged (fields_of s) s2 (in_journal seat stage [] (untouched seen.table) s2 all))
 
     pub open_bounded : (seat : ℕ) (row : RowAt) (key : Option Key) (s2 : Fields O Key Recon Cond) → shown s2 ≡ logged seen seat (event.OpenInsert seat row key) (descending key (opened_for m row key)) (untouched seen.table) → stage_in s2.stages seat ≡ descending key (opened_for m row key) → IsBounded m s2

@@ -148,16 +148,22 @@ module _ {O Key Recon Cond : Type 0} (m : Meaning Key Recon Cond) where
   abbrev with_books : Seen O Key Recon Cond → rows.Table O Key Recon Cond → (RowAt → Bool) → (RowAt → Bool) → List (ℕ × Option ℕ) → Fields O Key Recon Cond
   with_books seen table targets later vacuums = record { journal = seen.journal; spare = open_count seen.stages; stages = seen.stages; table = seen.table; rows = table; targets = targets; later = later; vacuums = vacuums; origin = seen.origin }
 
-  -- a call does this to some fields that show what is seen
-  abbrev DoesSome : Fields O Key Recon Cond → Seen O Key Recon Cond → ℕ → Call O Key Recon Cond → Type 0
-  DoesSome s new seat call = (s2 : Fields O Key Recon Cond) × (shown s2 ≡ new) × Does m s s2 seat call
+  abbrev class_in : Seen O Key Recon Cond → Option O
+  class_in seen = seen.class
 
-  module _ (s : Fields O Key Recon Cond) (kept : IsKept m s) (new : Seen O Key Recon Cond) (seat : ℕ) where
+  -- a call does this to some fields that show what is seen
+  abbrev DoesSome : Option O → Fields O Key Recon Cond → Seen O Key Recon Cond → ℕ → Call O Key Recon Cond → Type 0
+  DoesSome k s new seat call = (s2 : Fields O Key Recon Cond) × (shown k s2 ≡ new) × Does m s s2 seat call
+
+  module _ (k : Option O) (s : Fields O Key Recon Cond) (kept : IsKept m s) (new : Seen O Key Recon Cond) (seat : ℕ) where
     abbrev past : History O Key Recon Cond
     past = reverse s.journal
 
     module _ (table : rows.Table O Key Recon Cond) (targets later : RowAt → Bool) (vacuums : List (ℕ × Option ℕ)) where
-      goes_on : (stage : Stage O Key Recon Cond) (es : List (Event O Key Recon Cond)) (t : pages.Table) → new ≡ logged_all (shown s) seat es stage t → stage_at new seat ≡ stage → Goes s (with_books new table targets later vacuums) seat stage es
+      is_shown : new.class ≡ k → shown k (with_books new table targets later vacuums) ≡ new
+      is_shown same = λ i. record new { class = sym same i }
+
+      goes_on : (stage : Stage O Key Recon Cond) (es : List (Event O Key Recon Cond)) (t : pages.Table) → new ≡ logged_all (shown k s) seat es stage t → stage_at new seat ≡ stage → Goes s (with_books new table targets later vacuums) seat stage es
       goes_on stage es t is here = record {
         journal = ap (λ (v : Seen O Key Recon Cond). v.journal) is;
         stages = ap (λ (v : Seen O Key Recon Cond). v.stages) is;
@@ -172,7 +178,7 @@ module _ {O Key Recon Cond : Type 0} (m : Meaning Key Recon Cond) where
     same_rows : SameRows s still
     same_rows = record { rows = refl; targets = λ r. refl; later = λ r. refl; vacuums = refl }
 
-    goes_still : (stage : Stage O Key Recon Cond) (t : pages.Table) → new ≡ moved (shown s) seat stage t → stage_at new seat ≡ stage → Goes s still seat stage []
+    goes_still : (stage : Stage O Key Recon Cond) (t : pages.Table) → new ≡ moved (shown k s) seat stage t → stage_at new seat ≡ stage → Goes s still seat stage []
     goes_still stage t is here = record {
       journal = ap (λ (v : Seen O Key Recon Cond). v.journal) is ∙ sym (append-nil s.journal);
       stages = ap (λ (v : Seen O Key Recon Cond). v.stages) is;
@@ -181,7 +187,7 @@ module _ {O Key Recon Cond : Type 0} (m : Meaning Key Recon Cond) where
       room = omega arith;
     }
 
-    table_then : (stage : Stage O Key Recon Cond) (es : List (Event O Key Recon Cond)) (t : pages.Table) → new ≡ logged_all (shown s) seat es stage t → new.table ≡ t
+    table_then : (stage : Stage O Key Recon Cond) (es : List (Event O Key Recon Cond)) (t : pages.Table) → new ≡ logged_all (shown k s) seat es stage t → new.table ≡ t
     table_then stage es t is = ap (λ (v : Seen O Key Recon Cond). v.table) is
 
     -- ---- inserts
@@ -189,16 +195,16 @@ module _ {O Key Recon Cond : Type 0} (m : Meaning Key Recon Cond) where
     present : (row : RowAt) (state : RowState) → state_of row past ≡ state → (row_state.Free ≡ state → ⊥) → (r : RowAt) → same_row row r ≡ true → IsSome (rows.entry_in s.rows r)
     present row state is taken r e = subst (λ (q : RowAt). IsSome (rows.entry_in s.rows q)) (row-equal row r e) (has_entry s.rows row state (kept.tells.states row ∙ is) taken)
 
-    inserts : (key : Option Key) (d d2 : Descending Recon) (row : RowAt) → stage_in s.stages seat ≡ descending key d → d.row ≡ row → (out : InsertOut) → StepDone m s.table new.table d d2 seat out → InsertsTo (shown s) new seat key d d2 out → DoesSome s new seat (steps row out)
-    inserts key d d2 row here of outs.Descended S (is, at) = (still, refl, (key, d, d2, here, of, S, (goes_still (descending key d2) new.table is at, same_rows)))
-    inserts key d d2 row here of outs.Restructured S (is, at) = (still, refl, (key, d, d2, here, of, S, (goes_still (descending key d2) new.table is at, same_rows)))
-    inserts key d d2 row here of (outs.Restarted block by) S (is, at) = (still, refl, (key, d, d2, here, of, S, (goes_still (descending key d2) new.table is at, same_rows)))
+    inserts : (key : Option Key) (d d2 : Descending Recon) (row : RowAt) → stage_in s.stages seat ≡ descending key d → d.row ≡ row → (out : InsertOut) → StepDone m s.table new.table d d2 seat out → InsertsTo (shown k s) new seat key d d2 out → DoesSome k s new seat (steps row out)
+    inserts key d d2 row here of outs.Descended S (is, at) = (still, is_shown s.rows s.targets s.later s.vacuums (ap class_in is), (key, d, d2, here, of, S, (goes_still (descending key d2) new.table is at, same_rows)))
+    inserts key d d2 row here of outs.Restructured S (is, at) = (still, is_shown s.rows s.targets s.later s.vacuums (ap class_in is), (key, d, d2, here, of, S, (goes_still (descending key d2) new.table is at, same_rows)))
+    inserts key d d2 row here of (outs.Restarted block by) S (is, at) = (still, is_shown s.rows s.targets s.later s.vacuums (ap class_in is), (key, d, d2, here, of, S, (goes_still (descending key d2) new.table is at, same_rows)))
     inserts key d d2 row here of outs.Put S (is, at) =
         let has : open_of seat past ≡ inserting d.row key = (stage_fits m s kept seat (descending key d) here).0 in
         let claimed_now = ((sane_from_legal past kept.right.legal).inserts seat d.row key has).state in
         let table = restand (same_row d.row) stand.Live s.rows in (
           with_books new table s.targets s.later s.vacuums,
-          refl,
+          is_shown table s.targets s.later s.vacuums (ap class_in is),
           (
             key,
             d,
@@ -219,28 +225,28 @@ module _ {O Key Recon Cond : Type 0} (m : Meaning Key Recon Cond) where
 
     -- ---- scans
 
-    reading_read : (item : ℕ) (out : ReadOut) (stage : Stage O Key Recon Cond) → stage_in s.stages seat ≡ stage → ReadsFor m (shown s) new seat item out stage → DoesSome s new seat (reads item out)
+    reading_read : (item : ℕ) (out : ReadOut) (stage : Stage O Key Recon Cond) → stage_in s.stages seat ≡ stage → ReadsFor m (shown k s) new seat item out stage → DoesSome k s new seat (reads item out)
     reading_read item out free here h = absurd h
     reading_read item out (descending key d) here h = absurd h
-    reading_read item out (reading q) here (q2, table, states, R, is, at) = (still, refl, (q, q2, here, read_out_as m table s.rows (λ row. states row ∙ sym (kept.tells.states row)) s.table q q2 item seat out R, goes_still (reading q2) (untouched s.table) is at, ap (λ (v : Seen O Key Recon Cond). v.table) is, same_rows))
+    reading_read item out (reading q) here (q2, table, states, R, is, at) = (still, is_shown s.rows s.targets s.later s.vacuums (ap class_in is), (q, q2, here, read_out_as m table s.rows (λ row. states row ∙ sym (kept.tells.states row)) s.table q q2 item seat out R, goes_still (reading q2) (untouched s.table) is at, ap (λ (v : Seen O Key Recon Cond). v.table) is, same_rows))
     reading_read item out (sweeping v) here h = absurd h
 
-    reading_copied : (item : ℕ) (out : ScanCopy O Key Recon Cond) (stage : Stage O Key Recon Cond) → stage_in s.stages seat ≡ stage → CopiesFor m (shown s) new seat item out stage → DoesSome s new seat (copies item out)
+    reading_copied : (item : ℕ) (out : ScanCopy O Key Recon Cond) (stage : Stage O Key Recon Cond) → stage_in s.stages seat ≡ stage → CopiesFor m (shown k s) new seat item out stage → DoesSome k s new seat (copies item out)
     reading_copied item out free here h = absurd h
     reading_copied item out (descending key d) here h = absurd h
-    reading_copied item out (reading q) here (q2, table, states, C, is, at) = (still, refl, (q, q2, here, copy_out_as m table s.rows (λ row. states row ∙ sym (kept.tells.states row)) s.table q q2 item seat out C, goes_still (reading q2) (untouched s.table) is at, ap (λ (v : Seen O Key Recon Cond). v.table) is, same_rows))
+    reading_copied item out (reading q) here (q2, table, states, C, is, at) = (still, is_shown s.rows s.targets s.later s.vacuums (ap class_in is), (q, q2, here, copy_out_as m table s.rows (λ row. states row ∙ sym (kept.tells.states row)) s.table q q2 item seat out C, goes_still (reading q2) (untouched s.table) is at, ap (λ (v : Seen O Key Recon Cond). v.table) is, same_rows))
     reading_copied item out (sweeping v) here h = absurd h
 
-    reading_sifted : (item : ℕ) (copied : Copied O Key Recon Cond) (stage : Stage O Key Recon Cond) → stage_in s.stages seat ≡ stage → SiftsFor m (shown s) new seat item copied stage → DoesSome s new seat (sifts item copied)
+    reading_sifted : (item : ℕ) (copied : Copied O Key Recon Cond) (stage : Stage O Key Recon Cond) → stage_in s.stages seat ≡ stage → SiftsFor m (shown k s) new seat item copied stage → DoesSome k s new seat (sifts item copied)
     reading_sifted item copied free here h = absurd h
     reading_sifted item copied (descending key d) here h = absurd h
-    reading_sifted item copied (reading q) here (q2, T, is, at) = (still, refl, (q, q2, here, T, goes_still (reading q2) (untouched s.table) is at, ap (λ (v : Seen O Key Recon Cond). v.table) is, same_rows))
+    reading_sifted item copied (reading q) here (q2, T, is, at) = (still, is_shown s.rows s.targets s.later s.vacuums (ap class_in is), (q, q2, here, T, goes_still (reading q2) (untouched s.table) is at, ap (λ (v : Seen O Key Recon Cond). v.table) is, same_rows))
     reading_sifted item copied (sweeping v) here h = absurd h
 
     -- ---- vacuums
 
     -- the targets of the vacuum are those that are kept
-    targets_are : (v : Vacuum) (test : RowAt → Bool) → stage_in s.stages seat ≡ sweeping v → AreTargets test v.at (shown s) → test ≡ s.targets
+    targets_are : (v : Vacuum) (test : RowAt → Bool) → stage_in s.stages seat ≡ sweeping v → AreTargets test v.at (shown k s) → test ≡ s.targets
     targets_are v test here T =
         let (before, has, V) = stage_fits m s kept seat (sweeping v) here in
         one_test test s.targets (λ r. T r ∙ ap (λ n. killed_before n (state_of r past)) V.at ∙ sym (kept.tells.kills.early seat before has r))
@@ -252,13 +258,13 @@ module _ {O Key Recon Cond : Type 0} (m : Meaning Key Recon Cond) where
         let killed : is_killed (state_of r past) ≡ true = sym (kept.tells.kills.killed r) ∙ ap (λ b. b || s.later r) target in
         has_entry s.rows r (state_of r past) (kept.tells.states r) (λ is. false≢true (ap is_killed is ∙ killed))
 
-    sweeps_on : (v v2 : Vacuum) (swept : List RowAt) → ((r : RowAt) → is_among swept r ≡ true → IsSome (rows.entry_in s.rows r)) → new ≡ logged_all (shown s) seat (sweeps seat swept) (sweeping v2) new.table → stage_at new seat ≡ sweeping v2 → length new.journal < 2 ^ 64 →
-        (s2 : Fields O Key Recon Cond) × (shown s2 ≡ new) × WorksTo s s2 seat v v2 swept work.Block
+    sweeps_on : (v v2 : Vacuum) (swept : List RowAt) → ((r : RowAt) → is_among swept r ≡ true → IsSome (rows.entry_in s.rows r)) → new ≡ logged_all (shown k s) seat (sweeps seat swept) (sweeping v2) new.table → stage_at new seat ≡ sweeping v2 → length new.journal < 2 ^ 64 →
+        (s2 : Fields O Key Recon Cond) × (shown k s2 ≡ new) × WorksTo s s2 seat v v2 swept work.Block
     sweeps_on v v2 swept there is at short =
         let table = restand (is_among swept) (stand.Swept v.at) s.rows in
         let targets : RowAt → Bool = λ r. cond (is_among swept r) false (s.targets r) in (
           with_books new table targets s.later s.vacuums,
-          refl,
+          is_shown table targets s.later s.vacuums (ap class_in is),
           (
             goes_on table targets s.later s.vacuums (sweeping v2) (sweeps seat swept) new.table is at,
             record { states = restand_state (is_among swept) (stand.Swept v.at) s.rows there; keys = restand_keys (is_among swept) (stand.Swept v.at) s.rows; targets = λ r. refl; later = λ r. refl; vacuums = refl },
@@ -266,13 +272,13 @@ module _ {O Key Recon Cond : Type 0} (m : Meaning Key Recon Cond) where
           ),
         )
 
-    vacuum_works : (v v2 : Vacuum) (swept : List RowAt) (out : VacuumOut) → DoesWork s.table new.table v v2 s.targets (horizon_of s.stages v.stamp) seat out swept → IsAfterWork (shown s) new seat v2 swept out → IsShortAfter out new → (s2 : Fields O Key Recon Cond) × (shown s2 ≡ new) × WorksTo s s2 seat v v2 swept out
+    vacuum_works : (v v2 : Vacuum) (swept : List RowAt) (out : VacuumOut) → DoesWork s.table new.table v v2 s.targets (horizon_of s.stages v.stamp) seat out swept → IsAfterWork (shown k s) new seat v2 swept out → IsShortAfter out new → (s2 : Fields O Key Recon Cond) × (shown k s2 ≡ new) × WorksTo s s2 seat v v2 swept out
     vacuum_works v v2 swept work.Block D (is, at) short = sweeps_on v v2 swept (swept_present v v2 (horizon_of s.stages v.stamp) work.Block swept D) is at short
     vacuum_works v v2 swept work.Pending D (is, at) short = sweeps_on v v2 swept (swept_present v v2 (horizon_of s.stages v.stamp) work.Pending swept D) is at short
-    vacuum_works v v2 swept (work.Latched block by) D (is, at) short = (still, refl, (goes_still (sweeping v2) new.table is at, same_rows))
+    vacuum_works v v2 swept (work.Latched block by) D (is, at) short = (still, is_shown s.rows s.targets s.later s.vacuums (ap class_in is), (goes_still (sweeping v2) new.table is at, same_rows))
     vacuum_works v v2 swept (work.Finished count) D (is, at) short = (
       with_books new s.rows s.targets s.later (newest_ends (length past) s.vacuums),
-      refl,
+      is_shown s.rows s.targets s.later (newest_ends (length past) s.vacuums) (ap class_in is),
       (goes_on s.rows s.targets s.later (newest_ends (length past) s.vacuums) free (event.CloseVacuum seat count ∷ []) new.table is at, record { rows = refl; targets = λ r. refl; later = λ r. refl; vacuums = refl }),
     )
 
@@ -286,7 +292,7 @@ module _ {O Key Recon Cond : Type 0} (m : Meaning Key Recon Cond) where
 
     -- ---- any call
 
-    one_seen : (call : Call O Key Recon Cond) → IsCall m (shown s) new seat call → DoesSome s new seat call
+    one_seen : (call : Call O Key Recon Cond) → IsCall m (shown k s) new seat call → DoesSome k s new seat call
     one_seen refused is = (s, sym is, (s.spare, omega arith, refl))
     one_seen (opens_insert row key) (none, unclaimed, carries, (is, at)) =
         let entry : RowEntry O Key Recon Cond = record { stand = stand.Claimed; key = key } in
@@ -294,7 +300,7 @@ module _ {O Key Recon Cond : Type 0} (m : Meaning Key Recon Cond) where
         let stage : Stage O Key Recon Cond = descending key (opened_for m row key) in
         let es : List (Event O Key Recon Cond) = event.OpenInsert seat row key ∷ [] in (
           with_books new table s.targets s.later s.vacuums,
-          refl,
+          is_shown table s.targets s.later s.vacuums (ap class_in is),
           (
             none,
             unclaimed,
@@ -314,7 +320,7 @@ module _ {O Key Recon Cond : Type 0} (m : Meaning Key Recon Cond) where
         let later : RowAt → Bool = λ r. cond (same_row row r) true (s.later r) in
         let es : List (Event O Key Recon Cond) = event.Kill seat row ∷ [] in (
           with_books new table s.targets later s.vacuums,
-          refl,
+          is_shown table s.targets later s.vacuums (ap class_in is),
           (
             none,
             live_state (state_of row past) (lives row past) ((sane_from_legal past kept.right.legal).says row) live,
@@ -330,19 +336,19 @@ module _ {O Key Recon Cond : Type 0} (m : Meaning Key Recon Cond) where
     one_seen (opens_scan query) (none, (is, at)) =
         let stage : Stage O Key Recon Cond = reading (opened m query (length s.journal) s.table.clock) in
         let es : List (Event O Key Recon Cond) = event.OpenScan seat query ∷ [] in
-        (still, refl, (none, goes_on s.rows s.targets s.later s.vacuums stage es (untouched s.table) is at, table_then stage es (untouched s.table) is, same_rows))
+        (still, is_shown s.rows s.targets s.later s.vacuums (ap class_in is), (none, goes_on s.rows s.targets s.later s.vacuums stage es (untouched s.table) is at, table_then stage es (untouched s.table) is, same_rows))
     one_seen (reads item out) h = reading_read item out (stage_in s.stages seat) refl h
     one_seen (copies item out) h = reading_copied item out (stage_in s.stages seat) refl h
     one_seen (sifts item copied) h = reading_sifted item copied (stage_in s.stages seat) refl h
     one_seen (closes closed) (q, here, empty, C, (is, at, met)) =
         let es : List (Event O Key Recon Cond) = event.CloseScan seat closed.rows ∷ [] in
-        (still, refl, (q, here, empty, C, goes_on s.rows s.targets s.later s.vacuums free es (untouched s.table) is at, table_then free es (untouched s.table) is, same_rows))
+        (still, is_shown s.rows s.targets s.later s.vacuums (ap class_in is), (q, here, empty, C, goes_on s.rows s.targets s.later s.vacuums free es (untouched s.table) is at, table_then free es (untouched s.table) is, same_rows))
     one_seen (drops row why) (key, d, here, of, may, G) =
         let table = without row s.rows in
         let es : List (Event O Key Recon Cond) = event.Drop seat row why ∷ [] in
-        let is : new ≡ logged (shown s) seat (event.Drop seat row why) free new.table = G.is ∙ ap (λ (x : Stage O Key Recon Cond). logged (shown s) seat (given_up seat x why) free new.table) here ∙ ap (λ r. logged (shown s) seat (event.Drop seat r why) free new.table) of in (
+        let is : new ≡ logged (shown k s) seat (event.Drop seat row why) free new.table = G.is ∙ ap (λ (x : Stage O Key Recon Cond). logged (shown k s) seat (given_up seat x why) free new.table) here ∙ ap (λ r. logged (shown k s) seat (event.Drop seat r why) free new.table) of in (
           with_books new table s.targets s.later s.vacuums,
-          refl,
+          is_shown table s.targets s.later s.vacuums (ap class_in is),
           (
             key,
             d,
@@ -362,9 +368,9 @@ module _ {O Key Recon Cond : Type 0} (m : Meaning Key Recon Cond) where
     one_seen leaves (left, why, G) =
         let es : List (Event O Key Recon Cond) = event.Leave seat ∷ [] in
         let vacuums = ended_by (open_of seat past) (length past) s.vacuums in
-        let is : new ≡ logged (shown s) seat (event.Leave seat) free new.table = G.is ∙ ap (λ e. logged (shown s) seat e free new.table) (left_event (stage_in s.stages seat) why left) in (
+        let is : new ≡ logged (shown k s) seat (event.Leave seat) free new.table = G.is ∙ ap (λ e. logged (shown k s) seat e free new.table) (left_event (stage_in s.stages seat) why left) in (
           with_books new s.rows s.targets s.later vacuums,
-          refl,
+          is_shown s.rows s.targets s.later vacuums (ap class_in is),
           (left, goes_on s.rows s.targets s.later vacuums free es new.table is G.stage, (record s.table { latches = new.table.latches }, refl, G.table), none_held s.table new.table seat G.latches G.others, record { row = refl; targets = (λ r. refl, λ r. refl); vacuums = refl }),
         )
     one_seen opens_vacuum (none, alone, (is, at)) =
@@ -374,7 +380,7 @@ module _ {O Key Recon Cond : Type 0} (m : Meaning Key Recon Cond) where
         let none_later : RowAt → Bool = λ r. false in
         let vacuums : List (ℕ × Option ℕ) = (length past, None) ∷ s.vacuums in (
           with_books new s.rows targets none_later vacuums,
-          refl,
+          is_shown s.rows targets none_later vacuums (ap class_in is),
           (none, alone, goes_on s.rows targets none_later vacuums stage es (untouched s.table) is at, table_then stage es (untouched s.table) is, record { row = refl; targets = (λ r. refl, λ r. refl); vacuums = refl }),
         )
     one_seen (works out swept) (v, v2, test, here, T, D, K, after, short) =
@@ -398,13 +404,15 @@ module _ {O Key Recon Cond : Type 0} (m : Meaning Key Recon Cond) where
   -- ---- any list of calls
 
   pub calls_keep : KeptLaw m → CodeLaw m → AddLaw m → SplitLaw m → CallsKeep O Key Recon Cond m
-  calls_keep K L adds splits old new [] whole is = (subst (IsWhole m) (sym is) whole, λ seat. ap (λ (v : Seen O Key Recon Cond). own seat v.journal) is ∙ sym (append-nil (own seat old.journal)))
+  calls_keep K L adds splits old new [] whole is = (subst (IsWhole m) (sym is) whole, ap class_in is, λ seat. ap (λ (v : Seen O Key Recon Cond). own seat v.journal) is ∙ sym (append-nil (own seat old.journal)))
   calls_keep K L adds splits old new ((by, call) ∷ more) (s, shows, kept, B) (next, does, rest) =
-      let (s2, now, D) = one_seen s kept next by call (subst (λ (v : Seen O Key Recon Cond). IsCall m v next by call) (sym shows) does) in
-      let whole : IsWhole m next = (s2, now, one_keeps m K L s s2 kept by call D, one_bounded m adds splits s s2 kept B by call D) in
-      let (end, owns) = calls_keep K L adds splits next new more whole rest in
+      let (s2, now, D) = one_seen old.class s kept next by call (subst (λ (v : Seen O Key Recon Cond). IsCall m v next by call) (sym shows) does) in
+      let same : next.class ≡ old.class = ap class_in (sym now) in
+      let whole : IsWhole m next = (s2, ap (λ c. shown c s2) same ∙ now, one_keeps m K L s s2 kept by call D, one_bounded m adds splits s s2 kept B by call D) in
+      let (end, class, owns) = calls_keep K L adds splits next new more whole rest in
       let journal : next.journal ≡ old.journal ++ events_of by call = ap (λ (v : Seen O Key Recon Cond). v.journal) (sym now) ∙ longer m s s2 by call D ∙ ap (λ (v : Seen O Key Recon Cond). v.journal ++ events_of by call) shows in (
         end,
+        class ∙ same,
         λ seat.
             owns seat
             ∙ ap (λ l. own seat l ++ events_by seat more) journal

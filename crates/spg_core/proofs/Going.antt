@@ -59,7 +59,7 @@ on_its_way Put no_put on = absurd (no_put refl)
 
 module _ {O Key Recon Cond : Type 0} where
   pub still_there : (s : Seen O Key Recon Cond) (seat : ℕ) → StillInserts s s seat
-  still_there s seat = record { journal = refl; origin = refl; insert = λ row key is. is }
+  still_there s seat = record { journal = refl; origin = refl; class = refl; insert = λ row key is. is }
 
   same_insert : (row : RowAt) (key : Option Key) (k : Option Key) (d d2 : Descending Recon) (stage : Stage O Key Recon Cond) → d2.row ≡ d.row → stage ≡ descending k d2 → (k ≡ key) × (d.row ≡ row) → IsInsertOf row key stage
   same_insert row key k d d2 stage same is (a, b) = subst (λ (s : Stage O Key Recon Cond). IsInsertOf row key s) (sym is) (a, same ∙ b)
@@ -68,6 +68,7 @@ module _ {O Key Recon Cond : Type 0} where
   moves s1 s2 seat k d d2 at same is stage = record {
     journal = ap (λ s. s.journal) is;
     origin = ap (λ s. s.origin) is;
+    class = ap (λ s. s.class) is;
     insert = λ row key was. same_insert row key k d d2 (stage_at s2 seat) same stage (subst (λ (s : Stage O Key Recon Cond). IsInsertOf row key s) at was);
   }
 
@@ -87,7 +88,7 @@ module _ {O Key Recon Cond : Type 0} where
   pub goes_further : (s0 s1 s2 : Seen O Key Recon Cond) (seat : ℕ) (out : InsertOut) → StillInserts s0 s1 seat → IsInsertOut s1 s2 seat out → (out ≡ Put → ⊥) → StillInserts s0 s2 seat
   goes_further s0 s1 s2 seat out G is no_put =
       let H : StillInserts s1 s2 seat = section_of s1 s2 seat out (stage_at s1 seat) refl is no_put in
-      record { journal = H.journal ∙ G.journal; origin = H.origin ∙ G.origin; insert = λ row key was. H.insert row key (G.insert row key was) }
+      record { journal = H.journal ∙ G.journal; origin = H.origin ∙ G.origin; class = H.class ∙ G.class; insert = λ row key was. H.insert row key (G.insert row key was) }
 
   still_inserting : (k : Option Key) (d2 : Descending Recon) (stage : Stage O Key Recon Cond) → stage ≡ descending k d2 → IsInserting stage
   still_inserting k d2 stage is = subst (λ (s : Stage O Key Recon Cond). IsInserting s) (sym is) tt
@@ -110,6 +111,7 @@ module _ {O Key Recon Cond : Type 0} where
   put_row s1 s2 seat k d at (is, stage) = record {
     journal = λ row key was. ap (λ s. s.journal) is ∙ ap (λ (x : RowAt). s1.journal ++ event.Put seat x ∷ []) (subst (λ (s : Stage O Key Recon Cond). IsInsertOf row key s) at was).1;
     origin = ap (λ s. s.origin) is;
+    class = ap (λ s. s.class) is;
     stage = stage;
   }
 
@@ -125,6 +127,7 @@ module _ {O Key Recon Cond : Type 0} where
       record {
         journal = λ row key was. P.journal row key (G.insert row key was) ∙ ap (λ (j : List (Event O Key Recon Cond)). j ++ event.Put seat row ∷ []) G.journal;
         origin = P.origin ∙ G.origin;
+        class = P.class ∙ G.class;
         stage = P.stage;
       }
 

@@ -1,5 +1,6 @@
 pub mod Stands
 pub mod Chooses
+pub mod Resting
 pub mod Looks
 pub mod Moves
 pub mod Weights
@@ -38,4 +39,5 @@ pub mod Bounding
 pub mod Books
 pub mod Calls
 pub mod Calling
+pub mod Classed
 pub mod Loads

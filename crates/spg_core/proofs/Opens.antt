@@ -15,7 +15,7 @@ use Rattle.spg_rows.specs.declared.event.Why.TheVariants as cause
 use Rattle.spg_rows.specs.declared.table.RowState.TheVariants as row_state
 use Rattle.spg_rows.specs.History.{Written}
 use Rattle.spg_rows.specs.Lives.{Life, lives}
-use Rattle.spg_rows.specs.Rows.{live_in, is_claimed, state_of}
+use Rattle.spg_rows.specs.Rows.{live_in, is_claimed, is_live, state_of}
 use Rattle.spg_rows.specs.States.{StateSays}
 use Rattle.spg_rows.specs.declared.table.RowState.{RowState}
 use Rattle.spg_rows.specs.Table.{Table, state_in, SetsState, SetsKey, SameKeys}
@@ -36,7 +36,7 @@ use Rattle.spg_core.specs.declared.slot.Slot.TheVariants.{Free, Insert, Scan, Va
 use Rattle.spg_core.specs.declared.kept.Kept.TheInside.{Inside}
 use Rattle.spg_core.specs.Slot.{stage_of, GivesBack, ended_with}
 use Rattle.spg_core.specs.Stage.{Stage, MayGiveUp, given_up}
-use Rattle.spg_core.specs.Seen.{Seen, stage_at, logged, untouched}
+use Rattle.spg_core.specs.Seen.{Seen, stage_at, past_of, logged, untouched}
 use Rattle.spg_core.specs.Operations.{CanRelease}
 use Rattle.spg_core.specs.Sections.{HasNone, OthersHold, IsReleased, KillsRow}
 use Rattle.spg_core.specs.Telling.{IsButLatches}
@@ -143,6 +143,9 @@ module _ {O Key Recon Cond : Type 0} (m : Meaning Key Recon Cond) (s : Inside O 
       (record { row = (states, keys); targets = (λ r. refl, λ r. refl); vacuums = refl })
 
   -- ---- a row is killed
+
+  pub live_there : (seen : Seen O Key Recon Cond) → seen_of s ≡ seen → (row : RowAt) → state_in s.rows row ≡ row_state.Live → is_live row (past_of seen) ≡ true
+  live_there seen view row live = ap (is_live row) (past_is s seen view 0) ∙ live_state (state_of row (past m s I)) (lives row (past m s I)) ((sane m s I).says row) (sym (I.tells.states row) ∙ live)
 
   pub kills : (row : RowAt) (rows : Table O Key Recon Cond) (journal : Written O Key Recon Cond) → stage_of (get_or s.slots.items seat Free) ≡ free → state_in s.rows row ≡ row_state.Live → journal.events ≡ s.journal.events ++ Kill seat row ∷ [] → SetsState s.rows rows row (row_state.Killed (length s.journal.events)) → SameKeys s.rows rows
       → (later : RowSet) → Updates row_cmp s.later.rows later.rows row true → 64 ≤ journal.spare → IsState m (with_all m s (untouched s.table) rows s.slots journal s.vacuums s.targets later)

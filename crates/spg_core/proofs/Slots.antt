@@ -1,5 +1,5 @@
 -- The slots of the seats: what each says, how many are open, and the stages that contracts see.
-use Rattle.std.proofs.Common.{◌≡◌, ◌≢◌, ◌<◌, ◌≤◌, ◌+◌, ℕ, zero, suc, true, false, cond, List, [], ◌∷◌, ◌++◌, Bool, Option, Result, Ok, Err, length, get_or, set, replicate, reverse, refl, sym, ap, ◌∙◌, arith, get_or-set_same, map}
+use Rattle.std.proofs.Common.{◌≡◌, ◌≢◌, ◌<◌, ◌≤◌, ◌+◌, ℕ, zero, suc, true, false, cond, List, [], ◌∷◌, ◌++◌, Bool, Option, None, Result, Ok, Err, length, get_or, set, replicate, reverse, refl, sym, ap, ◌∙◌, arith, get_or-set_same, map}
 use Rattle.std.proofs.lemmas.Bool.{false≢true}
 use Rattle.std.proofs.lemmas.List.{map-set}
 use Rattle.std.specs.Result.{OnErr}
@@ -102,7 +102,7 @@ module _ {O Key Recon Cond : Type 0} where
   -- ---- the state as contracts see it
 
   abbrev pub seen_as : List (Event O Key Recon Cond) → List (Stage O Key Recon Cond) → Table → Origin → Seen O Key Recon Cond
-  seen_as j s t o = record { journal = j; stages = s; table = t; origin = o }
+  seen_as j s t o = record { journal = j; stages = s; table = t; origin = o; class = None }
 
   module _ (s : Inside O Key Recon Cond) (seen : Seen O Key Recon Cond) (view : seen_of s ≡ seen) (seat : ℕ) where
     pub stage_is : stage_at seen seat ≡ stage_of (get_or s.slots.items seat Free)

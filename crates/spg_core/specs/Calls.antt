@@ -21,7 +21,7 @@ use Rattle.spg_core.specs.declared.answer.VacuumOut.{VacuumOut}
 use Rattle.spg_core.specs.declared.answer.VacuumOut.TheVariants as work
 use Rattle.spg_core.specs.declared.look.Look.{Look}
 use Rattle.spg_core.specs.declared.look.Look.TheVariants as look
-use Rattle.spg_core.specs.Seen.{Seen, stage_at, moved, logged, past_of}
+use Rattle.spg_core.specs.Seen.{Seen, stage_at, moved, logged, past_of, KeepsClass}
 use Rattle.spg_core.specs.Sweeping.{DoesWork, KeepsWork}
 use Rattle.spg_core.specs.Telling.{StepDone}
 use Rattle.spg_core.specs.Sections.{OpensInsert, KillsRow, OpensScan, ReadsItem, ClosesScan, OpensVacuum, AreTargets, IsAfterWork, GivesUp}
@@ -97,20 +97,20 @@ given (sweeping v) why = leaves
 
 -- ---- any list of calls
 
--- what is seen of the fields
-abbrev pub shown : {O Key Recon Cond : Type 0} → Fields O Key Recon Cond → Seen O Key Recon Cond
-shown s = record { journal = s.journal; stages = s.stages; table = s.table; origin = s.origin }
+-- what is seen of the fields, beside the class
+abbrev pub shown : {O Key Recon Cond : Type 0} → Option O → Fields O Key Recon Cond → Seen O Key Recon Cond
+shown class s = record { journal = s.journal; stages = s.stages; table = s.table; origin = s.origin; class = class }
 
 -- all is kept that a state keeps: there are a table of rows, sets of killed rows, a list of vacuums and room that go with what is seen
 abbrev pub IsWhole : {O Key Recon Cond : Type 0} → Meaning Key Recon Cond → Seen O Key Recon Cond → Type 0
-IsWhole {O} {Key} {Recon} {Cond} m seen = (s : Fields O Key Recon Cond) × (shown s ≡ seen) × IsKept m s × IsBounded m s
+IsWhole {O} {Key} {Recon} {Cond} m seen = (s : Fields O Key Recon Cond) × (shown seen.class s ≡ seen) × IsKept m s × IsBounded m s
 
 -- one call after another, each of a seat
 abbrev pub AreCalls : {O Key Recon Cond : Type 0} → Meaning Key Recon Cond → Seen O Key Recon Cond → List (ℕ × Call O Key Recon Cond) → Seen O Key Recon Cond → Type 0
 AreCalls m old [] new = new ≡ old
 AreCalls {O} {Key} {Recon} {Cond} m old ((seat, call) ∷ calls) new = (next : Seen O Key Recon Cond) × IsCall m old next seat call × AreCalls m next calls new
 
--- then all is kept, and the events of each seat are those of its calls
+-- then all is kept, the class too, and the events of each seat are those of its calls
 abbrev pub CallsKeep : (O Key Recon Cond : Type 0) → Meaning Key Recon Cond → Type 0
 CallsKeep O Key Recon Cond m = (old new : Seen O Key Recon Cond) (calls : List (ℕ × Call O Key Recon Cond)) → IsWhole m old → AreCalls m old calls new →
-    IsWhole m new × ((seat : ℕ) → own seat new.journal ≡ own seat old.journal ++ events_by seat calls)
+    IsWhole m new × KeepsClass old new × ((seat : ℕ) → own seat new.journal ≡ own seat old.journal ++ events_by seat calls)

@@ -1,5 +1,5 @@
 -- What the fields of a state keep.
-use Rattle.std.specs.Prelude.{map}
+use Rattle.std.specs.Prelude.{map, None}
 use Rattle.std.specs.BTreeSet.{contains}
 use Rattle.spg_base.specs.Row.{row_cmp}
 use Rattle.spg_opclass.specs.Meaning.{Meaning}
@@ -13,7 +13,7 @@ abbrev pub fields_of : {O Key Recon Cond : Type 0} → Inside O Key Recon Cond �
 fields_of s = record { journal = s.journal.events; spare = s.journal.spare; stages = map stage_of s.slots.items; table = s.table; rows = s.rows; targets = contains row_cmp s.targets.rows; later = contains row_cmp s.later.rows; vacuums = s.vacuums; origin = s.origin }
 
 abbrev pub seen_of : {O Key Recon Cond : Type 0} → Inside O Key Recon Cond → Seen O Key Recon Cond
-seen_of s = record { journal = s.journal.events; stages = map stage_of s.slots.items; table = s.table; origin = s.origin }
+seen_of s = record { journal = s.journal.events; stages = map stage_of s.slots.items; table = s.table; origin = s.origin; class = None }
 
 abbrev pub IsState : {O Key Recon Cond : Type 0} → Meaning Key Recon Cond → Inside O Key Recon Cond → Type 0
 IsState m s = IsKept m (fields_of s)

@@ -11,7 +11,7 @@ use Rattle.spg_core.specs.declared.answer.InsertOut.TheVariants as outs
 use Rattle.spg_core.specs.declared.answer.InsertRan.{InsertRan}
 use Rattle.spg_core.specs.declared.answer.InsertRan.TheVariants.{Put, Restarted}
 use Rattle.spg_core.specs.Stage.{Stage, free, descending, reading, sweeping}
-use Rattle.spg_core.specs.Seen.{Seen, stage_at, past_of}
+use Rattle.spg_core.specs.Seen.{Seen, stage_at, past_of, KeepsClass}
 use Rattle.spg_core.specs.Stepping.{Grows}
 use Rattle.spg_core.specs.Sections.{HasNone, OthersHold}
 use Rattle.spg_core.specs.Looking.{StepsInsert}
@@ -23,16 +23,18 @@ IsInsertOf row key (descending k d) = (k ≡ key) × (d.row ≡ row)
 IsInsertOf row key (reading s) = ⊥
 IsInsertOf row key (sweeping v) = ⊥
 
--- no event was written since, and an insert of a row and a key that the seat had open is open still
+-- no event was written since, the class is as before, and an insert of a row and a key that the seat had open is open still
 pub record StillInserts {O Key Recon Cond : Type 0} (old new : Seen O Key Recon Cond) (seat : ℕ) : Type 0 where
   pub journal : new.journal ≡ old.journal
   pub origin : new.origin ≡ old.origin
+  pub class : KeepsClass old new
   pub insert : (row : RowAt) (key : Option Key) → IsInsertOf row key (stage_at old seat) → IsInsertOf row key (stage_at new seat)
 
 -- the seat's insert has ended, and its row is put
 pub record PutsRow {O Key Recon Cond : Type 0} (old new : Seen O Key Recon Cond) (seat : ℕ) : Type 0 where
   pub journal : (row : RowAt) (key : Option Key) → IsInsertOf row key (stage_at old seat) → new.journal ≡ old.journal ++ event.Put seat row ∷ []
   pub origin : new.origin ≡ old.origin
+  pub class : KeepsClass old new
   pub stage : stage_at new seat ≡ free
 
 -- what came of the sections: the row is put, or the insert was sent back, since another seat has latched the block; the seat has nothing latched then

@@ -5,14 +5,17 @@ ghost use Rattle.spg_core.specs.declared.answer.VacuumRefused.TheVariants as vac
 use spg_base::{Block, Memory, SeatNo};
 
 /// Why an insert was not opened.
-#[derive(Clone, Copy, Debug, PartialEq, Eq)]
+#[derive(Clone, Copy, Debug, PartialEq, Eq, thiserror::Error)]
 pub enum OpenRefused {
     /// The row is claimed, and waits for nobody.
+    #[error("the row is in use")]
     RowUsed,
     /// The entry of the row was swept, and this seat is waited for: that of the vacuum until it ends,
     /// and then the lowest one whose scan was open at that end and still is.
+    #[error("seat {by} holds the row")]
     RowHeld { by: SeatNo },
     /// Want of memory.
+    #[error("out of memory")]
     Memory,
 }
 
@@ -25,11 +28,13 @@ impl From<Memory> for OpenRefused {
 }
 
 /// Why a vacuum was not opened.
-#[derive(Clone, Copy, Debug, PartialEq, Eq)]
+#[derive(Clone, Copy, Debug, PartialEq, Eq, thiserror::Error)]
 pub enum VacuumRefused {
     /// This seat has a vacuum open.
+    #[error("seat {by} has a vacuum open")]
     Open { by: SeatNo },
     /// Want of memory.
+    #[error("out of memory")]
     Memory,
 }
 

@@ -112,7 +112,7 @@ impl<O: OpClass> Bare<O> {
     }
 
     /// The section of an insert at an inner tuple, by what the class chose for a copy of it. `Changed`
-    /// comes first, and only where a look would not give this copy. Else all is as `State::insert_step`
+    /// comes first, exactly where a look would not give this copy. Else all is as `State::insert_step`
     /// tells.
     pub fn insert_choose(
         &mut self,
@@ -122,7 +122,7 @@ impl<O: OpClass> Bare<O> {
         requires inserting { IsInserting (stage_at self.old seat) }
         ensures ok { IfOk result (λ out. IsSpotted self.old seat chosen.now × StepsInsert O.meaning self.old self.new seat out) }
         ensures call { IfOk result (λ out. Inserts O.meaning self.old self.new seat out) }
-        ensures changed { IsErrOf result ApplyRefused.Changed → IsSpotted self.old seat chosen.now → ⊥ }
+        ensures changed { IsErrOf result ApplyRefused.Changed ↔ (IsSpotted self.old seat chosen.now → ⊥) }
         ensures others { OthersHold self.old.table self.new.table seat }
         ensures within { ChangesHeld self.old.table self.new.table seat }
         ensures grows { Grows self.old.table self.new.table }
@@ -138,7 +138,7 @@ impl<O: OpClass> Bare<O> {
     }
 
     /// The section of an insert that divides leaves, by how the class divided a copy of their values.
-    /// `Changed` comes first, and only where a look would not give this copy. Else all is as
+    /// `Changed` comes first, exactly where a look would not give this copy. Else all is as
     /// `State::insert_step` tells.
     pub fn insert_part(
         &mut self,
@@ -148,7 +148,7 @@ impl<O: OpClass> Bare<O> {
         requires inserting { IsInserting (stage_at self.old seat) }
         ensures ok { IfOk result (λ out. IsBunch self.old seat parted.now × StepsInsert O.meaning self.old self.new seat out) }
         ensures call { IfOk result (λ out. Inserts O.meaning self.old self.new seat out) }
-        ensures changed { IsErrOf result ApplyRefused.Changed → IsBunch self.old seat parted.now → ⊥ }
+        ensures changed { IsErrOf result ApplyRefused.Changed ↔ (IsBunch self.old seat parted.now → ⊥) }
         ensures others { OthersHold self.old.table self.new.table seat }
         ensures within { ChangesHeld self.old.table self.new.table seat }
         ensures grows { Grows self.old.table self.new.table }

@@ -1,7 +1,8 @@
-ghost use Rattle.std.specs.Prelude.{◌≡◌, ◌<◌, ◌↔◌, ℕ, IfOk, OnOk, OnErr, IsErrOf};
+ghost use Rattle.std.specs.Prelude.{true, ◌≡◌, ◌<◌, ◌↔◌, ℕ, IfOk, OnOk, OnErr, IsErrOf};
+ghost use Rattle.spg_rows.specs.Rows.{is_live};
 ghost use Rattle.spg_seats.specs.Descending.{ChangesHeld};
 ghost use Rattle.spg_core.specs.Stage.{free, IsSweeping};
-ghost use Rattle.spg_core.specs.Seen.{stage_at};
+ghost use Rattle.spg_core.specs.Seen.{stage_at, past_of};
 ghost use Rattle.spg_core.specs.Stepping.{Grows};
 ghost use Rattle.spg_core.specs.Sections.{OthersHold, KillsRow, OpensVacuum, StepsVacuum};
 ghost use Rattle.spg_core.specs.Runs.{opens_vacuum};
@@ -13,11 +14,13 @@ use spg_base::{Memory, Row, SeatNo};
 use spg_opclass::OpClass;
 
 impl<O: OpClass> Bare<O> {
-    /// Deletes the row. True exactly where it is live; else nothing changes.
+    /// Deletes the row. True exactly where it is live; else nothing changes. For a row that is not live
+    /// no memory is wanted.
     pub fn kill(&mut self, seat: SeatNo, row: Row) -> Result<bool, Memory>
         requires free { stage_at self.old seat ≡ free }
         ensures ok { IfOk result (λ killed. KillsRow self.old self.new seat row killed) }
         ensures call { IfOk result (λ killed. IsCall O.meaning self.old self.new seat (kill_of row killed)) }
+        ensures live { OnErr result (is_live row (past_of self.old) ≡ true) }
         ensures err { OnErr result (self.new ≡ self.old) }
     {
         self.kept.kill(seat, row)

@@ -4,6 +4,7 @@ ghost use Rattle.spg_descend.specs.Follows.{IsAtInner};
 ghost use Rattle.spg_core.specs.Stepping.{MayStep};
 ghost use Rattle.spg_core.specs.Guides.{IsSpottedAt, IsBunchAt, IsFound};
 
+use crate::comparing::{is_cut, is_spot};
 use spg_base::{Memory, Same};
 use spg_descend::{Rule, rule_at, tuple_place};
 use spg_opclass::{Bunch, Chosen, OpClass, Parted, Spotted};
@@ -62,34 +63,40 @@ pub(crate) fn look_at<O: OpClass>(
     }
 }
 
-/// Whether a look at the insert would give the copy for which the class chose.
+/// Whether a look at the insert would give the copy for which the class chose. It compares the tuple
+/// where it stands, and takes no memory.
 pub(crate) fn is_spotted<O: OpClass>(
-    alloc: Global,
     table: &PageTable,
     descent: &Descent<O>,
     chosen: &Chosen<O>,
-) -> Result<bool, Memory>
+) -> bool
     requires can { MayStep O.meaning table.now descent.now }
-    ensures { IfOk result (λ is. IsTrue is ↔ IsSpottedAt table.now descent.now chosen.now) }
+    ensures { IsTrue result ↔ IsSpottedAt table.now descent.now chosen.now }
 {
-    match look_at(alloc, table, descent)? {
-        Found::Choose(spotted) => Ok(spotted.same(chosen.spotted())),
-        Found::Unasked | Found::Part(_) => Ok(false),
+    match rule_at(table, descent) {
+        Rule::Choose => match descent.recon() {
+            None => false,
+            Some(recon) => is_spot(table, descent, recon, chosen.spotted()),
+        },
+        Rule::Start | Rule::Put | Rule::Move | Rule::Divide => false,
     }
 }
 
-/// Whether a look at the insert would give the copy that the class divided.
+/// Whether a look at the insert would give the copy that the class divided. It compares the values
+/// where they stand, and takes no memory.
 pub(crate) fn is_bunch<O: OpClass>(
-    alloc: Global,
     table: &PageTable,
     descent: &Descent<O>,
     parted: &Parted<O>,
-) -> Result<bool, Memory>
+) -> bool
     requires can { MayStep O.meaning table.now descent.now }
-    ensures { IfOk result (λ is. IsTrue is ↔ IsBunchAt table.now descent.now parted.now) }
+    ensures { IsTrue result ↔ IsBunchAt table.now descent.now parted.now }
 {
-    match look_at(alloc, table, descent)? {
-        Found::Part(bunch) => Ok(bunch.same(parted.bunch())),
-        Found::Unasked | Found::Choose(_) => Ok(false),
+    match rule_at(table, descent) {
+        Rule::Divide => match descent.recon() {
+            None => false,
+            Some(recon) => is_cut(table, descent, recon, parted.bunch()),
+        },
+        Rule::Start | Rule::Put | Rule::Move | Rule::Choose => false,
     }
 }

@@ -196,7 +196,7 @@ impl<O: OpClass> Kept<O> {
         requires inserting { IsInserting (stage_at self.old seat) }
         ensures ok { IfOk result (λ out. IsSpotted self.old seat chosen.now × StepsInsert O.meaning self.old self.new seat out) }
         ensures call { IfOk result (λ out. Inserts O.meaning self.old self.new seat out) }
-        ensures changed { IsErrOf result ApplyRefused.Changed → IsSpotted self.old seat chosen.now → ⊥ }
+        ensures changed { IsErrOf result ApplyRefused.Changed ↔ (IsSpotted self.old seat chosen.now → ⊥) }
         ensures others { OthersHold self.old.table self.new.table seat }
         ensures within { ChangesHeld self.old.table self.new.table seat }
         ensures grows { Grows self.old.table self.new.table }
@@ -209,7 +209,7 @@ impl<O: OpClass> Kept<O> {
         ensures err { OnErr result (self.new ≡ self.old) }
     {
         let descent = descent_at(&self.slots, seat);
-        if !is_spotted(self.alloc, &self.table, descent, chosen)? {
+        if !is_spotted(&self.table, descent, chosen) {
             return Err(ApplyRefused::Changed);
         }
         self.apply(seat, Guide::Chosen(chosen))
@@ -223,7 +223,7 @@ impl<O: OpClass> Kept<O> {
         requires inserting { IsInserting (stage_at self.old seat) }
         ensures ok { IfOk result (λ out. IsBunch self.old seat parted.now × StepsInsert O.meaning self.old self.new seat out) }
         ensures call { IfOk result (λ out. Inserts O.meaning self.old self.new seat out) }
-        ensures changed { IsErrOf result ApplyRefused.Changed → IsBunch self.old seat parted.now → ⊥ }
+        ensures changed { IsErrOf result ApplyRefused.Changed ↔ (IsBunch self.old seat parted.now → ⊥) }
         ensures others { OthersHold self.old.table self.new.table seat }
         ensures within { ChangesHeld self.old.table self.new.table seat }
         ensures grows { Grows self.old.table self.new.table }
@@ -236,7 +236,7 @@ impl<O: OpClass> Kept<O> {
         ensures err { OnErr result (self.new ≡ self.old) }
     {
         let descent = descent_at(&self.slots, seat);
-        if !is_bunch(self.alloc, &self.table, descent, parted)? {
+        if !is_bunch(&self.table, descent, parted) {
             return Err(ApplyRefused::Changed);
         }
         self.apply(seat, Guide::Parted(Some(parted)))

@@ -1,8 +1,9 @@
-ghost use Rattle.std.specs.Prelude.{false, ◌≡◌, ◌<◌, ◌+◌, ◌↔◌, ℕ, Some, IfOk, OnOk, OnErr, IsErrOf, IsTrue};
+ghost use Rattle.std.specs.Prelude.{true, false, ◌≡◌, ◌<◌, ◌+◌, ◌↔◌, ℕ, Some, IfOk, OnOk, OnErr, IsErrOf, IsTrue};
 ghost use Rattle.spg_rows.specs.declared.table.RowState.TheVariants as row_state;
+ghost use Rattle.spg_rows.specs.Rows.{is_live};
 ghost use Rattle.spg_seats.specs.Descending.{ChangesHeld};
 ghost use Rattle.spg_core.specs.Stage.{free, IsSweeping};
-ghost use Rattle.spg_core.specs.Seen.{stage_at};
+ghost use Rattle.spg_core.specs.Seen.{stage_at, past_of};
 ghost use Rattle.spg_core.specs.Stepping.{Grows};
 ghost use Rattle.spg_core.specs.Sections.{OthersHold, KillsRow, OpensVacuum, StepsVacuum};
 ghost use Rattle.spg_core.specs.Runs.{opens_vacuum};
@@ -27,6 +28,7 @@ impl<O: OpClass> Kept<O> {
         requires free { stage_at self.old seat ≡ free }
         ensures ok { IfOk result (λ killed. KillsRow self.old self.new seat row killed) }
         ensures call { IfOk result (λ killed. IsCall O.meaning self.old self.new seat (kill_of row killed)) }
+        ensures live { OnErr result (is_live row (past_of self.old) ≡ true) }
         ensures err { OnErr result (self.new ≡ self.old) }
     {
         if !is_live(self.rows.state(row)) {

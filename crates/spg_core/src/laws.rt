@@ -13,7 +13,7 @@ pub fn call_laws<O: OpClass>()
 {}
 
 /// So do any calls that a clause `call` of a state or an index tells, one after another, from a state
-/// on of which `journal` tells that it is whole.
+/// on of which `journal` tells that it is whole. They keep its class.
 pub fn seen_laws<O: OpClass>()
     ensures { CallsKeep O O.Key O.Recon O.Cond O.meaning }
 {}

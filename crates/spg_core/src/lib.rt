@@ -7,6 +7,7 @@ mod bare_inserts;
 mod bare_scans;
 mod bare_vacuums;
 mod choose;
+mod comparing;
 mod found;
 mod guide;
 mod inner;

@@ -17,15 +17,19 @@ pub enum Look<O: OpClass> {
 }
 
 /// Why a section was not done by what the class answered.
-#[derive(Clone, Copy, Debug, PartialEq, Eq)]
+#[derive(Clone, Copy, Debug, PartialEq, Eq, thiserror::Error)]
 pub enum ApplyRefused {
     /// A look would not give the copy that the class was asked with.
+    #[error("the page has changed since it was looked at")]
     Changed,
     /// No page is to be had.
+    #[error("the index is full")]
     IndexFull,
     /// The clock stands at its end.
+    #[error("the clock is at its end")]
     ClockFull,
     /// Want of memory.
+    #[error("out of memory")]
     Memory,
 }
 

@@ -1,9 +1,9 @@
-ghost use Rattle.std.specs.Prelude.{false, ◌≡◌, ◌≢◌, ◌<◌, ◌≤◌, ◌+◌, ◌^◌, ◌↔◌, ◌⊎◌, [], ℕ, suc, length, Option, Some, None, MatchResult, IfOk, OnOk, OnErr, IsErrOf, IsTrue};
+ghost use Rattle.std.specs.Prelude.{true, false, ◌≡◌, ◌≢◌, ◌<◌, ◌≤◌, ◌+◌, ◌^◌, ◌↔◌, ◌⊎◌, [], ℕ, suc, length, Option, Some, None, MatchResult, IfOk, OnOk, OnErr, IsErrOf, IsTrue};
 ghost use Rattle.spg_base.specs.declared.recorded.Origin.{Origin};
 ghost use Rattle.spg_forest.specs.Shape.{Represents};
 ghost use Rattle.spg_base.specs.Row.{RowAt};
 ghost use Rattle.spg_rows.specs.Table.{state_in, key_in};
-ghost use Rattle.spg_rows.specs.Rows.{state_of, held_by};
+ghost use Rattle.spg_rows.specs.Rows.{state_of, is_live, held_by};
 ghost use Rattle.spg_rows.specs.Told.{IsUsed};
 ghost use Rattle.spg_rows.specs.Right.{Right};
 ghost use Rattle.spg_rows.specs.declared.table.RowState.TheVariants as row_state;
@@ -19,7 +19,7 @@ ghost use Rattle.spg_bounds.specs.Bounds.{AreBounded, DropsAreLate};
 ghost use Rattle.spg_seats.specs.Drops.{HaveCauses};
 ghost use Rattle.spg_core.specs.Stage.{free, IsInserting, IsSweeping, IsRead, IsStageOf, MayGiveUp, held_count, kind_of};
 ghost use Rattle.spg_core.specs.Since.{opened_at};
-ghost use Rattle.spg_core.specs.Seen.{stage_at, past_of, IsPresentWith};
+ghost use Rattle.spg_core.specs.Seen.{stage_at, past_of, HasClass, with_class, IsPresentWith};
 ghost use Rattle.spg_core.specs.Stepping.{IsNearLimit, Grows, MakesAtMostOne};
 ghost use Rattle.spg_core.specs.Ends.{SeatEnds, SeatThenEnds};
 ghost use Rattle.spg_core.specs.Kept.{RootsAreHeavy};
@@ -42,7 +42,8 @@ use std::alloc::Global;
 use std::marker::Model;
 
 /// An index with the class of its keys: a `Bare` index whose sections ask the class at once. A seat has
-/// at most one operation open. The sections of the seats come in any order.
+/// at most one operation open. The sections of the seats come in any order. The class is a part of the
+/// state that contracts read, and no call changes it.
 #[derive(Drop)]
 pub struct State<O: OpClass> {
     class: O,
@@ -50,11 +51,11 @@ pub struct State<O: OpClass> {
 }
 
 impl<O: OpClass> Model for State<O> {
-    ghost use Rattle.spg_core.specs.Seen.{Seen};
+    ghost use Rattle.spg_core.specs.Seen.{Seen, with_class};
 
     ghost Value = { Seen O O.Key O.Recon O.Cond };
 
-    ghost view = { λ s. s.bare };
+    ghost view = { λ s. with_class s.bare s.class };
 }
 
 impl<O: OpClass> State<O> {
@@ -62,7 +63,8 @@ impl<O: OpClass> State<O> {
     pub fn new(alloc: Global, class: O, limit: u32) -> Result<State<O>, Memory>
         requires from { 4 ≤ limit }
         requires to { limit ≤ 131072 }
-        ensures { IfOk result (λ state. IsNew limit state) }
+        ensures new { IfOk result (λ state. IsNew limit state) }
+        ensures class { IfOk result (λ state. HasClass state class) }
     {
         Ok(State {
             class,
@@ -80,7 +82,8 @@ impl<O: OpClass> State<O> {
     ) -> Result<Result<State<O>, Fault>, Memory>
         requires roots { AreRoots table.pages }
         requires latches { (b : ℕ) → latch_at table b ≡ None }
-        ensures { IfOk result (λ came. MatchResult came (λ state. IsAdopted O.meaning table state) (λ fault. IsFirst (Holds O.meaning (sheets_of table)) (tests (length table.pages)) fault)) }
+        ensures value { IfOk result (λ came. MatchResult came (λ state. IsAdopted O.meaning table state) (λ fault. IsFirst (Holds O.meaning (sheets_of table)) (tests (length table.pages)) fault)) }
+        ensures class { IfOk result (λ came. IfOk came (λ state. HasClass state class)) }
     {
         match survey(alloc, class, &table)? {
             Err(fault) => Ok(Err(fault)),
@@ -93,20 +96,22 @@ impl<O: OpClass> State<O> {
 
     /// The class and the index without it. It takes no memory.
     pub fn part(self) -> (O, Bare<O>)
-        ensures { result.1 ≡ self }
+        ensures { with_class result.1 result.0 ≡ self }
     {
         (self.class, self.bare)
     }
 
     /// The index of a class. It takes no memory.
     pub fn whole(class: O, bare: Bare<O>) -> State<O>
-        ensures { result ≡ bare }
+        ensures { result ≡ with_class bare class }
     {
         State { class, bare }
     }
 
     /// The class of the keys.
-    pub fn class(&self) -> &O {
+    pub fn class(&self) -> &O
+        ensures { HasClass self.now result.now }
+    {
         &self.class
     }
 
@@ -268,11 +273,13 @@ impl<O: OpClass> State<O> {
         self.bare.insert_step(&self.class, seat)
     }
 
-    /// Deletes the row. True exactly where it is live; else nothing changes.
+    /// Deletes the row. True exactly where it is live; else nothing changes. For a row that is not live
+    /// no memory is wanted.
     pub fn kill(&mut self, seat: SeatNo, row: Row) -> Result<bool, Memory>
         requires free { stage_at self.old seat ≡ free }
         ensures ok { IfOk result (λ killed. KillsRow self.old self.new seat row killed) }
         ensures call { IfOk result (λ killed. IsCall O.meaning self.old self.new seat (kill_of row killed)) }
+        ensures live { OnErr result (is_live row (past_of self.old) ≡ true) }
         ensures err { OnErr result (self.new ≡ self.old) }
     {
         self.bare.kill(seat, row)

@@ -23,10 +23,10 @@ use Rattle.spg_desk.proofs.Views.{told_doing}
 use Rattle.spg_desk.proofs.Rows.{was_not_live}
 
 module _ {O Key Recon Cond : Type 0} (m : Meaning Key Recon Cond) where
-  pub killed : (v w : View (Event O Key Recon Cond)) (old new : Seen O Key Recon Cond) (seat : ℕ) (row : RowAt) (span : Span) (r : Result Bool Memory) → Told m v w span (kill_events v.number row r) → IsLegal (past_of old) → past_at span.from w.seen ≡ past_of old → IfOk r (λ killed. KillsRow old new seat row killed) → DidKill m v w row (kill_answer r span)
-  killed v w old new seat row span (Ok true) told legal past ok = told
-  killed v w old new seat row span (Ok false) told legal past ok = (told, ap (is_live row) past ∙ was_not_live (past_of old) row legal ok.0)
-  killed v w old new seat row span (Err e) told legal past ok = told
+  pub killed : (v w : View (Event O Key Recon Cond)) (old new : Seen O Key Recon Cond) (seat : ℕ) (row : RowAt) (span : Span) (r : Result Bool Memory) → Told m v w span (kill_events v.number row r) → IsLegal (past_of old) → past_at span.from w.seen ≡ past_of old → IfOk r (λ killed. KillsRow old new seat row killed) → OnErr r (is_live row (past_of old) ≡ true) → DidKill m v w row (kill_answer r span)
+  killed v w old new seat row span (Ok true) told legal past ok live = told
+  killed v w old new seat row span (Ok false) told legal past ok live = (told, ap (is_live row) past ∙ was_not_live (past_of old) row legal ok.0)
+  killed v w old new seat row span (Err e) told legal past ok live = (told, ap (is_live row) past ∙ live)
 
   pub kill_idle : (v w : View (Event O Key Recon Cond)) (row : RowAt) (span : Span) (r : Result Bool Memory) → doing_at v ≡ idle → Told m v w span (kill_events v.number row r) → doing_at w ≡ idle
   kill_idle v w row span r done told = told_doing m v w span (kill_events v.number row r) told ∙ (ap (λ d. doing_after v.number d (kill_events v.number row r)) done ∙ still v.number r)

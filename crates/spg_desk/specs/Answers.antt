@@ -77,10 +77,11 @@ module _ {O Key Recon Cond : Type 0} (m : Meaning Key Recon Cond) (v w : View (E
   DidInsert row key (inserts.ClockFull span) = Told m v w span (OpenInsert v.number row key ∷ Drop v.number row cause.Clock ∷ []) × IsFullFor m v.origin key (past_at span.to w.seen) cause.Clock
   DidInsert row key (inserts.Memory span) = Told m v w span [] ⊎ Told m v w span (OpenInsert v.number row key ∷ Drop v.number row cause.Given ∷ [])
 
+  -- `NotLive` and want of memory are told of the journal where the span begins
   abbrev pub DidKill : RowAt → KillAnswer → Type 0
   DidKill row (kills.Killed span) = Told m v w span (Kill v.number row ∷ [])
   DidKill row (kills.NotLive span) = Told m v w span [] × (is_live row (past_at span.from w.seen) ≡ false)
-  DidKill row (kills.Memory span) = Told m v w span []
+  DidKill row (kills.Memory span) = Told m v w span [] × (is_live row (past_at span.from w.seen) ≡ true)
 
   abbrev pub DidFind : Query O Key Recon Cond → FindAnswer → Type 0
   DidFind query (finds.Found rows span) = Told m v w span (OpenScan v.number query ∷ CloseScan v.number rows ∷ [])

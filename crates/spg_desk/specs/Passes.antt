@@ -13,6 +13,10 @@ module _ {O Key Recon Cond : Type 0} where
   abbrev pub desk_id : Desk O Key Recon Cond → TableId
   desk_id d = turn_id d.turn
 
+  -- the class of its index
+  abbrev pub desk_class : Desk O Key Recon Cond → O
+  desk_class d = d.class
+
   -- how many passes it may give
   abbrev pub desk_seats : Desk O Key Recon Cond → ℕ
   desk_seats d = turn_seats d.turn

@@ -7,7 +7,8 @@ use std::alloc::Global;
 
 /// An index that threads share, each by a pass of its own. A call of the desk is done in sections, of
 /// which each takes one turn of the lock; the class is asked between the turns, on copies. Contracts
-/// read it by `desk_id`, which desk it is, and `desk_seats`, how many passes it may give.
+/// read it by `desk_id`, which desk it is, `desk_class`, the class of its index, and `desk_seats`, how many
+/// passes it may give.
 pub struct Desk<O: OpClass> {
     pub(crate) alloc: Global,
     pub(crate) class: O,
@@ -17,9 +18,9 @@ pub struct Desk<O: OpClass> {
 impl<O: OpClass> Desk<O> {
     ghost use Rattle.std.specs.Prelude.{◌≡◌, ◌≢◌, ℕ, ◌+◌, ◌<◌, ◌≤◌, drop, IfOk, IfErr};
     ghost use Rattle.spg_rows.specs.History.{nothing, open_of, own};
-    ghost use Rattle.spg_core.specs.Seen.{past_of};
+    ghost use Rattle.spg_core.specs.Seen.{past_of, HasClass};
     ghost use Rattle.spg_turn.specs.Views.{StartsWith, kept_of, first_view, after_split, after_join, dealt};
-    ghost use Rattle.spg_desk.specs.Passes.{desk_id, desk_seats, desk_of, view_of};
+    ghost use Rattle.spg_desk.specs.Passes.{desk_id, desk_class, desk_seats, desk_of, view_of};
 
     /// A desk for 1 to 64 seats over an index in which nothing is open, and the first pass, of seat 0,
     /// which has seen the whole journal. `Memory` comes with the index as it was.
@@ -31,6 +32,7 @@ impl<O: OpClass> Desk<O> {
         requires count { (1 ≤ seats) × (seats ≤ 64) }
         requires idle { (n : ℕ) → open_of n (past_of state) ≡ nothing }
         ensures ok { IfOk result (λ d. (desk_of d.1 ≡ desk_id d.0) × (desk_seats d.0 ≡ seats) × (view_of d.1 ≡ first_view state.journal state.origin)) }
+        ensures class { IfOk result (λ d. HasClass state (desk_class d.0)) }
         ensures err { IfErr result (λ e. e.0 ≡ state) }
     {
         let (class, bare) = state.part();
@@ -44,7 +46,9 @@ impl<O: OpClass> Desk<O> {
     }
 
     /// The class of the keys.
-    pub fn class(&self) -> &O {
+    pub fn class(&self) -> &O
+        ensures { result.now ≡ desk_class self.now }
+    {
         &self.class
     }
 
@@ -101,6 +105,7 @@ impl<O: OpClass> Desk<O> {
         requires own { desk_of first ≡ desk_id self }
         requires first { (view_of first).number ≡ 0 }
         requires all { (view_of first).back + 1 ≡ (view_of first).given }
+        ensures class { HasClass result (desk_class self) }
         ensures origin { result.origin ≡ (view_of first).origin }
         ensures list { result.journal ≡ (view_of first).seen }
         ensures first { own 0 (drop (view_of first).base result.journal) ≡ (view_of first).mine }

@@ -22,7 +22,8 @@ fn kill_answer(killed: Result<bool, Memory>, span: Span) -> KillAnswer
 }
 
 impl<O: OpClass> Desk<O> {
-    /// Deletes the row. `Killed` exactly where it is live in its turn, and else nothing changes.
+    /// Deletes the row. `Killed` exactly where it is live in its turn, and else nothing changes. For a row
+    /// that is not live no memory is wanted.
     pub fn kill<R: Wait>(&self, rt: &R, pass: Pass<O>, row: Row) -> (Pass<O>, KillAnswer)
         requires own { desk_of pass ≡ desk_id self.now }
         ensures own { desk_of result.0 ≡ desk_of pass }

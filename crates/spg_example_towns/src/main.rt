@@ -1,7 +1,6 @@
 //! Towns by where they lie: inserted, saved under a name, loaded again; then a journal that begins anew.
 #![tactic(auto)]
 
-use anyhow::bail;
 use spgist::{
     DEFAULT_LIMIT, FolderImages, Index, Point, Quad, Row, load_index, renew, save, within,
 };
@@ -39,10 +38,8 @@ fn tell_last(rt: &HostRuntime, what: &str, mut towns: Index<Quad>) -> anyhow::Re
 fn tell_loaded(rt: &HostRuntime, towns: &Index<Quad>) -> anyhow::Result<()> {
     let mut images = FolderImages::new(rt);
     save(towns.state(), &mut images, "towns")?;
-    match load_index(rt.alloc(), Quad, &mut images, "towns", DEFAULT_LIMIT) {
-        Ok(loaded) => tell_last(rt, "loaded", loaded),
-        Err(refused) => bail!("the image is refused: {refused:?}"),
-    }
+    let loaded = load_index(rt.alloc(), Quad, &mut images, "towns", DEFAULT_LIMIT)?;
+    tell_last(rt, "loaded", loaded)
 }
 
 /// Fills an index, and tells of it and of those that are made of it.

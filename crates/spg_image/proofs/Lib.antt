@@ -4,6 +4,7 @@ mod Firsts
 mod Changing
 mod Matching
 mod Steps
+mod Calls
 pub mod MetaOut
 pub mod Classes
 pub mod Apart

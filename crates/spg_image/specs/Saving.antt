@@ -3,6 +3,7 @@ use Rattle.std.specs.Prelude.{◌≡◌, ℕ, zero, suc, ◌*◌, ◌<◌, ◌�
 use Rattle.spg_forest.specs.Sheets.{blank}
 use Rattle.spg_io.specs.Causes.{Rose}
 use Rattle.spg_io.specs.Held.{Holding, Stays, Changes, page_size}
+use Rattle.spg_io.specs.declared.sink.IoRefused.{IoRefused}
 use Rattle.spg_image.specs.declared.refused.SaveRefused.{SaveRefused}
 use Rattle.spg_image.specs.declared.refused.SaveRefused.TheVariants.{ImageFault, Memory}
 use Rattle.spg_page.specs.Came.{sheet_in}
@@ -11,6 +12,7 @@ use Rattle.spg_verify.specs.Verdict.{page_at}
 use Rattle.spg_image.specs.Page.{IsPageAt}
 use Rattle.spg_image.specs.Meta.{IsMeta, Said, said_in}
 use Rattle.spg_image.specs.Image.{Image, Reads}
+use Rattle.spg_image.specs.Refusals.{refusal_of}
 
 -- what the meta page of an image says
 abbrev pub said_of : Image → Said
@@ -54,3 +56,19 @@ pub record HasCauseIfFault (before now : ℕ) (result : Result ℕ SaveRefused) 
   pub fault : IsErrOf result ImageFault → Rose before now
   pub answered : OnOk result (now ≡ before)
   pub memory : IsErrOf result Memory → now ≡ before
+
+-- ---- the calls of a save, as the images tell of each
+
+-- from `old` to `now` the name was cleared, and the first k pages of the image were put, each by one call
+abbrev pub PutFirst : {M : Type 0} → (M → List ℕ → Result Unit IoRefused → M → Type 0) → (M → List ℕ → List ℕ → Result Unit IoRefused → M → Type 0) → Image → List ℕ → M → ℕ → M → Type 0
+PutFirst {M} clears puts i name old zero now = (u : Unit {0}) × clears old name (Ok u) now
+PutFirst {M} clears puts i name old (suc k) now = (u : Unit {0}) × (between : M) × (page : List ℕ) × PutFirst clears puts i name old k between × IsBlockOf i k page × puts between name page (Ok u) now
+
+-- the call that was refused: the clearing, or the put of the page behind those that had come. No call comes behind it
+abbrev pub StopsAt : {M : Type 0} → (M → List ℕ → Result Unit IoRefused → M → Type 0) → (M → List ℕ → List ℕ → Result Unit IoRefused → M → Type 0) → Image → List ℕ → M → IoRefused → M → Type 0
+StopsAt {M} clears puts i name old e now = clears old name (Err e) now ⊎ ((k : ℕ) × (between : M) × (page : List ℕ) × (k < length i.pages) × PutFirst clears puts i name old k between × IsBlockOf i k page × puts between name page (Err e) now)
+
+-- all pages were put, or a call was refused, which is the last
+abbrev pub SavesBy : {M : Type 0} → (M → List ℕ → Result Unit IoRefused → M → Type 0) → (M → List ℕ → List ℕ → Result Unit IoRefused → M → Type 0) → Image → List ℕ → M → M → Result ℕ SaveRefused → Type 0
+SavesBy clears puts i name old now (Ok pages) = PutFirst clears puts i name old (length i.pages) now
+SavesBy clears puts i name old now (Err why) = (e : IoRefused) × (why ≡ refusal_of e) × StopsAt clears puts i name old e now

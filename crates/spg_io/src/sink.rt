@@ -15,11 +15,13 @@ use std::io::{BufWriter, Write};
 use std::marker::Model;
 
 /// Why a call took nothing. The object is as it was.
-#[derive(Clone, Copy, Debug, PartialEq, Eq)]
+#[derive(Clone, Copy, Debug, PartialEq, Eq, thiserror::Error)]
 pub enum IoRefused {
     /// The device failed.
+    #[error("the device failed")]
     Failed,
     /// There was no memory.
+    #[error("out of memory")]
     Memory,
 }
 

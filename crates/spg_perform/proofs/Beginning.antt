@@ -80,6 +80,8 @@ module _ {O Key Recon Cond : Type 0} (m : Meaning Key Recon Cond) (speech : Spee
     right = right;
     causes = (causes_grow O Key Recon Cond).begins m seen.origin (sheets_of seen.table) seen.journal;
     tells = record { end = tt; saves = λ name. refl; leaves = tt };
+    remains = λ name. refl;
+    counted = tt;
     closed = closed;
     made = refl;
     images = still_told outside.held;

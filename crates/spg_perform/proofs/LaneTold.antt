@@ -55,7 +55,7 @@ module _ {O Key Recon Cond : Type 0} (m : Meaning Key Recon Cond) (speech : Spee
   pub went_delete : (row : RowAt) (answer : KillAnswer) → DidKill m v w row answer → WentOne m speech v w (asked.Delete row) (kill_record answer)
   went_delete row (kills.Killed span) told = went (asked.Delete row) (kill_record (kills.Killed span)) _ told (λ block. refl) tt
   went_delete row (kills.NotLive span) told = went (asked.Delete row) (kill_record (kills.NotLive span)) _ told.0 (λ block. (told.1, refl)) tt
-  went_delete row (kills.Memory span) told = went (asked.Delete row) (kill_record (kills.Memory span)) _ told (λ block. inl refl) tt
+  went_delete row (kills.Memory span) told = went (asked.Delete row) (kill_record (kills.Memory span)) _ told.0 (λ block. inl refl) tt
 
   pub went_find : (query : AnyQuery) (q : Query O Key Recon Cond) (answer : FindAnswer) → query_in speech query ≡ Some q → DidFind m v w q answer → WentOne m speech v w (asked.Find query) (find_record answer)
   went_find query q (finds.Found rows span) known told = went (asked.Find query) (find_record (finds.Found rows span)) _ told (λ block. ((q, known, refl), refl)) tt

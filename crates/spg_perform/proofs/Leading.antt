@@ -17,14 +17,16 @@ use Rattle.spg_report.specs.declared.record.Record.{Record}
 use Rattle.spg_histories.specs.Tasks.{Task}
 use Rattle.spg_histories.specs.Run.{Entry, RunOf, past_at}
 use Rattle.spg_histories.specs.Pages.{HoldsAt}
-use Rattle.spg_histories.specs.Telling.{is_quiet_command, LeafIs, TellsOf, TellAll, SaveGave, StepDone}
+use Rattle.spg_histories.specs.Telling.{steps_of, is_quiet_command, LeafIs, TellsOf, TellAll, SaveGave, StepDone}
 use Rattle.spg_histories.specs.Causes.{IsDue, IsDueIn, IsCaused, Causes, CausesGrow}
 use Rattle.spg_histories.proofs.Blocks.{run_goes_on, alone_block}
 use Rattle.spg_histories.proofs.Causes.{causes_grow}
 use Rattle.spg_histories.proofs.Telling.{one_more}
 use Rattle.spg_commands.specs.Acted.{Acted}
 use Rattle.spg_perform.specs.Session.{AllClosed, told_of, ReadsBack, StillTell, is_image_fault, image_faults, RoseBy, LeadsOn, standing}
+use Rattle.spg_perform.specs.Remains.{Remains}
 use Rattle.spg_whole.proofs.Alone.{closed_again}
+use Rattle.spg_perform.proofs.Remaining.{Gave, remains_one, counted_one}
 use Rattle.spg_perform.proofs.LeadingImages.{faults_append, rose_then, Outward, stays_where}
 
 both_true : (a b : Bool) → (a && b) ≡ true → (a ≡ true) × (b ≡ true)
@@ -95,6 +97,10 @@ module _ {O Key Recon Cond : Type 0} (m : Meaning Key Recon Cond) (speech : Spee
     right = right;
     causes = causes_on loaded tasks records was.run origin was.made was.causes;
     tells = tells_on loaded tasks records was.run code held held2 faults faults2 outward start.held was.images (told_of start.held start.held) was.tells;
+    remains = λ name. subst (λ (j : List (Event O Key Recon Cond)). Remains code (HoldsAt m j) (told_of start.held held2 name) (told_of start.held start.held name) name (steps_of (tasks ++ t ∷ []) (records ++ r ∷ []))) (sym acted.performed.journal)
+        (remains_one m speech code loaded s0.journal acted.performed.events tasks records was.run (told_of start.held held name) (told_of start.held held2 name) (told_of start.held start.held name) name t r (outward.kept start.held was.images name)
+        (λ save. subst (λ (j : List (Event O Key Recon Cond)). Gave code (HoldsAt m j) (told_of start.held held name) (told_of start.held held2 name) r.span.from r.outcome) acted.performed.journal (outward.left start.held was.images name save)) (was.remains name));
+    counted = counted_one m speech code loaded s0.journal acted.performed.events tasks records was.run t r outward.counts was.counted;
     closed = closed;
     made = acted.made ∙ was.made;
     images = outward.still start.held was.images;

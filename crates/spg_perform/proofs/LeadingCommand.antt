@@ -15,6 +15,7 @@ use Rattle.spg_script.specs.Script.{IsLaneCommand}
 use Rattle.spg_script.specs.Speech.{Speech}
 use Rattle.spg_report.specs.declared.record.Record.{Record}
 use Rattle.spg_commands.specs.Acted.{Acts, task_of}
+use Rattle.spg_perform.specs.Remains.{CountTells}
 use Rattle.spg_perform.specs.Saved.{IsSaved}
 use Rattle.spg_perform.specs.Session.{AllClosed, is_image_fault, RoseBy, StaysUnless, LeadsOn, standing}
 use Rattle.spg_perform.proofs.LeadingImages.{SavesNone, Outward, inward, outward}
@@ -26,10 +27,10 @@ pub record Goes {O Key Recon Cond : Type 0} (m : Meaning Key Recon Cond) (speech
   pub calls : (block : ℕ) → Outward m speech code s1.journal (sheets_of s0.table) held held2 faults faults2 (task_of block seat alone c) r
 
 module _ {O Key Recon Cond : Type 0} (m : Meaning Key Recon Cond) (speech : Speech Key Cond) (code : ℕ) (seat : ℕ) where
-  pub goes_inward : (s0 s1 : Seen O Key Recon Cond) (held : Option Holding) (faults : ℕ) (alone : Bool) (c : Command) (r : Record) → SavesNone c → Acts m speech s0 s1 seat alone c r → Goes m speech code s0 s1 held held faults faults seat alone c r
-  goes_inward s0 s1 held faults alone c r none acts = record {
+  pub goes_inward : (s0 s1 : Seen O Key Recon Cond) (held : Option Holding) (faults : ℕ) (alone : Bool) (c : Command) (r : Record) → SavesNone c → CountTells c r.outcome → Acts m speech s0 s1 seat alone c r → Goes m speech code s0 s1 held held faults faults seat alone c r
+  goes_inward s0 s1 held faults alone c r none counts acts = record {
     acts = acts;
-    calls = λ block. inward m speech code s1.journal held faults r (sheets_of s0.table) (task_of block seat alone c) (reverse s0.journal) (acts block).performed.events none (acts block).performed.does;
+    calls = λ block. inward m speech code s1.journal held faults r (sheets_of s0.table) (task_of block seat alone c) (reverse s0.journal) (acts block).performed.events none counts (acts block).performed.does;
   }
 
   pub goes_saved : (s : Seen O Key Recon Cond) (held held2 : Option Holding) (faults faults2 : ℕ) (alone : Bool) (name : List ℕ) (r : Record) → (alone ≡ false → IsLaneCommand (Save name)) → Acts m speech s s seat true (Save name) r

@@ -5,6 +5,7 @@ pub mod Counting
 pub mod Tasks
 pub mod SavingNames
 pub mod Saving
+pub mod Remaining
 pub mod LeadingImages
 pub mod Leading
 pub mod LeadingSave

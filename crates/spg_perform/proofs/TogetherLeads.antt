@@ -23,12 +23,15 @@ use Rattle.spg_report.specs.declared.record.Record.{Record}
 use Rattle.spg_histories.specs.Tasks.{Task, lane_tasks, lanes_tasks}
 use Rattle.spg_histories.specs.Run.{Does, Did, IsWithin, past_at, between}
 use Rattle.spg_histories.specs.Blocks.{joined, BlockOf, AreRefused}
-use Rattle.spg_histories.specs.Telling.{AreOfLanes, TellAll}
+use Rattle.spg_histories.specs.Pages.{HoldsAt}
+use Rattle.spg_histories.specs.Telling.{steps_of, AreOfLanes, TellAll}
 use Rattle.spg_histories.specs.Causes.{IsTooFullIn, IsDueIn, TellDrops, Causes}
 use Rattle.spg_histories.proofs.Blocks.{runs_grow, run_goes_on, each_weaker, each_append}
 use Rattle.spg_histories.proofs.Causes.{causes_grow, no_save_in}
 use Rattle.spg_histories.proofs.Telling.{lanes_more}
 use Rattle.spg_perform.specs.Session.{AllClosed, told_of, ReadsBack, is_image_fault, image_faults, RoseBy, Session, LeadsOn, standing}
+use Rattle.spg_perform.specs.Remains.{Remains}
+use Rattle.spg_perform.proofs.Remaining.{remains_lanes, counted_lanes}
 use Rattle.spg_commands.specs.Acted.{CanBeDone}
 use Rattle.spg_perform.specs.Lanes.{refusals}
 use Rattle.spg_perform.specs.Posts.{RanBeside}
@@ -111,6 +114,9 @@ module _ {O Key Recon Cond : Type 0} (m : Meaning Key Recon Cond) (speech : Spee
               ((causes_grow O Key Recon Cond).lanes m speech origin loaded s0.journal block.events (sheets_of s0.table) (sheets_of s1.table) before tasks records added S.run S.causes lanes each due drops_here);
           tells = subst (λ (j : List (Event O Key Recon Cond)). TellAll O m speech (ReadsBack code) j (told_of start.held start.held) (told_of start.held held) (sheets_of s1.table) (before ++ tasks) (records ++ added)) (sym block.journal)
               (lanes_more O Key Recon Cond (Option (Option (List ℕ))) m speech (ReadsBack code) loaded s0.journal block.events before records (told_of start.held start.held) (told_of start.held held) (sheets_of s0.table) S.run S.tells (sheets_of s1.table) tasks added lanes each none);
+          remains = λ name. subst (λ (j : List (Event O Key Recon Cond)). Remains code (HoldsAt m j) (told_of start.held held name) (told_of start.held start.held name) name (steps_of (before ++ tasks) (records ++ added))) (sym block.journal)
+              (remains_lanes m speech code loaded s0.journal block.events before records S.run (told_of start.held held name) (told_of start.held start.held name) name tasks added lanes (S.remains name));
+          counted = counted_lanes m speech code loaded s0.journal block.events before records S.run tasks added lanes S.counted;
           closed = closed;
           made = made ∙ S.made;
           images = S.images;

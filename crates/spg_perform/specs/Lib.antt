@@ -1,3 +1,4 @@
+pub mod Remains
 pub mod Session
 pub mod Saved
 pub mod Outcomes

@@ -2,7 +2,6 @@
 use Rattle.std.specs.Prelude.{◌≡◌, ◌≤◌, ◌+◌, ◌-◌, ◌^◌, ◌++◌, ℕ, min, List, [], ◌∷◌, Option, Some, None, option_map, ⊤}
 use Rattle.spg_base.specs.declared.recorded.Origin.{Origin}
 use Rattle.spg_opclass.specs.Meaning.{Meaning}
-use Rattle.spg_forest.specs.Sheets.{Sheets}
 use Rattle.spg_io.specs.Held.{Holding}
 use Rattle.spg_rows.specs.Right.{Right}
 use Rattle.spg_tree.specs.Table.{sheets_of}
@@ -16,10 +15,11 @@ pub use Rattle.spg_commands.specs.Known.{IsOfClass}
 pub use Rattle.spg_whole.specs.Calls.{AllClosed}
 use Rattle.spg_histories.specs.Tasks.{Task, tasks_of}
 use Rattle.spg_histories.specs.Run.{Entry, load_events, RunOf}
-use Rattle.spg_histories.specs.Telling.{TellAll}
+use Rattle.spg_histories.specs.Pages.{HoldsAt}
+use Rattle.spg_histories.specs.Telling.{steps_of, TellAll}
 use Rattle.spg_histories.specs.Causes.{Causes}
-use Rattle.spg_image.specs.Image.{Image, sheets_in}
-use Rattle.spg_image.specs.Saving.{HoldsImage}
+pub use Rattle.spg_perform.specs.Remains.{ReadsBack}
+use Rattle.spg_perform.specs.Remains.{Remains, AllCounted}
 
 -- ---- images
 
@@ -32,11 +32,6 @@ pub record Outside : Type 0 where
 abbrev pub told_of : Option Holding → Option Holding → List ℕ → Option (Option (List ℕ))
 told_of None now name = None
 told_of (Some start) now name = option_map (λ (held : Holding). held name) now
-
--- what is told under a name, where it is told, is an image of the class with these pages
-abbrev pub ReadsBack : ℕ → Option (Option (List ℕ)) → Sheets → Type 0
-ReadsBack code None g = ⊤
-ReadsBack code (Some held) g = (image : Image) × HoldsImage image held × (image.class ≡ code) × (sheets_in image ≡ g)
 
 -- images that tell their bytes go on to do so
 abbrev pub StillTell : Option Holding → Option Holding → Type 0
@@ -70,6 +65,8 @@ pub record Session {O Key Recon Cond : Type 0} (m : Meaning Key Recon Cond) (spe
   pub right : Right m seen.journal
   pub causes : Causes m origin (sheets_of seen.table) seen.journal tasks records
   pub tells : TellAll O m speech (ReadsBack code) seen.journal (told_of start.held start.held) (told_of start.held now.held) (sheets_of seen.table) tasks records
+  pub remains : (name : List ℕ) → Remains code (HoldsAt m seen.journal) (told_of start.held now.held name) (told_of start.held start.held name) name (steps_of tasks records)
+  pub counted : AllCounted (steps_of tasks records)
   pub closed : AllClosed (past_of seen)
   pub made : seen.origin ≡ origin
   pub images : StillTell start.held now.held

@@ -15,11 +15,13 @@ use spg_opclass::{Copied, OpClass, Query, Sifted, sift};
 use std::alloc::Global;
 
 /// Why a copy that was sifted was not taken in.
-#[derive(Clone, Copy, Debug, PartialEq, Eq)]
+#[derive(Clone, Copy, Debug, PartialEq, Eq, thiserror::Error)]
 pub enum SiftRefused {
     /// The item is not there, is not being sifted, or has another copy.
+    #[error("the item is not the one that was copied")]
     Changed,
     /// Want of memory.
+    #[error("out of memory")]
     Memory,
 }
 

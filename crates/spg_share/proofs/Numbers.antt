@@ -48,7 +48,7 @@ module _ {O Key Recon Cond : Type 0} (m : Meaning Key Recon Cond) (v w : View (E
   pub kill_number : (row : RowAt) (answer : KillAnswer) → DidKill m v w row answer → w.number ≡ v.number
   kill_number row (kills.Killed span) told = told_number span _ told
   kill_number row (kills.NotLive span) told = told_number span _ told.0
-  kill_number row (kills.Memory span) told = told_number span _ told
+  kill_number row (kills.Memory span) told = told_number span _ told.0
 
   pub find_number : (query : Query O Key Recon Cond) (answer : FindAnswer) → DidFind m v w query answer → w.number ≡ v.number
   find_number query (finds.Found rows span) told = told_number span _ told

@@ -1,7 +1,7 @@
 use crate::image::{LENGTH, Run, nowhere, verdict};
 use spg_clauses::Reason;
 use spg_image::{ImageRefused, Verified};
-use std::process::Abort;
+use std::alloc::Global;
 use std::test::Fail;
 
 /// How many bytes of the image are there, its changes, the block that is told, and the reason.
@@ -150,63 +150,82 @@ const EMPTY: [Run; 7] = [
 /// The codes of the classes that come with version 2.
 const SECOND_CODES: [&[u8]; 4] = [&[4], &[17], &[18], &[19]];
 
-/// Compares what is said of an image.
-fn is_told<R: AllocGlobal + Abort>(rt: &R, case: &Case) -> Result<(), Fail> {
+/// Whether the image is refused as the case says.
+fn is_told(alloc: Global, case: &Case) -> Result<bool, Fail> {
     let (length, changes, block, reason) = *case;
-    let told = verdict(rt.alloc(), changes, length)?;
-    assert_eq!(rt; told, Err(ImageRefused::BadImage { block, reason }));
-    Ok(())
+    Ok(verdict(alloc, changes, length)? == Err(ImageRefused::BadImage { block, reason }))
 }
 
 #[test]
 fn tells_each_clause(rt: HostRuntime) -> Result<(), Fail> {
-    for case in &ONE {
-        is_told(&rt, case)?;
+    for (row, case) in ONE.iter().enumerate() {
+        assert!(rt; is_told(rt.alloc(), case)?, "row {row}");
     }
     Ok(())
 }
 
 #[test]
 fn tells_the_first_of_several(rt: HostRuntime) -> Result<(), Fail> {
-    for case in &SEVERAL {
-        is_told(&rt, case)?;
+    for (row, case) in SEVERAL.iter().enumerate() {
+        assert!(rt; is_told(rt.alloc(), case)?, "row {row}");
     }
     Ok(())
 }
 
 #[test]
 fn tells_clauses_of_the_second_version(rt: HostRuntime) -> Result<(), Fail> {
-    for case in &OF_SECOND {
-        is_told(&rt, case)?;
+    for (row, case) in OF_SECOND.iter().enumerate() {
+        assert!(rt; is_told(rt.alloc(), case)?, "row {row}");
     }
     Ok(())
 }
 
-#[test]
-fn takes_each_class_of_the_second_version(rt: HostRuntime) -> Result<(), Fail> {
+/// Whether an image of two empty roots is taken, with this code of its class.
+fn takes(alloc: Global, code: &'static [u8]) -> Result<bool, Fail> {
+    let [a, b, c, d, e, f, g] = EMPTY;
+    let changes = [a, b, c, d, e, f, g, (0, 24, code)];
     let empty = Verified {
         pages: 3,
         entries: 0,
     };
-    for code in &SECOND_CODES {
-        let [a, b, c, d, e, f, g] = EMPTY;
-        let changes = [a, b, c, d, e, f, g, (0, 24, *code)];
-        assert_eq!(rt; verdict(rt.alloc(), &changes, 3 * 8192)?, Ok(empty));
+    Ok(verdict(alloc, &changes, 3 * 8192)? == Ok(empty))
+}
+
+#[test]
+fn takes_each_class_of_the_second_version(rt: HostRuntime) -> Result<(), Fail> {
+    for (row, code) in SECOND_CODES.iter().enumerate() {
+        assert!(rt; takes(rt.alloc(), *code)?, "row {row}");
     }
     Ok(())
 }
 
-#[test]
-fn takes_the_image(rt: HostRuntime) -> Result<(), Fail> {
+/// Whether the whole image is taken.
+fn takes_town(alloc: Global) -> Result<bool, Fail> {
     let whole = Verified {
         pages: 5,
         entries: 5,
     };
-    assert_eq!(rt; verdict(rt.alloc(), &[], LENGTH)?, Ok(whole));
+    Ok(verdict(alloc, &[], LENGTH)? == Ok(whole))
+}
+
+#[test]
+fn takes_the_image(rt: HostRuntime) -> Result<(), Fail> {
+    assert!(rt; takes_town(rt.alloc())?);
     let missing = ImageRefused::BadImage {
         block: 0,
         reason: Reason::Missing,
     };
-    assert_eq!(rt; nowhere(rt.alloc()), Err(missing));
+    assert!(rt; nowhere(rt.alloc()) == Err(missing));
+    Ok(())
+}
+
+#[test]
+fn names_the_clause_in_its_text(rt: HostRuntime) -> Result<(), Fail> {
+    let refused = ImageRefused::BadImage {
+        block: 3,
+        reason: Reason::Target,
+    };
+    let text = format!(in rt.alloc(); "{refused}")?;
+    assert_eq!(rt; text.as_str(), "bad image: target at block 3");
     Ok(())
 }

@@ -1,5 +1,6 @@
 //! Files of a folder: what is read and written there, and texts that are no name.
 
+use crate::calls::{Call, all_answer, answers};
 use spg_base::Failed;
 use spg_io::{FolderImages, Images, IoRefused};
 use std::fs;
@@ -8,20 +9,27 @@ use std::test::Fail;
 /// A file that the test makes and removes.
 const FILE: &str = "spg-test-images";
 
+/// Two pages are put, and the second one is read.
+const PUT: [(&str, Call); 8] = [
+    (FILE, Call::Clear(Ok(()))),
+    (FILE, Call::Put(1, Ok(()))),
+    (FILE, Call::Put(2, Ok(()))),
+    (FILE, Call::Len(Ok(Some(16384)))),
+    (FILE, Call::Get(1, Ok(true))),
+    (FILE, Call::Holds(0, 2)),
+    (FILE, Call::Holds(8191, 2)),
+    (FILE, Call::Get(2, Ok(false))),
+];
+
+/// The file is removed then.
+const GONE: [(&str, Call); 2] = [(FILE, Call::Len(Ok(None))), (FILE, Call::Get(0, Ok(false)))];
+
 #[test]
 fn keeps_images_as_files(rt: HostRuntime) -> Result<(), Fail> {
     let mut images = FolderImages::new(&rt);
-    let mut page = [0; 8192];
-    assert_eq!(rt; images.clear(FILE), Ok(()));
-    assert_eq!(rt; images.put(FILE, &[1; 8192]), Ok(()));
-    assert_eq!(rt; images.put(FILE, &[2; 8192]), Ok(()));
-    assert_eq!(rt; images.len(FILE), Ok(Some(16384)));
-    assert_eq!(rt; images.get(FILE, 1, &mut page), Ok(true));
-    assert_eq!(rt; (page[0], page[8191]), (2, 2));
-    assert_eq!(rt; images.get(FILE, 2, &mut page), Ok(false));
+    assert!(rt; all_answer(&mut images, &PUT));
     fs::remove_file(&rt, FILE)?;
-    assert_eq!(rt; images.len(FILE), Ok(None));
-    assert_eq!(rt; images.get(FILE, 0, &mut page), Ok(false));
+    assert!(rt; all_answer(&mut images, &GONE));
     Ok(())
 }
 
@@ -34,15 +42,30 @@ const PATHS: [&str; 5] = [
     "",
 ];
 
+/// What each call for them answers.
+const REFUSED: [Call; 4] = [
+    Call::Clear(Err(IoRefused::Failed)),
+    Call::Put(0, Err(IoRefused::Failed)),
+    Call::Len(Err(Failed)),
+    Call::Get(0, Err(Failed)),
+];
+
+/// Whether each call for a path is refused.
+fn refuses<I: Images>(images: &mut I, path: &str) -> bool {
+    let mut page = [0; 8192];
+    for call in &REFUSED {
+        if !answers(images, &mut page, path, call) {
+            return false;
+        }
+    }
+    true
+}
+
 #[test]
 fn stays_in_the_folder(rt: HostRuntime) -> Result<(), Fail> {
     let mut images = FolderImages::new(&rt);
-    let mut page = [0; 8192];
     for path in &PATHS {
-        assert_eq!(rt; images.clear(path), Err(IoRefused::Failed));
-        assert_eq!(rt; images.put(path, &page), Err(IoRefused::Failed));
-        assert_eq!(rt; images.len(path), Err(Failed));
-        assert_eq!(rt; images.get(path, 0, &mut page), Err(Failed));
+        assert!(rt; refuses(&mut images, path));
     }
     Ok(())
 }

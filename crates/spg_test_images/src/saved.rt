@@ -35,14 +35,19 @@ const THREE_ROWS: [Run; 10] = [
     (15, &[]),
 ];
 
+/// Puts so many zeros behind, then these bytes.
+fn push_run(bytes: &mut Vec<u8>, zeros: u32, run: &[u8]) -> Result<(), AllocError> {
+    for _ in 0..zeros {
+        bytes.push(0)?;
+    }
+    bytes.extend_from_slice(run)
+}
+
 /// Bytes that these runs make.
 fn bytes_of(alloc: Global, runs: &[Run]) -> Result<Vec<u8>, AllocError> {
     let mut bytes = Vec::new(alloc);
     for (zeros, run) in runs {
-        for _ in 0..*zeros {
-            bytes.push(0)?;
-        }
-        bytes.extend_from_slice(run)?;
+        push_run(&mut bytes, *zeros, run)?;
     }
     Ok(bytes)
 }
@@ -104,23 +109,43 @@ fn saved(
     }
 }
 
-/// Images whose call of this number fails, where other bytes stand.
-fn images(alloc: Global, call: u64, town: &[u8]) -> Result<FaultyImages, Memory> {
+/// Puts bytes under a name.
+fn put(alloc: Global, images: &mut FaultyImages, name: &str, bytes: &[u8]) -> Result<(), Memory> {
+    images.set(name, Bytes::copy(alloc, bytes)?)
+}
+
+/// Images whose call of this number fails.
+fn failing(alloc: Global, call: u64) -> Result<FaultyImages, Memory> {
     let mut fails = List::new(alloc);
     fails.push(call)?;
-    let mut images = FaultyImages::new(alloc, fails);
-    images.set("other", Bytes::copy(alloc, b"abc")?)?;
-    images.set("town", Bytes::copy(alloc, town)?)?;
+    Ok(FaultyImages::new(alloc, fails))
+}
+
+/// The same, where other bytes stand.
+fn images(alloc: Global, call: u64, town: &[u8]) -> Result<FaultyImages, Memory> {
+    let mut images = failing(alloc, call)?;
+    put(alloc, &mut images, "other", b"abc")?;
+    put(alloc, &mut images, "town", town)?;
     Ok(images)
+}
+
+/// Whether three rows stand under the name, and nothing else has changed.
+fn has_three_rows(alloc: Global, images: &FaultyImages) -> Result<bool, Memory> {
+    let wanted = bytes_of(alloc, &THREE_ROWS)?;
+    let same = images.bytes("town") == Some(wanted.as_slice());
+    Ok(same && images.bytes("other") == Some(b"abc".as_slice()))
+}
+
+/// Whether a save of three rows puts these in place of what stood there.
+fn puts_three_rows(alloc: Global) -> Result<bool, Memory> {
+    let mut images = images(alloc, 0, &[9; 30000])?;
+    let came = saved(alloc, Rows::Three, &mut images)?;
+    Ok(has_three_rows(alloc, &images)? && came == Ok(3))
 }
 
 #[test]
 fn saves_three_rows(rt: HostRuntime) -> Result<(), Fail> {
-    let mut images = images(rt.alloc(), 0, &[9; 30000])?;
-    assert_eq!(rt; saved(rt.alloc(), Rows::Three, &mut images)?, Ok(3));
-    let wanted = bytes_of(rt.alloc(), &THREE_ROWS)?;
-    assert!(rt; images.bytes("town") == Some(wanted.as_slice()));
-    assert_eq!(rt; images.bytes("other"), Some(b"abc".as_slice()));
+    assert!(rt; puts_three_rows(rt.alloc())?);
     Ok(())
 }
 
@@ -134,13 +159,18 @@ const FAILING: [(u64, Result<u32, SaveRefused>, usize); 5] = [
     (5, Ok(3), 24576),
 ];
 
+/// What a save of which the call of this number fails answers, and how many bytes it leaves.
+fn left(alloc: Global, call: u64) -> Result<(Result<u32, SaveRefused>, Option<usize>), Memory> {
+    let mut images = images(alloc, call, b"ab")?;
+    let came = saved(alloc, Rows::Three, &mut images)?;
+    let bytes = images.bytes("town").map(|bytes| bytes.len());
+    Ok((came, bytes))
+}
+
 #[test]
 fn stops_at_a_failing_call(rt: HostRuntime) -> Result<(), Fail> {
-    for (call, wanted, left) in &FAILING {
-        let mut images = images(rt.alloc(), *call, b"ab")?;
-        let came = saved(rt.alloc(), Rows::Three, &mut images)?;
-        let bytes = images.bytes("town").map(|bytes| bytes.len());
-        assert_eq!(rt; (came, bytes), (*wanted, Some(*left)));
+    for (call, wanted, length) in &FAILING {
+        assert!(rt; left(rt.alloc(), *call)? == (*wanted, Some(*length)));
     }
     Ok(())
 }

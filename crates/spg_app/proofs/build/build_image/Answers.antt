@@ -10,6 +10,7 @@ pub returns-in-Ok-create_by_class : goal.returns-in-Ok-create_by_class
 returns-in-Ok-create_by_class g c = inr (record {
   inserts = c.in-Ok.inserts;
   gave = c.in-Ok.ensures.inserts;
+  unfailed = c.in-Ok.ensures.unfailed;
   ends = inl (record {
     created = c.in-Ok-create_by_class.created;
     creation = c.in-Ok-create_by_class.ensures;
@@ -24,6 +25,7 @@ pub returns : goal.returns
 returns g c = inr (record {
   inserts = c.in-Ok.inserts;
   gave = c.in-Ok.ensures.inserts;
+  unfailed = c.in-Ok.ensures.unfailed;
   ends = inr (record {
     why = c.in-Err-create_by_class.refused;
     creation = c.in-Err-create_by_class.ensures;

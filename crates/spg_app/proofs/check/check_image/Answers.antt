@@ -26,6 +26,7 @@ returns-in-Ok g c = record {
   tells = inl (record {
     verified = c.in-Ok.verified;
     image = c.in-Ok.ensures.value;
+    unfailed = c.in-Ok.ensures.cause.answered;
     writing = writing_of c.write_counts.result;
     wrote = wrote_of c.write_counts.result _ _ _ c.write_counts.ensures.ok c.write_counts.ensures.err;
     cause = cause_of c.write_counts.result _ _ c.write_counts.ensures.cause;

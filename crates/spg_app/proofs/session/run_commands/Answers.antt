@@ -1,4 +1,4 @@
-use Rattle.std.proofs.Common.{refl, sym, ap, ◌∙◌, subst}
+use Rattle.std.proofs.Common.{◌≡◌, refl, sym, ap, ◌∙◌, subst}
 use Rattle.spg_histories.specs.Ending.{status_after}
 use Rattle.spg_words.specs.Reading.{word_in}
 use Rattle.spg_app.specs.Beginning.{outside, IsLeft}
@@ -23,7 +23,8 @@ returns-in-Err g c =
 pub returns : goal.returns
 returns g c =
     let left = subst (λ i. IsLeft (word_in c.args.line.from) (outside (g.M.Images.held c.args.images.now) (g.M.Images.faults c.args.images.now)) (outside (g.M.Images.held i) (g.M.Images.faults i))) (sym c.in-Err-perform.ensures.err.1) c.in-Ok.ensures.left in
-    unbegun_ends _ _ c.args.script.now _ _ g.O.Ended.line c.requires.of_class (memory_unbegun _ _ _ _ _ _) (record { sink = refl; images = left })
+    let same = subst (λ i. g.M.Images.faults i ≡ g.M.Images.faults c.args.images.now) (sym c.in-Err-perform.ensures.err.1) c.in-Ok.ensures.unfailed in
+    unbegun_ends _ _ c.args.script.now _ _ g.O.Ended.line c.requires.of_class (memory_unbegun _ _ _ _ _ _ same) (record { sink = refl; images = left })
 
 pub returns-in-Ok-perform : goal.returns-in-Ok-perform
 returns-in-Ok-perform g c =

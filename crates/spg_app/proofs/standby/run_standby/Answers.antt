@@ -9,4 +9,4 @@ pub returns-in-Err : goal.returns-in-Err
 returns-in-Err g c = (c.in-Err.ensures.status, refl)
 
 pub returns : goal.returns
-returns g c = mirrored_ended c.args.line.limit c.args.line.lag _ _ _ _ _ c.in-Ok.sequence _ _ c.in-Ok.ensures.sequence c.mirror_by_class.ensures
+returns g c = mirrored_ended c.args.line.limit c.args.line.lag _ _ _ _ _ c.in-Ok.sequence _ _ c.in-Ok.ensures.sequence c.in-Ok.ensures.unfailed c.mirror_by_class.ensures

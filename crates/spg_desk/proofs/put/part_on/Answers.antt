@@ -21,4 +21,4 @@ returns-in-Err-clause-on g c =
     let m = g.O.OpClass.meaning in
     let old = c.args.bare.now in
     let new = c.refuse.new.bare in
-    subst (λ e. GoesOn m old new c.args.seat (IsBunch old c.args.seat c.args.parted.now) e) (sym c.refuse.ensures.end) (refused_on m old new c.args.seat (IsBunch old c.args.seat c.args.parted.now) c.in-Err.refused (λ is. c.in-Err.ensures.changed (ap (λ (e : ApplyRefused). Err e) is)))
+    subst (λ e. GoesOn m old new c.args.seat (IsBunch old c.args.seat c.args.parted.now) e) (sym c.refuse.ensures.end) (refused_on m old new c.args.seat (IsBunch old c.args.seat c.args.parted.now) c.in-Err.refused (λ is. c.in-Err.ensures.changed.0 (ap (λ (e : ApplyRefused). Err e) is)))

@@ -5,6 +5,7 @@ use Rattle.spg_keys.specs.declared.listing.Listed.{Listed}
 use Rattle.spg_verdict.specs.Entries.{AreEntries}
 use Rattle.spg_core.specs.Loading.{IsLoaded}
 use Rattle.spg_core.specs.Seen.{Seen}
+use Rattle.spg_core.proofs.Classed.{loaded_classed}
 use Rattle.spg_verify.specs.Verdict.{Spells}
 use Rattle.spg_verify.proofs.Holding.{holds_map}
 use Rattle.spg_image.proofs.loading.load.Goals as goal
@@ -15,7 +16,7 @@ returns-in_ok-bare-in-Ok-2-clause-value g c =
     let t = c.in-Ok.table in
     let es = c.in-Ok-2.listed.items in
     let F : Shape m (sheets_of t) × AreEntries m (sheets_of t) es = rw c.in-Ok-2.is at c.in_ok-block-in-Ok.ensures in
-    let L : IsLoaded t es c.in_ok-bare-in-Ok-2.bare = subst (λ (xs : List (Listed g.row.O-Key.Denot)). IsLoaded t xs c.in_ok-bare-in-Ok-2.bare) c.deref.ensures.value c.in_ok-bare-in-Ok-2.ensures in
+    let L = loaded_classed c.args.class t es c.in_ok-bare-in-Ok-2.bare (subst (λ (xs : List (Listed g.row.O-Key.Denot)). IsLoaded t xs c.in_ok-bare-in-Ok-2.bare) c.deref.ensures.value c.in_ok-bare-in-Ok-2.ensures) in
     holds_map (g.M.Images.held c.args.images.now) c.args.name.now (λ held. Spells m g.O.OpClass.code_number c.args.limit held t) _
     (λ held s. (
       t,
@@ -37,7 +38,7 @@ returns-in_ok-bare-in-Ok-2-clause-made g c =
     let t = c.in-Ok.table in
     let es = c.in-Ok-2.listed.items in
     let F : Shape m (sheets_of t) × AreEntries m (sheets_of t) es = rw c.in-Ok-2.is at c.in_ok-block-in-Ok.ensures in
-    let L : IsLoaded t es c.in_ok-bare-in-Ok-2.bare = subst (λ (xs : List (Listed g.row.O-Key.Denot)). IsLoaded t xs c.in_ok-bare-in-Ok-2.bare) c.deref.ensures.value c.in_ok-bare-in-Ok-2.ensures in (
+    let L = loaded_classed c.args.class t es c.in_ok-bare-in-Ok-2.bare (subst (λ (xs : List (Listed g.row.O-Key.Denot)). IsLoaded t xs c.in_ok-bare-in-Ok-2.bare) c.deref.ensures.value c.in_ok-bare-in-Ok-2.ensures) in (
       t,
       record {
         entries = es;

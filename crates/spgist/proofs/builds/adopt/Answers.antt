@@ -13,9 +13,9 @@ adopt-requires g c = record { roots = roots g.O.OpClass.meaning c.args.table c.r
 pub unreachable-requires : goal.unreachable-requires
 unreachable-requires g c =
     let m = g.O.OpClass.meaning in let t = c.args.table in
-    no_fault m t c.in-Err.field-0 c.requires.shape (of_err (λ (seen : Seen _ _ _ _). IsAdopted m t seen) (λ (f : Fault). IsFirst (Holds m (sheets_of t)) (tests (length t.pages)) f) c.in_ok-state.field-0 c.in-Err.field-0 c.in-Err.is c.in_ok-state.ensures)
+    no_fault m t c.in-Err.field-0 c.requires.shape (of_err (λ (seen : Seen _ _ _ _). IsAdopted m t seen) (λ (f : Fault). IsFirst (Holds m (sheets_of t)) (tests (length t.pages)) f) c.in_ok-state.field-0 c.in-Err.field-0 c.in-Err.is c.in_ok-state.ensures.value)
 
 pub returns : goal.returns
 returns g c =
     let m = g.O.OpClass.meaning in let t = c.args.table in
-    of_ok (λ (seen : Seen _ _ _ _). IsAdopted m t seen) (λ (f : Fault). IsFirst (Holds m (sheets_of t)) (tests (length t.pages)) f) c.in_ok-state.field-0 c.in-Ok.state c.in-Ok.is c.in_ok-state.ensures
+    of_ok (λ (seen : Seen _ _ _ _). IsAdopted m t seen) (λ (f : Fault). IsFirst (Holds m (sheets_of t)) (tests (length t.pages)) f) c.in_ok-state.field-0 c.in-Ok.state c.in-Ok.is c.in_ok-state.ensures.value

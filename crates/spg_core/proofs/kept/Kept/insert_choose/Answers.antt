@@ -1,4 +1,4 @@
-use Rattle.std.proofs.Common.{sym, ◌∙◌}
+use Rattle.std.proofs.Common.{refl, sym, ◌∙◌}
 use Rattle.std.proofs.lemmas.Bool.{false≢true}
 use Rattle.spg_core.specs.declared.guide.Guide.TheVariants as guides
 use Rattle.spg_core.specs.Looking.{IsSpotted, StepsInsert}
@@ -6,7 +6,7 @@ use Rattle.spg_core.proofs.Refusals.{ok_with}
 use Rattle.spg_core.proofs.Inserts.{is_insert, guide_seen, spotted_seen, spotted_kept, may_step}
 use Rattle.spg_core.proofs.kept.Kept.insert_choose.Given.{Over}
 use Rattle.spg_core.proofs.kept.Kept.insert_choose.Goals as goal
-use Rattle.spg_core.proofs.kept.Kept.insert_choose.Goals.{Then-not-branch}
+use Rattle.spg_core.proofs.kept.Kept.insert_choose.Goals.{Then-not-is_spotted}
 
 pub descent_at-descent-requires-clause-insert : goal.descent_at-descent-requires-clause-insert
 descent_at-descent-requires-clause-insert g c = is_insert c.self.inside c.args.self.now c.self.view_is c.args.seat c.deref.result.now c.deref.ensures.value c.requires.inserting
@@ -15,29 +15,32 @@ pub is_spotted-requires : goal.is_spotted-requires
 is_spotted-requires g c = record { can = may_step g.O.OpClass.meaning g.O.OpClass.codes c.self.inside c.self.invariant.0 c.args.seat c.descent_at-descent.result.now c.deref.result.now c.deref.ensures.value c.descent_at-descent.ensures }
 
 -- a look would not give the copy
-no_copy : (g : Over) (c : Then-not-branch g) → IsSpotted c.args.self.now c.args.seat c.args.chosen.now → ⊥
-no_copy g c is = false≢true (sym c.if-not-branch.true ∙ c.in_ok-is_spotted.ensures.1 (spotted_kept c.self.inside c.args.self.now c.self.view_is c.args.seat c.descent_at-descent.result.now c.deref.result.now c.deref.ensures.value c.descent_at-descent.ensures c.args.chosen.now is))
+no_copy : (g : Over) (c : Then-not-is_spotted g) → IsSpotted c.args.self.now c.args.seat c.args.chosen.now → ⊥
+no_copy g c is = false≢true (sym c.if-not-is_spotted.true ∙ c.is_spotted.ensures.1 (spotted_kept c.self.inside c.args.self.now c.self.view_is c.args.seat c.descent_at-descent.result.now c.deref.result.now c.deref.ensures.value c.descent_at-descent.ensures c.args.chosen.now is))
 
-pub returns-then-not-branch-clause-changed : goal.returns-then-not-branch-clause-changed
-returns-then-not-branch-clause-changed g c = λ h is. no_copy g c is
+pub returns-then-not-is_spotted-clause-changed : goal.returns-then-not-is_spotted-clause-changed
+returns-then-not-is_spotted-clause-changed g c = (λ h is. no_copy g c is, λ h. refl)
 
-pub returns-then-not-branch-clause-clock_first : goal.returns-then-not-branch-clause-clock_first
-returns-then-not-branch-clause-clock_first g c = λ is ticks last. absurd (no_copy g c is)
+pub returns-then-not-is_spotted-clause-clock_first : goal.returns-then-not-is_spotted-clause-clock_first
+returns-then-not-is_spotted-clause-clock_first g c = λ is ticks last. absurd (no_copy g c is)
 
-pub returns-then-not-branch-clause-no_page : goal.returns-then-not-branch-clause-no_page
-returns-then-not-branch-clause-no_page g c = λ is none apart. absurd (no_copy g c is)
+pub returns-then-not-is_spotted-clause-no_page : goal.returns-then-not-is_spotted-clause-no_page
+returns-then-not-is_spotted-clause-no_page g c = λ is none apart. absurd (no_copy g c is)
 
 pub apply-requires-clause-guided : goal.apply-requires-clause-guided
 apply-requires-clause-guided g c =
     guide_seen c.self.inside c.args.self.now c.self.view_is c.args.seat c.descent_at-descent.result.now c.deref.result.now c.deref.ensures.value c.descent_at-descent.ensures g.O.OpClass.meaning (guides.Chosen c.args.chosen)
-    (c.in_ok-is_spotted.ensures.0 c.if-not-branch.false)
+    (c.is_spotted.ensures.0 c.if-not-is_spotted.false)
 
 pub returns-clause-ok : goal.returns-clause-ok
 returns-clause-ok g c =
-    ok_with (IsSpotted c.args.self.now c.args.seat c.args.chosen.now) (λ out. StepsInsert g.O.OpClass.meaning c.args.self.now c.apply.new.self c.args.seat out) c.apply.result (spotted_seen c.self.inside c.args.self.now c.self.view_is c.args.seat c.descent_at-descent.result.now c.deref.result.now c.deref.ensures.value c.descent_at-descent.ensures c.args.chosen.now (c.in_ok-is_spotted.ensures.0 c.if-not-branch.false)) c.apply.ensures.ok
+    ok_with (IsSpotted c.args.self.now c.args.seat c.args.chosen.now) (λ out. StepsInsert g.O.OpClass.meaning c.args.self.now c.apply.new.self c.args.seat out) c.apply.result (spotted_seen c.self.inside c.args.self.now c.self.view_is c.args.seat c.descent_at-descent.result.now c.deref.result.now c.deref.ensures.value c.descent_at-descent.ensures c.args.chosen.now (c.is_spotted.ensures.0 c.if-not-is_spotted.false)) c.apply.ensures.ok
 
 pub returns-clause-full : goal.returns-clause-full
-returns-clause-full g c = λ h. (spotted_seen c.self.inside c.args.self.now c.self.view_is c.args.seat c.descent_at-descent.result.now c.deref.result.now c.deref.ensures.value c.descent_at-descent.ensures c.args.chosen.now (c.in_ok-is_spotted.ensures.0 c.if-not-branch.false), (c.apply.ensures.full h).0, (c.apply.ensures.full h).1)
+returns-clause-full g c = λ h. (spotted_seen c.self.inside c.args.self.now c.self.view_is c.args.seat c.descent_at-descent.result.now c.deref.result.now c.deref.ensures.value c.descent_at-descent.ensures c.args.chosen.now (c.is_spotted.ensures.0 c.if-not-is_spotted.false), (c.apply.ensures.full h).0, (c.apply.ensures.full h).1)
 
 pub returns-clause-clock : goal.returns-clause-clock
-returns-clause-clock g c = λ h. (spotted_seen c.self.inside c.args.self.now c.self.view_is c.args.seat c.descent_at-descent.result.now c.deref.result.now c.deref.ensures.value c.descent_at-descent.ensures c.args.chosen.now (c.in_ok-is_spotted.ensures.0 c.if-not-branch.false), (c.apply.ensures.clock h).0, (c.apply.ensures.clock h).1)
+returns-clause-clock g c = λ h. (spotted_seen c.self.inside c.args.self.now c.self.view_is c.args.seat c.descent_at-descent.result.now c.deref.result.now c.deref.ensures.value c.descent_at-descent.ensures c.args.chosen.now (c.is_spotted.ensures.0 c.if-not-is_spotted.false), (c.apply.ensures.clock h).0, (c.apply.ensures.clock h).1)
+
+pub returns-clause-changed : goal.returns-clause-changed
+returns-clause-changed g c = (λ h. absurd (c.apply.ensures.unchanged h), λ no. absurd (no (spotted_seen c.self.inside c.args.self.now c.self.view_is c.args.seat c.descent_at-descent.result.now c.deref.result.now c.deref.ensures.value c.descent_at-descent.ensures c.args.chosen.now (c.is_spotted.ensures.0 c.if-not-is_spotted.false))))

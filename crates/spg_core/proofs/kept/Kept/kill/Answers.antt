@@ -11,8 +11,8 @@ use Rattle.spg_core.specs.Stage as stages
 use Rattle.spg_core.specs.Seen.{untouched}
 use Rattle.spg_core.specs.Kept.{IsState}
 use Rattle.spg_core.proofs.Slots.{seen_as, stage_is, past_is, table_is}
-use Rattle.spg_core.proofs.Steps.{with_all, with_fields, kept_with, kept_later}
-use Rattle.spg_core.proofs.Opens.{kills, killed_seen}
+use Rattle.spg_core.proofs.Steps.{with_all, with_fields, kept_with, kept_later, on_err}
+use Rattle.spg_core.proofs.Opens.{live_there, kills, killed_seen}
 use Rattle.spg_core.proofs.Bounding.{same_bounded, quiet_bounded}
 use Rattle.spg_core.specs.Sections.{KillsRow}
 use Rattle.spg_core.proofs.kept.Kept.kill.Given.{Over}
@@ -24,6 +24,12 @@ returns-then-not-is_live-clause-ok g c =
     let s = c.self.inside in
     let past = past_is s c.args.self.now c.self.view_is 0 in
     (λ live. false≢true (sym c.if-not-is_live.true ∙ c.is_live.ensures.1 (c.state.ensures ∙ c.self.invariant.0.tells.states c.args.row ∙ sym (ap (state_of c.args.row) past) ∙ live)), refl)
+
+pub returns-in_err-reserve-clause-live : goal.returns-in_err-reserve-clause-live
+returns-in_err-reserve-clause-live g c = on_err c.from_residual.result (live_there g.O.OpClass.meaning c.self.inside c.self.invariant.0 c.args.seat c.args.self.now c.self.view_is c.args.row (sym c.state.ensures ∙ c.is_live.ensures.0 c.if-not-is_live.false))
+
+pub returns-in_err-add-clause-live : goal.returns-in_err-add-clause-live
+returns-in_err-add-clause-live g c = on_err c.from_residual-in_err-add.result (live_there g.O.OpClass.meaning c.self.inside c.self.invariant.0 c.args.seat c.args.self.now c.self.view_is c.args.row (sym c.state.ensures ∙ c.is_live.ensures.0 c.if-not-is_live.false))
 
 pub kill-requires : goal.kill-requires
 kill-requires g c = sym c.state.ensures ∙ c.is_live.ensures.0 c.if-not-is_live.false

@@ -40,7 +40,7 @@ returns-clause-did g c =
     c.enter-held.ensures.view c.state_mut.ensures.value c.seat-seat.ensures c.enter-held.ensures.watched adds c.leave-going.ensures.told in
     let past = section_past v (held_view c.enter-held.result) w (held_state c.enter-held.result) old new c.leave-going.result.1 _ c.enter-held.ensures.view c.state_mut.ensures.value adds c.leave-going.ensures.seen c.leave-going.ensures.span in
     let legal : IsLegal (past_of old) = subst (λ s. IsLegal (past_of s)) (c.state.ensures ∙ sym c.state_mut.ensures.value) c.journal.ensures.right.legal in
-    rw c.kill_answer.ensures (killed m v w old new c.seat-seat.result c.args.row c.leave-going.result.1 r told legal past c.kill-killed.ensures.ok)
+    rw c.kill_answer.ensures (killed m v w old new c.seat-seat.result c.args.row c.leave-going.result.1 r told legal past c.kill-killed.ensures.ok c.kill-killed.ensures.live)
 
 pub returns-clause-free : goal.returns-clause-free
 returns-clause-free g c =

@@ -1,5 +1,5 @@
 ghost use Rattle.std.specs.Prelude.{◌≡◌};
-ghost use Rattle.spg_app.specs.Reasons.{reason_name};
+ghost use Rattle.spg_verify.specs.Reasons.{reason_name};
 
 use spg_clauses::Reason;
 

@@ -3,6 +3,7 @@ use Rattle.std.specs.Prelude.{ℕ, List, codes}
 use Rattle.spg_clauses.specs.declared.reason.Reason.{Reason}
 use Rattle.spg_clauses.specs.declared.reason.Reason.TheVariants as reasons
 
+-- the name of a clause, as it is printed
 abbrev pub reason_name : Reason → List ℕ
 reason_name reasons.Missing = codes "missing"
 reason_name reasons.Length = codes "length"
