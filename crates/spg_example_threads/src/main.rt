@@ -97,7 +97,7 @@ fn run<R: AllocGlobal + Threads + Wait + Sync>(
     rt: &R,
     lanes: &mut [Lane<Quad, Work>],
 ) -> Result<Index<Quad>, Memory>
-    requires { (0 < length lanes.old) × (length lanes.old ≤ 63) }
+    requires { (0 < length lanes.old) × (length lanes.old ≤ 64) }
 {
     let index = Index::new(rt.alloc(), Quad, DEFAULT_LIMIT)?;
     match share(rt, index, lanes) {

@@ -1,4 +1,4 @@
-//! Tests of an index that threads share: what each call tells, the journal that comes of five threads, 63
+//! Tests of an index that threads share: what each call tells, the journal that comes of five threads, 64
 //! seats that each do every call, and a class that answers one thread only once another has gone on.
 #![tactic(auto)]
 

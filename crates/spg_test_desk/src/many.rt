@@ -17,8 +17,8 @@ use std::sync::Wait;
 use std::test::Fail;
 use std::thread::Threads;
 
-/// How many seats share an index beside the one that shares it.
-const SEATS: u16 = 63;
+/// How many seats share an index.
+const SEATS: u16 = 64;
 
 /// A seat's number, how many calls it made, and how many of them did what they were to do.
 #[derive(Drop)]
@@ -139,7 +139,7 @@ impl Task<Quad> for Each {
 
 /// A lane for each seat.
 fn lanes(alloc: Global) -> Result<Vec<Lane<Quad, Each>>, Memory>
-    ensures { IfOk result (λ lanes. vec_len lanes ≡ 63) }
+    ensures { IfOk result (λ lanes. vec_len lanes ≡ 64) }
 {
     let mut lanes = Vec::new(alloc);
     for number in 0..SEATS {
@@ -166,7 +166,7 @@ fn come<R: AllocGlobal + Threads + Wait + Sync>(
     rt: &R,
     lanes: &mut [Lane<Quad, Each>],
 ) -> Result<(usize, u64), Memory>
-    requires { (0 < length lanes.old) × (length lanes.old ≤ 63) }
+    requires { (0 < length lanes.old) × (length lanes.old ≤ 64) }
 {
     let mut index = run(rt, Index::new(rt.alloc(), Quad, 4096)?, lanes)?;
     let came = look_at(&mut index);
@@ -174,7 +174,7 @@ fn come<R: AllocGlobal + Threads + Wait + Sync>(
     came
 }
 
-/// Each of 63 seats, and the one that shares the index then, does every call, and none is short of memory.
+/// Each of 64 seats does every call, and none is short of memory.
 #[test]
 fn each_seat_does_every_call(rt: HostRuntime) -> Result<(), Fail> {
     let mut lanes = lanes(rt.alloc())?;
@@ -186,6 +186,6 @@ fn each_seat_does_every_call(rt: HostRuntime) -> Result<(), Fail> {
             (each.number, 11, 11)
         );
     }
-    assert_eq!(rt; (found, leaves), (63, 63));
+    assert_eq!(rt; (found, leaves), (64, 64));
     Ok(())
 }

@@ -1,5 +1,7 @@
 //! An index that lanes share, and its journal then.
-ghost use Rattle.std.specs.Prelude.{◌<◌, ◌≤◌, length};
+ghost use Rattle.std.specs.Prelude.{◌<◌, ◌≤◌, ℕ, length, slice_index_or};
+ghost use Rattle.spg_turn.specs.Views.{first_view};
+ghost use Rattle.spg_share.specs.Shares.{start_view};
 
 use spg_base::Memory;
 use spg_opclass::SharedClass;
@@ -15,7 +17,8 @@ pub(crate) fn run<R: AllocGlobal + Threads + Wait + Sync, O: SharedClass, T: Tas
     index: Index<O>,
     lanes: &mut [Lane<O, T>],
 ) -> Result<Index<O>, Memory>
-    requires { (0 < length lanes.old) × (length lanes.old ≤ 63) }
+    requires count { (0 < length lanes.old) × (length lanes.old ≤ 64) }
+    requires ready { (i : ℕ) (d : _) → i < length lanes.old → T.ready (slice_index_or lanes.old i d).task (start_view (first_view index.journal index.origin) (length lanes.old) i) }
 {
     match share(rt, index, lanes) {
         Ok(index) => Ok(index),

@@ -269,7 +269,7 @@ fn come<R: AllocGlobal + Threads + Wait + Sync>(
     rt: &R,
     lanes: &mut [Lane<Quad, Work>],
 ) -> Result<Came, Memory>
-    requires { (0 < length lanes.old) × (length lanes.old ≤ 63) }
+    requires { (0 < length lanes.old) × (length lanes.old ≤ 64) }
 {
     let mut index = run(rt, Index::new(rt.alloc(), Quad, 4096)?, lanes)?;
     let came = look_at(rt.alloc(), &mut index);

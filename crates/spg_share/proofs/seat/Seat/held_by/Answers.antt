@@ -1,8 +1,8 @@
-use Rattle.std.proofs.Common.{◌≡◌, Some, sym, ◌∙◌, subst}
+use Rattle.std.proofs.Common.{sym, ◌∙◌, subst}
 use Rattle.spg_desk.specs.Passes.{view_of}
 use Rattle.spg_desk.specs.Looks.{DidAskHeld}
 use Rattle.spg_share.specs.Seats.{pass_knows}
-use Rattle.spg_share.proofs.Numbers.{same_name, told_number}
+use Rattle.spg_share.proofs.Begun.{same_name, told_begun}
 use Rattle.spg_share.proofs.seat.Seat.held_by.Goals as goal
 
 pub returns-clause-same : goal.returns-clause-same
@@ -12,7 +12,7 @@ returns-clause-same g c =
     let r = c.held_by-pass in
     let q = r.result.0 in
     let a = r.result.1 in
-    same_name c.args.self.now.pass p q (sym c.take.ensures.value ∙ c.in-Some.is) r.ensures.own (told_number m (view_of p) (view_of q) _ _ r.ensures.did.0.told)
+    same_name c.args.self.now.pass p q (sym c.take.ensures.value ∙ c.in-Some.is) r.ensures.own (told_begun m (view_of p) (view_of q) p.going.passed.based _ _ r.ensures.did.0.told)
 
 pub returns-clause-did : goal.returns-clause-did
 returns-clause-did g c =

@@ -1,8 +1,8 @@
-use Rattle.std.proofs.Common.{◌≡◌, Some, sym, ◌∙◌, subst}
+use Rattle.std.proofs.Common.{sym, ◌∙◌, subst}
 use Rattle.spg_desk.specs.Passes.{view_of}
 use Rattle.spg_desk.specs.Answers.{DidInsert}
 use Rattle.spg_share.specs.Seats.{pass_knows}
-use Rattle.spg_share.proofs.Numbers.{same_name, insert_number}
+use Rattle.spg_share.proofs.Begun.{same_name, insert_begun}
 use Rattle.spg_share.proofs.seat.Seat.insert.Goals as goal
 
 pub returns-clause-same : goal.returns-clause-same
@@ -12,7 +12,7 @@ returns-clause-same g c =
     let r = c.insert-pass in
     let q = r.result.0 in
     let a = r.result.1 in
-    same_name c.args.self.now.pass p q (sym c.take.ensures.value ∙ c.in-Some.is) r.ensures.own (insert_number m (view_of p) (view_of q) c.args.row c.args.key a r.ensures.did)
+    same_name c.args.self.now.pass p q (sym c.take.ensures.value ∙ c.in-Some.is) r.ensures.own (insert_begun m (view_of p) (view_of q) p.going.passed.based c.args.row c.args.key a r.ensures.did)
 
 pub returns-clause-did : goal.returns-clause-did
 returns-clause-did g c =

@@ -1,8 +1,8 @@
-use Rattle.std.proofs.Common.{◌≡◌, Some, sym, ◌∙◌, subst}
+use Rattle.std.proofs.Common.{sym, ◌∙◌, subst}
 use Rattle.spg_desk.specs.Passes.{view_of}
 use Rattle.spg_desk.specs.Answers.{DidNear}
 use Rattle.spg_share.specs.Seats.{pass_knows}
-use Rattle.spg_share.proofs.Numbers.{same_name, near_number}
+use Rattle.spg_share.proofs.Begun.{same_name, near_begun}
 use Rattle.spg_share.proofs.seat.Seat.near.Goals as goal
 
 pub returns-clause-same : goal.returns-clause-same
@@ -12,7 +12,7 @@ returns-clause-same g c =
     let r = c.near-pass in
     let q = r.result.0 in
     let a = r.result.1 in
-    same_name c.args.self.now.pass p q (sym c.take.ensures.value ∙ c.in-Some.is) r.ensures.own (near_number m (view_of p) (view_of q) c.args.target c.args.limit a r.ensures.did)
+    same_name c.args.self.now.pass p q (sym c.take.ensures.value ∙ c.in-Some.is) r.ensures.own (near_begun m (view_of p) (view_of q) p.going.passed.based c.args.target c.args.limit a r.ensures.did)
 
 pub returns-clause-did : goal.returns-clause-did
 returns-clause-did g c =

@@ -1,8 +1,8 @@
-use Rattle.std.proofs.Common.{◌≡◌, Some, sym, ◌∙◌, subst}
+use Rattle.std.proofs.Common.{sym, ◌∙◌, subst}
 use Rattle.spg_desk.specs.Passes.{view_of}
 use Rattle.spg_desk.specs.Answers.{DidVacuum}
 use Rattle.spg_share.specs.Seats.{pass_knows}
-use Rattle.spg_share.proofs.Numbers.{same_name, vacuum_number}
+use Rattle.spg_share.proofs.Begun.{same_name, vacuum_begun}
 use Rattle.spg_share.proofs.seat.Seat.vacuum.Goals as goal
 
 pub returns-clause-same : goal.returns-clause-same
@@ -12,7 +12,7 @@ returns-clause-same g c =
     let r = c.vacuum-pass in
     let q = r.result.0 in
     let a = r.result.1 in
-    same_name c.args.self.now.pass p q (sym c.take.ensures.value ∙ c.in-Some.is) r.ensures.own (vacuum_number m (view_of p) (view_of q) a r.ensures.did)
+    same_name c.args.self.now.pass p q (sym c.take.ensures.value ∙ c.in-Some.is) r.ensures.own (vacuum_begun m (view_of p) (view_of q) p.going.passed.based a r.ensures.did)
 
 pub returns-clause-did : goal.returns-clause-did
 returns-clause-did g c =
