@@ -31,7 +31,7 @@ struct Work {
 
 /// How many rows were put, deleted and swept, how many finds and vacuums came to their ends, and how many
 /// calls were refused for want of memory or pages, or as a vacuum was open.
-#[derive(Clone, Copy, Debug, PartialEq, Eq)]
+#[derive(Clone, Copy)]
 struct Done {
     added: u64,
     killed: u64,
@@ -277,22 +277,33 @@ fn come<R: AllocGlobal + Threads + Wait + Sync>(
     came
 }
 
+/// What the lanes did on a new index, and what came of it.
+fn go<R: AllocGlobal + Threads + Wait + Sync>(rt: &R) -> Result<(Done, Came), Memory> {
+    let mut lanes = lanes(rt.alloc())?;
+    let came = come(rt, lanes.as_mut_slice())?;
+    Ok((total(lanes.as_slice()), came))
+}
+
+/// Whether the journal replayed has what the lanes say that they did.
+fn is_told(all: &Done, came: &Came) -> bool {
+    match &came.replayed {
+        Some(replayed) => {
+            (replayed.vacuums as u64, replayed.swept) == (all.vacuums, all.swept)
+                && came.events == events(*all)
+        }
+        None => false,
+    }
+}
+
 /// Four lanes insert, look and delete, and a fifth vacuums. What they did is in the journal and nothing else:
 /// replayed over a plain list, each find gave each row once that it had to give and none that it might not,
 /// each vacuum swept all rows that were deleted before it opened, and no row was used again before its time.
 #[test]
 fn five_lanes_leave_a_right_journal(rt: HostRuntime) -> Result<(), Fail> {
-    let mut lanes = lanes(rt.alloc())?;
-    let came = come(&rt, lanes.as_mut_slice())?;
-    let all = total(lanes.as_slice());
-    assert_eq!(rt; (all.finds, all.vacuums, all.refused), (200, 20, 0));
+    let (all, came) = go(&rt)?;
+    assert!(rt; (all.finds, all.vacuums, all.refused) == (200, 20, 0));
     assert!(rt; all.added >= 800 && all.killed >= 300 && came.divided);
-    assert_eq!(rt; came.events, events(all));
-    assert_eq!(rt; came.left as u64, all.added.saturating_sub(all.killed));
-    let replayed = came.replayed.ok_or(Memory)?;
-    assert_eq!(rt;
-        (replayed.vacuums as u64, replayed.swept),
-        (all.vacuums, all.swept)
-    );
+    assert!(rt; came.left as u64 == all.added.saturating_sub(all.killed));
+    assert!(rt; is_told(&all, &came));
     Ok(())
 }

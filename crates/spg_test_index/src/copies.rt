@@ -164,13 +164,34 @@ fn chosen_at_root(
     }
 }
 
-/// Whether an answer is taken, or else refused as one for another copy.
-fn is_taken(bare: &mut Bare<Quad>, chosen: &Option<Chosen<Quad>>) -> Option<bool> {
-    match choose(bare, chosen) {
-        Some(Ok(InsertOut::Descended)) => Some(true),
-        Some(Err(ApplyRefused::Changed)) => Some(false),
-        _ => None,
+fn went_down(out: &InsertOut) -> Option<bool> {
+    if *out == InsertOut::Descended {
+        Some(true)
+    } else {
+        None
     }
+}
+
+fn was_changed(why: &ApplyRefused) -> Option<bool> {
+    if *why == ApplyRefused::Changed {
+        Some(false)
+    } else {
+        None
+    }
+}
+
+/// Whether an answer was taken, or else refused as one for another copy.
+fn told(came: &Option<Result<InsertOut, ApplyRefused>>) -> Option<bool> {
+    match came {
+        Some(Ok(out)) => went_down(out),
+        Some(Err(why)) => was_changed(why),
+        None => None,
+    }
+}
+
+/// What comes of an answer.
+fn is_taken(bare: &mut Bare<Quad>, chosen: &Option<Chosen<Quad>>) -> Option<bool> {
+    told(&choose(bare, chosen))
 }
 
 /// What was chosen for an insert that is given up.

@@ -2,20 +2,13 @@ use crate::cases::{CASES, Case};
 use crate::others::Others;
 use crate::turns::{Turn, take_turn};
 use spg_among::{NearOut, near_among};
-use spg_base::{Memory, Point, SeatNo, Stat};
+use spg_base::{Memory, Point, SeatNo};
 use spg_core::{OpenKind, State};
 use spg_kd::Kd;
 use spg_near::{NearClass, NearRow};
 use spg_quad::Quad;
 use std::alloc::Global;
 use std::test::Fail;
-
-/// What came of a search, and what stood on the pages then.
-#[derive(Debug, Drop)]
-struct Came {
-    out: NearOut,
-    stat: Stat,
-}
 
 /// Searches by seat 0, where it has nothing open.
 pub(crate) fn search<O: NearClass>(
@@ -47,23 +40,19 @@ pub(crate) fn take_turns<O: NearClass>(state: &mut State<O>, by: SeatNo, turns: 
     true
 }
 
-/// Does what a case says in a new index. None where another seat's turn could not be done.
-fn run<O: NearClass>(alloc: Global, class: O, case: &Case) -> Result<Option<Came>, Memory> {
-    let Some(by) = SeatNo::new(1) else {
-        return Ok(None);
-    };
-    let mut state = State::new(alloc, class, 65536)?;
-    if !take_turns(&mut state, by, case.before) {
+/// Does what a case says. None where another seat's turn could not be done.
+fn go<O: NearClass>(
+    alloc: Global,
+    state: &mut State<O>,
+    by: SeatNo,
+    case: &Case,
+) -> Result<Option<NearOut>, Memory> {
+    if !take_turns(state, by, case.before) {
         return Ok(None);
     }
     let mut others = Others::new(by, case.between);
-    match search(alloc, &mut state, case.target, case.limit, &mut others)? {
-        Some(out) if others.is_done() => Ok(Some(Came {
-            out,
-            stat: state.stat(),
-        })),
-        _ => Ok(None),
-    }
+    let out = search(alloc, state, case.target, case.limit, &mut others)?;
+    Ok(if others.is_done() { out } else { None })
 }
 
 /// Whether these rows begin with those.
@@ -79,29 +68,35 @@ fn begin_with(rows: &[NearRow], first: &[(u16, u128)]) -> bool {
 }
 
 /// Whether the search gave what it had to.
-fn is_given(out: &NearOut, case: &Case) -> bool {
+fn is_given(out: &Option<NearOut>, case: &Case) -> bool {
     match (out, case.count) {
-        (NearOut::Near { rows, .. }, Some(count)) => {
+        (Some(NearOut::Near { rows, .. }), Some(count)) => {
             rows.len() == count && begin_with(rows.as_slice(), case.rows)
         }
-        (NearOut::Latched { by, .. }, None) => by.number() == 1,
+        (Some(NearOut::Latched { by, .. }), None) => by.number() == 1,
         _ => false,
     }
 }
 
-/// Whether the case came out as it says.
-fn is_right(came: &Option<Came>, case: &Case, stats: (u64, u64)) -> bool {
-    match came {
-        Some(came) => is_given(&came.out, case) && (came.stat.inner, came.stat.redirect) == stats,
-        None => false,
-    }
+/// Whether the case comes out as it says in a new index.
+fn is_right<O: NearClass>(
+    alloc: Global,
+    class: O,
+    case: &Case,
+    stats: (u64, u64),
+) -> Result<bool, Memory> {
+    let by = SeatNo::new(1).unwrap_or(SeatNo::first());
+    let mut state = State::new(alloc, class, 65536)?;
+    let out = go(alloc, &mut state, by, case)?;
+    let stat = state.stat();
+    Ok((stat.inner, stat.redirect) == stats && is_given(&out, case))
 }
 
 #[test]
 fn gives_the_nearest_whatever_others_do(rt: HostRuntime) -> Result<(), Fail> {
-    for case in &CASES {
-        assert!(rt; is_right(&run(rt.alloc(), Quad, case)?, case, case.quad));
-        assert!(rt; is_right(&run(rt.alloc(), Kd, case)?, case, case.kd));
+    for (row, case) in CASES.iter().enumerate() {
+        assert!(rt; is_right(rt.alloc(), Quad, case, case.quad)?, "row {row}");
+        assert!(rt; is_right(rt.alloc(), Kd, case, case.kd)?, "row {row}");
     }
     Ok(())
 }

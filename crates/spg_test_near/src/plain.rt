@@ -43,9 +43,9 @@ fn filled<O: NearClass>(
     draw: &mut Draw,
 ) -> Result<Option<Vec<Point>>, Memory> {
     let mut points = Vec::new(alloc);
+    let mut all = true;
     for row in 1..1_001 {
-        let point = draw.point();
-        let (x, y) = (point.x, point.y);
+        let Point { x, y } = draw.point();
         let turn = Turn::Insert {
             row,
             x,
@@ -53,12 +53,10 @@ fn filled<O: NearClass>(
             by: 0,
             count: 1,
         };
-        if !take_turn(state, SeatNo::first(), turn) {
-            return Ok(None);
-        }
-        points.push(point)?;
+        all = all && take_turn(state, SeatNo::first(), turn);
+        points.push(Point { x, y })?;
     }
-    Ok(Some(points))
+    Ok(if all { Some(points) } else { None })
 }
 
 /// All rows by distance, then by row, as a plain list.
@@ -82,25 +80,45 @@ fn are_first(rows: &[NearRow], all: &[NearRow], limit: u16) -> bool {
         && rows.iter().zip(all.iter()).all(|(a, b)| a == b)
 }
 
+/// Whether a search gives the first of the plain list.
+fn gives_first<O: NearClass>(
+    alloc: Global,
+    state: &mut State<O>,
+    target: Point,
+    limit: u16,
+    all: &[NearRow],
+) -> Result<bool, Memory> {
+    let mut others = Others::new(SeatNo::first(), &[]);
+    match search(alloc, state, target, limit, &mut others)? {
+        Some(NearOut::Near { rows, .. }) => Ok(are_first(rows.as_slice(), all, limit)),
+        _ => Ok(false),
+    }
+}
+
 /// Whether searches from points that are drawn give the first of the plain list.
-fn is_like_the_list<O: NearClass>(alloc: Global, class: O) -> Result<bool, Memory> {
-    let mut state = State::new(alloc, class, 65536)?;
-    let mut draw = Draw { last: 11 };
-    let Some(points) = filled(alloc, &mut state, &mut draw)? else {
-        return Ok(false);
-    };
+fn are_alike<O: NearClass>(
+    alloc: Global,
+    state: &mut State<O>,
+    draw: &mut Draw,
+    points: &[Point],
+) -> Result<bool, Memory> {
+    let mut alike = true;
     for _ in 0..40 {
         let target = draw.point();
         let limit = u16::from(draw.next()) + 1;
-        let all = sorted(alloc, points.as_slice(), target)?;
-        let mut others = Others::new(SeatNo::first(), &[]);
-        match search(alloc, &mut state, target, limit, &mut others)? {
-            Some(NearOut::Near { rows, .. }) if are_first(rows.as_slice(), all.as_slice(), limit) =>
-                {}
-            _ => return Ok(false),
-        }
+        let all = sorted(alloc, points, target)?;
+        alike = alike && gives_first(alloc, state, target, limit, all.as_slice())?;
     }
-    Ok(true)
+    Ok(alike)
+}
+
+fn is_like_the_list<O: NearClass>(alloc: Global, class: O) -> Result<bool, Memory> {
+    let mut state = State::new(alloc, class, 65536)?;
+    let mut draw = Draw { last: 11 };
+    match filled(alloc, &mut state, &mut draw)? {
+        Some(points) => are_alike(alloc, &mut state, &mut draw, points.as_slice()),
+        None => Ok(false),
+    }
 }
 
 #[test]

@@ -1,10 +1,9 @@
-use crate::images::{Asked, asks};
-use crate::program::{Fails, Open, assert_ended, no_fails, ran, ran_over};
+use crate::images::{Asked, all_asked};
+use crate::program::{Fails, ends, push_insert, writes};
 use spg_app::Status;
-use spg_base::List;
+use spg_base::{List, Memory};
 use spg_io::FaultyImages;
 use std::alloc::{AllocError, Global};
-use std::process::Abort;
 use std::sync::Wait;
 use std::test::Fail;
 use std::thread::Threads;
@@ -64,10 +63,7 @@ const TOWN: [Asked; 8] = [
 
 #[test]
 fn builds_a_town(rt: HostRuntime) -> Result<(), Fail> {
-    let mut images = FaultyImages::new(rt.alloc(), List::new(rt.alloc()));
-    for asked in &TOWN {
-        asks(&rt, &mut images, asked)?;
-    }
+    assert!(rt; all_asked(&rt, &TOWN)?);
     Ok(())
 }
 
@@ -88,34 +84,42 @@ const SIZES: [(u32, &str, &str); 2] = [
 /// A class line, and rows 1.1, 1.2 and so on with the points 1,0 2,0 and so on.
 fn points(alloc: Global, count: u32) -> Result<String, AllocError> {
     let mut script = String::from_str(alloc, "class quad\n")?;
-    for i in 1..=count {
-        let line = format!(in alloc; "insert 1.{i} {i},0\n")?;
-        script.push_str(line.as_str())?;
+    for number in 1..=count {
+        push_insert(alloc, &mut script, "N,0", number)?;
     }
     Ok(script)
 }
 
-/// Compares what a line of words writes over the images.
-fn writes<R: AllocGlobal + Threads + Wait + Sync + Abort>(
+/// Whether an index of so many points is built and checked with these lines.
+fn builds_line<R: AllocGlobal + Threads + Wait + Sync>(
     rt: &R,
     images: &mut FaultyImages,
-    words: &[&str],
-    script: &str,
-    line: &str,
-) -> Result<(), Fail> {
-    let (status, wrote) = ran_over(rt, words, script.as_bytes(), no_fails(), images, &Open)?;
-    assert_eq!(rt; (status, wrote.as_slice()), (Status::Done, line.as_bytes()));
-    Ok(())
+    size: &(u32, &str, &str),
+) -> Result<bool, Memory> {
+    let (count, built, checked) = *size;
+    let script = points(rt.alloc(), count)?;
+    let built = (Status::Done, built.as_bytes());
+    let checked = (Status::Done, checked.as_bytes());
+    Ok(
+        writes(rt, &["build", "line"], script.as_bytes(), images, built)?
+            && writes(rt, &["check", "line"], b"", images, checked)?,
+    )
+}
+
+/// The same for each of the sizes, over the same images.
+fn builds_lines<R: AllocGlobal + Threads + Wait + Sync>(rt: &R) -> Result<bool, Memory> {
+    let mut images = FaultyImages::new(rt.alloc(), List::new(rt.alloc()));
+    for size in &SIZES {
+        if !builds_line(rt, &mut images, size)? {
+            return Ok(false);
+        }
+    }
+    Ok(true)
 }
 
 #[test]
 fn builds_one_page_and_more(rt: HostRuntime) -> Result<(), Fail> {
-    let mut images = FaultyImages::new(rt.alloc(), List::new(rt.alloc()));
-    for (count, built, checked) in &SIZES {
-        let script = points(rt.alloc(), *count)?;
-        writes(&rt, &mut images, &["build", "line"], script.as_str(), built)?;
-        writes(&rt, &mut images, &["check", "line"], "", checked)?;
-    }
+    assert!(rt; builds_lines(&rt)?);
     Ok(())
 }
 
@@ -130,15 +134,10 @@ const FAULTS: [(u64, u64, u64, Status); 5] = [
 
 #[test]
 fn tells_failing_builds(rt: HostRuntime) -> Result<(), Fail> {
+    let script = b"class quad\ninsert 1.1 3,4\n";
     for (read, write, image, status) in FAULTS {
         let fails = Fails { read, write, image };
-        let ended = ran(
-            &rt,
-            &["build", "town"],
-            b"class quad\ninsert 1.1 3,4\n",
-            fails,
-        )?;
-        assert_ended(&rt, &ended, status, b"")?;
+        assert!(rt; ends(&rt, &["build", "town"], script, fails, (status, b""))?);
     }
     Ok(())
 }

@@ -1,10 +1,9 @@
-use crate::faults::town;
-use crate::program::{Ended, Fails, Open, no_fails, ran_over};
-use spg_app::last_words;
-use spg_base::{Bytes, List};
+use crate::faults::town_images;
+use crate::program::{Fails, Open, no_fails, ran_over};
+use spg_app::{Status, last_words};
+use spg_base::{Bytes, List, Memory};
 use spg_io::FaultyImages;
 use std::alloc::Global;
-use std::process::Abort;
 use std::sync::Wait;
 use std::test::Fail;
 use std::thread::Threads;
@@ -78,53 +77,65 @@ fn put(image: &mut [u8; 4 * PAGE], runs: &[Run]) {
 }
 
 /// The image of four pages with these runs.
-fn image_of(alloc: Global, runs: &[Run]) -> Result<Bytes, Fail> {
+fn image_of(alloc: Global, runs: &[Run]) -> Result<Bytes, Memory> {
     let mut image = [0; 4 * PAGE];
     put(&mut image, &FOUR);
     put(&mut image, runs);
-    Ok(Bytes::copy(alloc, &image)?)
+    Bytes::copy(alloc, &image)
 }
 
-/// Checks the image of a name, and compares what is told.
-fn is_told<R: AllocGlobal + Threads + Wait + Sync + Abort>(
+/// Whether that is the line on standard error.
+fn is_last(status: Status, told: Told) -> bool {
+    let last = last_words(status, Ok(()));
+    let (words, block, reason, _) = told;
+    (last.words, last.number, last.reason) == (words, block, reason)
+}
+
+/// Whether a check of the image of a name tells this.
+fn is_told<R: AllocGlobal + Threads + Wait + Sync>(
     rt: &R,
     images: &mut FaultyImages,
     name: &str,
     told: Told,
-) -> Result<(), Fail> {
+) -> Result<bool, Memory> {
     let (status, text) = ran_over(rt, &["check", name], b"", no_fails(), images, &Open)?;
-    let last = last_words(status, Ok(()));
-    let (words, block, reason, wrote) = told;
-    assert_eq!(rt;
-        (last.words, last.number, last.reason),
-        (words, block, reason)
-    );
-    assert_eq!(rt; text.as_slice(), wrote.as_bytes());
-    Ok(())
+    Ok(is_last(status, told) && text.as_slice() == told.3.as_bytes())
 }
 
-/// Puts the image without its last byte under another name.
-fn cut_off(alloc: Global, images: &mut FaultyImages) -> Result<(), Fail> {
-    let cut = match images.bytes("town") {
-        Some([front @ .., _]) => Bytes::copy(alloc, front)?,
-        _ => Bytes::new(alloc),
-    };
-    images.set("cut", cut)?;
-    Ok(())
+/// A copy of the image without its last byte.
+fn shorter(alloc: Global, images: &FaultyImages) -> Result<Bytes, Memory> {
+    match images.bytes("town") {
+        Some([front @ .., _]) => Bytes::copy(alloc, front),
+        _ => Ok(Bytes::new(alloc)),
+    }
+}
+
+/// Puts that under another name.
+fn cut_off(alloc: Global, images: &mut FaultyImages) -> Result<(), Memory> {
+    let cut = shorter(alloc, images)?;
+    images.set("cut", cut)
+}
+
+/// Whether each of these names is told so, the image of one of which is cut off.
+fn are_told<R: AllocGlobal + Threads + Wait + Sync>(
+    rt: &R,
+    images: &mut FaultyImages,
+) -> Result<bool, Memory> {
+    let missing = ("bad image", Some(0), "missing", "");
+    cut_off(rt.alloc(), images)?;
+    for (name, told) in [("town", SOUND), ("cut", CUT_OFF), ("ely", missing)] {
+        if !is_told(rt, images, name, told)? {
+            return Ok(false);
+        }
+    }
+    Ok(true)
 }
 
 #[test]
 fn checks_a_town(rt: HostRuntime) -> Result<(), Fail> {
-    let Ended { mut images, .. } = town(&rt, no_fails())?;
-    is_told(&rt, &mut images, "town", SOUND)?;
-    cut_off(rt.alloc(), &mut images)?;
-    is_told(&rt, &mut images, "cut", CUT_OFF)?;
-    is_told(
-        &rt,
-        &mut images,
-        "ely",
-        ("bad image", Some(0), "missing", ""),
-    )
+    let mut images = town_images(&rt, no_fails())?;
+    assert!(rt; are_told(&rt, &mut images)?);
+    Ok(())
 }
 
 /// The images fail at the second put.
@@ -134,16 +145,27 @@ fn checks_what_a_fault_left(rt: HostRuntime) -> Result<(), Fail> {
         image: 3,
         ..no_fails()
     };
-    let Ended { mut images, .. } = town(&rt, fails)?;
-    is_told(&rt, &mut images, "town", CUT_OFF)
+    let mut images = town_images(&rt, fails)?;
+    assert!(rt; is_told(&rt, &mut images, "town", CUT_OFF)?);
+    Ok(())
+}
+
+/// Whether a check of an image of these runs tells that.
+fn is_ill<R: AllocGlobal + Threads + Wait + Sync>(
+    rt: &R,
+    runs: &[Run],
+    told: Told,
+) -> Result<bool, Memory> {
+    let image = image_of(rt.alloc(), runs)?;
+    let mut images = FaultyImages::new(rt.alloc(), List::new(rt.alloc()));
+    images.set("town", image)?;
+    is_told(rt, &mut images, "town", told)
 }
 
 #[test]
 fn checks_ill_images(rt: HostRuntime) -> Result<(), Fail> {
     for (runs, told) in &ILL {
-        let mut images = FaultyImages::new(rt.alloc(), List::new(rt.alloc()));
-        images.set("town", image_of(rt.alloc(), runs)?)?;
-        is_told(&rt, &mut images, "town", *told)?;
+        assert!(rt; is_ill(&rt, runs, *told)?);
     }
     Ok(())
 }

@@ -1,6 +1,6 @@
-use crate::program::{assert_run, joined, run_word};
+use crate::program::{ends, joined, no_fails, run_word};
 use spg_app::Status;
-use std::process::Abort;
+use spg_base::Memory;
 use std::sync::Wait;
 use std::test::Fail;
 use std::thread::Threads;
@@ -207,27 +207,19 @@ const EVERY: [Run; 2] = [
     ),
 ];
 
-/// Runs the program on a script of these lines, and compares the lines that it prints.
-fn prints<R: AllocGlobal + Threads + Wait + Sync + Abort>(
-    rt: &R,
-    script: &[&str],
-    text: &[&str],
-) -> Result<(), Fail> {
+/// Whether the run of a script prints its lines.
+fn prints<R: AllocGlobal + Threads + Wait + Sync>(rt: &R, run: &Run) -> Result<bool, Memory> {
+    let (script, text) = *run;
     let script = joined(rt.alloc(), script)?;
     let text = joined(rt.alloc(), text)?;
-    assert_run(
-        rt,
-        &run_word(),
-        script.as_bytes(),
-        Status::Done,
-        text.as_bytes(),
-    )
+    let wanted = (Status::Done, text.as_bytes());
+    ends(rt, &run_word(), script.as_bytes(), no_fails(), wanted)
 }
 
 #[test]
 fn does_every_kind_of_line(rt: HostRuntime) -> Result<(), Fail> {
-    for (script, text) in &EVERY {
-        prints(&rt, script, text)?;
+    for run in &EVERY {
+        assert!(rt; prints(&rt, run)?);
     }
     Ok(())
 }
@@ -362,8 +354,8 @@ const AGAIN: [Run; 3] = [
 
 #[test]
 fn tells_used_rows(rt: HostRuntime) -> Result<(), Fail> {
-    for (script, text) in &AGAIN {
-        prints(&rt, script, text)?;
+    for run in &AGAIN {
+        assert!(rt; prints(&rt, run)?);
     }
     Ok(())
 }

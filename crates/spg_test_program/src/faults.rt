@@ -1,6 +1,8 @@
-use crate::program::{Ended, Fails, assert_ended, no_fails, ran, run_word};
+use crate::program::{Ended, Fails, ends, no_fails, ran, run_word};
 use spg_app::Status;
-use std::process::Abort;
+use spg_base::Memory;
+use spg_io::FaultyImages;
+use std::alloc::{AllocError, Global};
 use std::sync::Wait;
 use std::test::Fail;
 use std::thread::Threads;
@@ -22,45 +24,55 @@ const FAULT: &[u8] = b"10 18 18 image fault\n";
 const BEHIND: &[u8] =
     b"journal 18\n0 0 open insert 0.1 \"12 High Street, Oxford\"\n1 0 put 0.1\n2 0 open insert 0.2 \"14 High Street, Oxford\"\n3 0 put 0.2\n4 0 open insert 0.3 \"3 Mill Lane, Ely\"\n5 0 put 0.3\n6 0 open insert 0.4 null\n7 0 put 0.4\n8 0 open scan where starts \"1\"\n9 0 close scan 2\n10 0 kill 0.2\n11 0 open scan where starts \"1\"\n12 0 close scan 1\n13 0 open vacuum\n14 0 sweep 0.2\n15 0 close vacuum 1\n16 0 open scan all\n17 0 close scan 3\n";
 
-pub(crate) fn town<R: AllocGlobal + Threads + Wait + Sync>(
-    rt: &R,
-    fails: Fails,
-) -> Result<Ended, Fail> {
+fn town<R: AllocGlobal + Threads + Wait + Sync>(rt: &R, fails: Fails) -> Result<Ended, Memory> {
     ran(rt, &run_word(), TOWN, fails)
 }
 
+/// The images after a town's run of which these calls fail.
+pub(crate) fn town_images<R: AllocGlobal + Threads + Wait + Sync>(
+    rt: &R,
+    fails: Fails,
+) -> Result<FaultyImages, Memory> {
+    let Ended { images, .. } = town(rt, fails)?;
+    Ok(images)
+}
+
 /// The text of the town's run with this result of `save`.
-fn text<R: AllocGlobal>(rt: &R, saved: &[u8]) -> Result<Vec<u8>, Fail> {
-    let mut text = BEFORE.to_vec(rt.alloc())?;
+fn text(alloc: Global, saved: &[u8]) -> Result<Vec<u8>, AllocError> {
+    let mut text = BEFORE.to_vec(alloc)?;
     text.extend_from_slice(saved)?;
     text.extend_from_slice(BEHIND)?;
     Ok(text)
 }
 
-/// Compares how a run ended, what it wrote with this result of `save`, and how many bytes it saved.
-fn ends_so<R: AllocGlobal + Abort>(
+/// Whether a town's run of which these calls fail ends so, and has saved so many bytes, if any.
+fn ends_so<R: AllocGlobal + Threads + Wait + Sync>(
     rt: &R,
-    ended: &Ended,
+    fails: Fails,
+    wanted: (Status, &[u8]),
+    length: Option<usize>,
+) -> Result<bool, Memory> {
+    let ended = town(rt, fails)?;
+    let saved = ended.images.bytes("town").map(|image| image.len());
+    Ok((ended.status, ended.text.as_slice()) == wanted && saved == length)
+}
+
+/// The same, where the text has this result of `save`.
+fn saves_so<R: AllocGlobal + Threads + Wait + Sync>(
+    rt: &R,
+    fails: Fails,
     status: Status,
     saved: &[u8],
     length: Option<usize>,
-) -> Result<(), Fail> {
-    let text = text(rt, saved)?;
-    assert_ended(rt, ended, status, text.as_slice())?;
-    assert_length(rt, ended, length)
-}
-
-/// Compares how many bytes a run saved, if any.
-fn assert_length<R: Abort>(rt: &R, ended: &Ended, length: Option<usize>) -> Result<(), Fail> {
-    let saved = ended.images.bytes("town").map(|image| image.len());
-    assert_eq!(rt; saved, length);
-    Ok(())
+) -> Result<bool, Memory> {
+    let text = text(rt.alloc(), saved)?;
+    ends_so(rt, fails, (status, text.as_slice()), length)
 }
 
 #[test]
 fn saves_a_town(rt: HostRuntime) -> Result<(), Fail> {
-    let ended = town(&rt, no_fails())?;
-    ends_so(&rt, &ended, Status::Done, SAVED, Some(24576))
+    assert!(rt; saves_so(&rt, no_fails(), Status::Done, SAVED, Some(24576))?);
+    Ok(())
 }
 
 /// Each failing write, and how many bytes the lines before it have.
@@ -73,12 +85,8 @@ fn tells_failing_writes(rt: HostRuntime) -> Result<(), Fail> {
             write: call,
             ..no_fails()
         };
-        assert_ended(
-            &rt,
-            &town(&rt, fails)?,
-            Status::WriteFault,
-            &BEFORE[..length],
-        )?;
+        let wanted = (Status::WriteFault, &BEFORE[..length]);
+        assert!(rt; ends(&rt, &run_word(), TOWN, fails, wanted)?);
     }
     Ok(())
 }
@@ -98,7 +106,7 @@ fn tells_failing_images(rt: HostRuntime) -> Result<(), Fail> {
             image: call,
             ..no_fails()
         };
-        ends_so(&rt, &town(&rt, fails)?, Status::ImageFault, FAULT, length)?;
+        assert!(rt; saves_so(&rt, fails, Status::ImageFault, FAULT, length)?);
     }
     Ok(())
 }
@@ -110,9 +118,7 @@ fn tells_failing_reads(rt: HostRuntime) -> Result<(), Fail> {
             read: call,
             ..no_fails()
         };
-        let ended = town(&rt, fails)?;
-        assert_ended(&rt, &ended, Status::ReadFault, b"")?;
-        assert_length(&rt, &ended, None)?;
+        assert!(rt; ends_so(&rt, fails, (Status::ReadFault, b""), None)?);
     }
     Ok(())
 }

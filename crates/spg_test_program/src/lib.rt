@@ -10,6 +10,8 @@ mod every_line;
 #[cfg(test)]
 mod faults;
 #[cfg(test)]
+mod gates;
+#[cfg(test)]
 mod images;
 #[cfg(test)]
 mod lanes;

@@ -1,24 +1,36 @@
-use crate::program::{assert_lines, assert_run, ran_whole, run_word};
+use crate::program::{are_lines, done, ends, no_fails, push_insert, push_numbered, run_word};
 use spg_app::Status;
+use spg_base::Memory;
 use std::alloc::{AllocError, Global};
+use std::sync::Wait;
 use std::test::Fail;
+use std::thread::Threads;
 
 /// Adds so many bytes of a kind.
-fn push_many(script: &mut String, byte: &str, count: usize) -> Result<(), AllocError> {
+pub(crate) fn push_many(script: &mut String, byte: &str, count: usize) -> Result<(), AllocError> {
     for _ in 0..count {
         script.push_str(byte)?;
     }
     Ok(())
 }
 
+/// Puts the insert of a text of `a` of so many bytes.
+fn push_text(
+    alloc: Global,
+    script: &mut String,
+    number: u32,
+    length: usize,
+) -> Result<(), AllocError> {
+    push_numbered(alloc, script, "insert 1.N \"", number)?;
+    push_many(script, "a", length)?;
+    script.push_str("\"\n")
+}
+
 /// Three texts of `a`, the second of so many bytes, the others of 3,900.
 fn long_texts(alloc: Global, second: usize) -> Result<String, AllocError> {
     let mut script = String::from_str(alloc, "class radix\n")?;
     for (number, length) in [(1, 3900), (2, second), (3, 3900)] {
-        let start = format!(in alloc; "insert 1.{number} \"")?;
-        script.push_str(start.as_str())?;
-        push_many(&mut script, "a", length)?;
-        script.push_str("\"\n")?;
+        push_text(alloc, &mut script, number, length)?;
     }
     script.push_str("find all\nstat\n")?;
     Ok(script)
@@ -30,19 +42,32 @@ const LONGEST: [&str; 2] = [
     "5 8 8 stat pages 4 inner 1 leaf 3 redirect 0 dead 0 placeholder 0 clock 0",
 ];
 
+/// Whether a run of a script comes to its end with these lines from a number on.
+fn has_lines<R: AllocGlobal + Threads + Wait + Sync>(
+    rt: &R,
+    script: &str,
+    first: usize,
+    lines: &[&str],
+) -> Result<bool, Memory> {
+    match done(rt, &run_word(), script)? {
+        Some(text) => Ok(are_lines(text.as_slice(), first, lines)),
+        None => Ok(false),
+    }
+}
+
 #[test]
 fn takes_texts_of_3900_bytes(rt: HostRuntime) -> Result<(), Fail> {
     let script = long_texts(rt.alloc(), 3900)?;
-    let text = ran_whole(&rt, &run_word(), script.as_str())?;
-    assert_lines(&rt, text.as_slice(), 3, &LONGEST)?;
+    assert!(rt; has_lines(&rt, script.as_str(), 3, &LONGEST)?);
+    Ok(())
+}
+
+#[test]
+fn refuses_texts_of_more(rt: HostRuntime) -> Result<(), Fail> {
     let script = long_texts(rt.alloc(), 3901)?;
-    assert_run(
-        &rt,
-        &run_word(),
-        script.as_bytes(),
-        Status::BadScript(3),
-        b"",
-    )
+    let wanted = (Status::BadScript(3), b"".as_slice());
+    assert!(rt; ends(&rt, &run_word(), script.as_bytes(), no_fails(), wanted)?);
+    Ok(())
 }
 
 /// Keys of `b` and so many times `z` that come where a dead tuple stands on a page with little room,
@@ -77,8 +102,7 @@ const COMERS: [(usize, &[&str]); 2] = [
 fn with_comer(alloc: Global, length: usize) -> Result<String, AllocError> {
     let mut script = String::from_str(alloc, "class radix\n")?;
     for number in 1..293 {
-        let line = format!(in alloc; "insert 1.{number} \"abc\"\n")?;
-        script.push_str(line.as_str())?;
+        push_insert(alloc, &mut script, "\"abc\"", number)?;
     }
     script.push_str("insert 2.1 \"b\"\ndelete 2.1\nvacuum\nstat\ninsert 2.2 \"b")?;
     push_many(&mut script, "z", length)?;
@@ -86,12 +110,20 @@ fn with_comer(alloc: Global, length: usize) -> Result<String, AllocError> {
     Ok(script)
 }
 
+/// Whether a text of this length is put so.
+fn is_put<R: AllocGlobal + Threads + Wait + Sync>(
+    rt: &R,
+    length: usize,
+    told: &[&str],
+) -> Result<bool, Memory> {
+    let script = with_comer(rt.alloc(), length)?;
+    has_lines(rt, script.as_str(), 292, told)
+}
+
 #[test]
 fn puts_texts_where_a_dead_tuple_stands(rt: HostRuntime) -> Result<(), Fail> {
     for (length, told) in &COMERS {
-        let script = with_comer(rt.alloc(), *length)?;
-        let text = ran_whole(&rt, &run_word(), script.as_str())?;
-        assert_lines(&rt, text.as_slice(), 292, told)?;
+        assert!(rt; is_put(&rt, *length, told)?);
     }
     Ok(())
 }

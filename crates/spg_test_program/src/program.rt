@@ -1,5 +1,5 @@
 use spg_app::{Gate, Status, run};
-use spg_base::{Bytes, List};
+use spg_base::{Bytes, List, Memory};
 use spg_io::{FaultyImages, FaultySink, FaultySource};
 use std::alloc::{AllocError, Global};
 use std::mem;
@@ -40,18 +40,35 @@ pub(crate) fn run_word() -> [&'static str; 1] {
     ["run"]
 }
 
-fn owned<R: AllocGlobal>(rt: &R, words: &[&str]) -> Result<Vec<String>, AllocError> {
-    let mut owned = Vec::new(rt.alloc());
+fn owned(alloc: Global, words: &[&str]) -> Result<Vec<String>, AllocError> {
+    let mut owned = Vec::new(alloc);
     for word in words {
-        owned.push(String::from_str(rt.alloc(), word)?)?;
+        owned.push(String::from_str(alloc, word)?)?;
     }
     Ok(owned)
 }
 
-fn one_call<R: AllocGlobal>(rt: &R, call: u64) -> Result<List<u64>, Fail> {
-    let mut calls = List::new(rt.alloc());
+fn one_call(alloc: Global, call: u64) -> Result<List<u64>, Memory> {
+    let mut calls = List::new(alloc);
     calls.push(call)?;
     Ok(calls)
+}
+
+/// Images whose call of this number fails.
+fn images_of(alloc: Global, call: u64) -> Result<FaultyImages, Memory> {
+    Ok(FaultyImages::new(alloc, one_call(alloc, call)?))
+}
+
+/// A script as a source whose read of this number fails.
+fn source_of(alloc: Global, script: &[u8], call: u64) -> Result<FaultySource, Memory> {
+    let script = Bytes::copy(alloc, script)?;
+    let calls = one_call(alloc, call)?;
+    Ok(FaultySource::new(script, MOST, calls))
+}
+
+/// A sink whose write of this number fails.
+fn sink_of(alloc: Global, call: u64) -> Result<FaultySink, Memory> {
+    Ok(FaultySink::new(alloc, one_call(alloc, call)?))
 }
 
 /// A gate at which no lane waits.
@@ -67,7 +84,7 @@ pub(crate) fn ran<R: AllocGlobal + Threads + Wait + Sync>(
     words: &[&str],
     script: &[u8],
     fails: Fails,
-) -> Result<Ended, Fail> {
+) -> Result<Ended, Memory> {
     ran_by(rt, words, script, fails, &Open)
 }
 
@@ -78,8 +95,8 @@ pub(crate) fn ran_by<R: AllocGlobal + Threads + Wait + Sync, G: Gate>(
     script: &[u8],
     fails: Fails,
     gate: &G,
-) -> Result<Ended, Fail> {
-    let mut images = FaultyImages::new(rt.alloc(), one_call(rt, fails.image)?);
+) -> Result<Ended, Memory> {
+    let mut images = images_of(rt.alloc(), fails.image)?;
     let (status, text) = ran_over(rt, words, script, fails, &mut images, gate)?;
     Ok(Ended {
         status,
@@ -103,6 +120,20 @@ fn status_of<R: AllocGlobal + Threads + Wait + Sync, G: Gate>(
     status
 }
 
+/// Runs the program, and gives how it ended and what it wrote.
+fn taken<R: AllocGlobal + Threads + Wait + Sync, G: Gate>(
+    rt: &R,
+    words: &[String],
+    source: &mut FaultySource,
+    sink: &mut FaultySink,
+    images: &mut FaultyImages,
+    gate: &G,
+) -> Result<(Status, Vec<u8>), Memory> {
+    let status = status_of(rt, words, source, sink, images, gate);
+    let text = sink.taken().to_vec(rt.alloc())?;
+    Ok((status, text))
+}
+
 /// Runs the program on a script over images that are there, and gives how it ended and what it wrote.
 pub(crate) fn ran_over<R: AllocGlobal + Threads + Wait + Sync, G: Gate>(
     rt: &R,
@@ -111,13 +142,11 @@ pub(crate) fn ran_over<R: AllocGlobal + Threads + Wait + Sync, G: Gate>(
     fails: Fails,
     images: &mut FaultyImages,
     gate: &G,
-) -> Result<(Status, Vec<u8>), Fail> {
-    let script = Bytes::copy(rt.alloc(), script)?;
-    let mut source = FaultySource::new(script, MOST, one_call(rt, fails.read)?);
-    let mut sink = FaultySink::new(rt.alloc(), one_call(rt, fails.write)?);
-    let words = owned(rt, words)?;
-    let status = status_of(rt, &words, &mut source, &mut sink, images, gate);
-    Ok((status, sink.taken().to_vec(rt.alloc())?))
+) -> Result<(Status, Vec<u8>), Memory> {
+    let words = owned(rt.alloc(), words)?;
+    let mut source = source_of(rt.alloc(), script, fails.read)?;
+    let mut sink = sink_of(rt.alloc(), fails.write)?;
+    taken(rt, &words, &mut source, &mut sink, images, gate)
 }
 
 /// Lines with their ends.
@@ -130,15 +159,29 @@ pub(crate) fn joined(alloc: Global, lines: &[&str]) -> Result<String, AllocError
     Ok(text)
 }
 
-/// Compares how a run ended and what it wrote with what is wanted.
-pub(crate) fn assert_ended<R: Abort>(
+/// Whether a run over images ends so and writes this.
+pub(crate) fn writes<R: AllocGlobal + Threads + Wait + Sync>(
     rt: &R,
-    ended: &Ended,
-    status: Status,
-    text: &[u8],
-) -> Result<(), Fail> {
-    assert_eq!(rt; (ended.status, ended.text.as_slice()), (status, text));
-    Ok(())
+    words: &[&str],
+    script: &[u8],
+    images: &mut FaultyImages,
+    wanted: (Status, &[u8]),
+) -> Result<bool, Memory> {
+    let (status, text) = ran_over(rt, words, script, no_fails(), images, &Open)?;
+    Ok((status, text.as_slice()) == wanted)
+}
+
+/// Whether a run of which these calls fail ends so and writes this.
+pub(crate) fn ends<R: AllocGlobal + Threads + Wait + Sync>(
+    rt: &R,
+    words: &[&str],
+    script: &[u8],
+    fails: Fails,
+    wanted: (Status, &[u8]),
+) -> Result<bool, Memory> {
+    let mut images = images_of(rt.alloc(), fails.image)?;
+    let (status, text) = ran_over(rt, words, script, fails, &mut images, &Open)?;
+    Ok((status, text.as_slice()) == wanted)
 }
 
 /// Runs the program on a script, and compares how it ended and what it wrote.
@@ -149,7 +192,21 @@ pub(crate) fn assert_run<R: AllocGlobal + Threads + Wait + Sync + Abort>(
     status: Status,
     text: &[u8],
 ) -> Result<(), Fail> {
-    assert_ended(rt, &ran(rt, words, script, no_fails())?, status, text)
+    assert!(rt; ends(rt, words, script, no_fails(), (status, text))?);
+    Ok(())
+}
+
+/// Runs the program on a script over images: the text of a run that comes to its end.
+pub(crate) fn done_over<R: AllocGlobal + Threads + Wait + Sync>(
+    rt: &R,
+    words: &[&str],
+    script: &str,
+    images: &mut FaultyImages,
+) -> Result<Option<Vec<u8>>, Memory> {
+    match ran_over(rt, words, script.as_bytes(), no_fails(), images, &Open)? {
+        (Status::Done, text) => Ok(Some(text)),
+        _ => Ok(None),
+    }
 }
 
 /// Runs the program on a script that it does to its end.
@@ -159,31 +216,66 @@ pub(crate) fn ran_whole<R: AllocGlobal + Threads + Wait + Sync + Abort>(
     script: &str,
 ) -> Result<Vec<u8>, Fail> {
     let ended = ran(rt, words, script.as_bytes(), no_fails())?;
-    assert_eq!(rt; ended.status, Status::Done);
+    assert!(rt; ended.status == Status::Done);
     Ok(ended.text)
 }
 
-/// Compares a line of a text, counted from 0.
-pub(crate) fn assert_line<R: Abort>(
+/// Runs the program on a script: the text of a run that comes to its end.
+pub(crate) fn done<R: AllocGlobal + Threads + Wait + Sync>(
     rt: &R,
-    text: &[u8],
-    number: usize,
-    line: &str,
-) -> Result<(), Fail> {
+    words: &[&str],
+    script: &str,
+) -> Result<Option<Vec<u8>>, Memory> {
+    let mut images = images_of(rt.alloc(), 0)?;
+    done_over(rt, words, script, &mut images)
+}
+
+/// Whether a text has this line, counted from 0.
+pub(crate) fn is_line(text: &[u8], number: usize, line: &str) -> bool {
     let mut lines = text.split(|b| *b == b'\n').skip(number);
-    assert_eq!(rt; lines.next(), Some(line.as_bytes()));
+    lines.next() == Some(line.as_bytes())
+}
+
+/// Whether a text has these lines from a number on, counted from 0.
+pub(crate) fn are_lines(text: &[u8], first: usize, lines: &[&str]) -> bool {
+    for (line, number) in lines.iter().zip(first..) {
+        if !is_line(text, number, line) {
+            return false;
+        }
+    }
+    true
+}
+
+fn push_with(text: &mut String, line: &str, told: &str) -> Result<(), AllocError> {
+    for letter in line.chars() {
+        if letter == 'N' {
+            text.push_str(told)?;
+        } else {
+            text.push(letter)?;
+        }
+    }
     Ok(())
 }
 
-/// Compares the lines of a text from a number on, counted from 0.
-pub(crate) fn assert_lines<R: Abort>(
-    rt: &R,
-    text: &[u8],
-    first: usize,
-    lines: &[&str],
-) -> Result<(), Fail> {
-    for (line, number) in lines.iter().zip(first..) {
-        assert_line(rt, text, number, line)?;
-    }
-    Ok(())
+/// Puts a line behind a text, with a number in place of each `N`.
+pub(crate) fn push_numbered(
+    alloc: Global,
+    text: &mut String,
+    line: &str,
+    number: u32,
+) -> Result<(), AllocError> {
+    let told = format!(in alloc; "{number}")?;
+    push_with(text, line, told.as_str())
+}
+
+/// Puts the insert of row 1.N behind a script, whose key has this number in place of each `N`.
+pub(crate) fn push_insert(
+    alloc: Global,
+    script: &mut String,
+    key: &str,
+    number: u32,
+) -> Result<(), AllocError> {
+    push_numbered(alloc, script, "insert 1.N ", number)?;
+    push_numbered(alloc, script, key, number)?;
+    script.push_str("\n")
 }

@@ -1,6 +1,4 @@
-use crate::images::{Asked, asks};
-use spg_base::List;
-use spg_io::FaultyImages;
+use crate::images::{Asked, all_asked};
 use std::test::Fail;
 
 /// Ranges: an image that the next run goes on from, an index that is built at once, and one with a standby.
@@ -118,18 +116,12 @@ const BAD: [Asked; 5] = [
 
 #[test]
 fn knows_ranges(rt: HostRuntime) -> Result<(), Fail> {
-    let mut images = FaultyImages::new(rt.alloc(), List::new(rt.alloc()));
-    for asked in &RANGES {
-        asks(&rt, &mut images, asked)?;
-    }
+    assert!(rt; all_asked(&rt, &RANGES)?);
     Ok(())
 }
 
 #[test]
 fn refuses_lines_of_other_classes(rt: HostRuntime) -> Result<(), Fail> {
-    let mut images = FaultyImages::new(rt.alloc(), List::new(rt.alloc()));
-    for asked in &BAD {
-        asks(&rt, &mut images, asked)?;
-    }
+    assert!(rt; all_asked(&rt, &BAD)?);
     Ok(())
 }

@@ -1,8 +1,6 @@
-use crate::images::{Asked, asks};
-use crate::program::{Fails, assert_ended, ran};
+use crate::images::{Asked, all_asked};
+use crate::program::{Fails, ends};
 use spg_app::Status;
-use spg_base::List;
-use spg_io::FaultyImages;
 use std::test::Fail;
 
 /// Scripts that are done beside a standby: one that is behind, one that is not, each class, and scripts
@@ -99,10 +97,7 @@ const SCRIPTS: [Asked; 8] = [
 
 #[test]
 fn does_scripts_beside_a_standby(rt: HostRuntime) -> Result<(), Fail> {
-    let mut images = FaultyImages::new(rt.alloc(), List::new(rt.alloc()));
-    for asked in &SCRIPTS {
-        asks(&rt, &mut images, asked)?;
-    }
+    assert!(rt; all_asked(&rt, &SCRIPTS)?);
     Ok(())
 }
 
@@ -118,8 +113,7 @@ fn tells_failing_standbys(rt: HostRuntime) -> Result<(), Fail> {
             image: 0,
         };
         let script = b"class quad\ninsert 1.1 3,4\n";
-        let ended = ran(&rt, &["standby", "1"], script, fails)?;
-        assert_ended(&rt, &ended, status, b"")?;
+        assert!(rt; ends(&rt, &["standby", "1"], script, fails, (status, b""))?);
     }
     Ok(())
 }

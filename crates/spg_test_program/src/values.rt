@@ -1,6 +1,4 @@
-use crate::images::{Asked, asks};
-use spg_base::List;
-use spg_io::FaultyImages;
+use crate::images::{Asked, all_asked};
 use std::test::Fail;
 
 /// Keys with numbers beside them: an image that the next run goes on from, and runs of other classes that refuse it.
@@ -158,18 +156,12 @@ const OTHERS: [Asked; 4] = [
 
 #[test]
 fn goes_on_from_keys_with_numbers(rt: HostRuntime) -> Result<(), Fail> {
-    let mut images = FaultyImages::new(rt.alloc(), List::new(rt.alloc()));
-    for asked in &SAVED {
-        asks(&rt, &mut images, asked)?;
-    }
+    assert!(rt; all_asked(&rt, &SAVED)?);
     Ok(())
 }
 
 #[test]
 fn builds_and_mirrors_keys_with_numbers(rt: HostRuntime) -> Result<(), Fail> {
-    let mut images = FaultyImages::new(rt.alloc(), List::new(rt.alloc()));
-    for asked in &OTHERS {
-        asks(&rt, &mut images, asked)?;
-    }
+    assert!(rt; all_asked(&rt, &OTHERS)?);
     Ok(())
 }

@@ -68,22 +68,39 @@ impl Found {
     }
 }
 
-/// The rows that a scan gave. None where it gave one twice.
-fn given(alloc: Global, rows: &Rows) -> Result<Option<Vec<Found>>, Memory> {
+/// Nothing is known of what a scan says of any row.
+fn unknown(alloc: Global) -> Result<Vec<Found>, Memory> {
     let mut found = Vec::new(alloc);
-    let unknown = Found {
+    let nothing = Found {
         given: false,
         may: false,
         must: false,
     };
-    found.resize(usize::from(ROWS), unknown)?;
+    found.resize(usize::from(ROWS), nothing)?;
+    Ok(found)
+}
+
+/// Notes the rows that a scan gave. False where it gave one twice.
+fn note_given(found: &mut Vec<Found>, rows: &Rows) -> bool {
     for row in rows.as_slice() {
         match found.get_mut(index_of(*row)) {
             Some(entry) if !entry.given => entry.given = true,
-            _ => return Ok(None),
+            _ => return false,
         }
     }
-    Ok(Some(found))
+    true
+}
+
+/// Notes which rows the scan may give, and which it must.
+fn note_lives(found: &mut Vec<Found>, lives: &[Life], query: &Query<Quad>, opened: u64) {
+    for life in lives {
+        if asks_for(query, life.key)
+            && let Some(entry) = found.get_mut(life.row)
+        {
+            entry.may = entry.may || may_be_found(life, opened);
+            entry.must = entry.must || must_be_found(life, opened);
+        }
+    }
 }
 
 /// What a scan gave is right.
@@ -94,16 +111,8 @@ pub(crate) fn is_right(
     opened: u64,
     rows: &Rows,
 ) -> Result<bool, Memory> {
-    let Some(mut found) = given(alloc, rows)? else {
-        return Ok(false);
-    };
-    for life in lives {
-        if asks_for(query, life.key)
-            && let Some(entry) = found.get_mut(life.row)
-        {
-            entry.may = entry.may || may_be_found(life, opened);
-            entry.must = entry.must || must_be_found(life, opened);
-        }
-    }
-    Ok(found.iter().all(|entry| entry.is_right()))
+    let mut found = unknown(alloc)?;
+    let once = note_given(&mut found, rows);
+    note_lives(&mut found, lives, query, opened);
+    Ok(once && found.iter().all(|entry| entry.is_right()))
 }

@@ -27,12 +27,24 @@ pub(crate) struct Known {
     again: u32,
 }
 
+/// No row has a life.
+fn no_lives(alloc: Global) -> Result<Vec<Option<usize>>, Memory> {
+    let mut last = Vec::new(alloc);
+    last.resize(usize::from(ROWS), None)?;
+    Ok(last)
+}
+
+/// No seat has a scan open.
+fn no_scans(alloc: Global) -> Result<Vec<Option<u64>>, Memory> {
+    let mut scans = Vec::new(alloc);
+    scans.resize(64, None)?;
+    Ok(scans)
+}
+
 impl Known {
     fn new(alloc: Global) -> Result<Known, Memory> {
-        let mut last = Vec::new(alloc);
-        last.resize(usize::from(ROWS), None)?;
-        let mut scans = Vec::new(alloc);
-        scans.resize(64, None)?;
+        let last = no_lives(alloc)?;
+        let scans = no_scans(alloc)?;
         Ok(Known {
             lives: Vec::new(alloc),
             last,
@@ -230,23 +242,23 @@ impl Known {
         at: u64,
         event: &Event<Quad>,
     ) -> Result<bool, Memory> {
-        Ok(match event {
-            Event::OpenInsert { row, key, .. } => self.opens(*row, *key)?,
-            Event::Put { row, .. } => self.puts(*row, at),
-            Event::Drop { row, .. } => self.drops(*row),
-            Event::Kill { row, .. } => self.kills(*row, at),
-            Event::OpenScan { seat, .. } => self.opens_scan(*seat, at),
-            Event::CloseScan { seat, rows } => self.closes(alloc, journal, *seat, rows)?,
-            Event::OpenVacuum { seat } => self.opens_vacuum(*seat, at)?,
-            Event::Sweep { seat, row } => self.sweeps(*seat, *row),
-            Event::CloseVacuum { seat, swept } => self.closes_vacuum(*seat, at, *swept),
-            Event::Leave { seat } => self.leaves(*seat, at),
-        })
+        match event {
+            Event::OpenInsert { row, key, .. } => self.opens(*row, *key),
+            Event::Put { row, .. } => Ok(self.puts(*row, at)),
+            Event::Drop { row, .. } => Ok(self.drops(*row)),
+            Event::Kill { row, .. } => Ok(self.kills(*row, at)),
+            Event::OpenScan { seat, .. } => Ok(self.opens_scan(*seat, at)),
+            Event::CloseScan { seat, rows } => self.closes(alloc, journal, *seat, rows),
+            Event::OpenVacuum { seat } => self.opens_vacuum(*seat, at),
+            Event::Sweep { seat, row } => Ok(self.sweeps(*seat, *row)),
+            Event::CloseVacuum { seat, swept } => Ok(self.closes_vacuum(*seat, at, *swept)),
+            Event::Leave { seat } => Ok(self.leaves(*seat, at)),
+        }
     }
 }
 
 /// What came of the events of a journal.
-#[derive(Clone, Copy, Debug)]
+#[derive(Clone, Copy)]
 pub struct Replayed {
     /// How many vacuums there were.
     pub vacuums: usize,
@@ -256,25 +268,36 @@ pub struct Replayed {
     pub again: u32,
 }
 
+/// Takes the events of a journal. False where one does not fit those before it.
+fn take_all(alloc: Global, known: &mut Known, journal: &Journal<Quad>) -> Result<bool, Memory> {
+    let mut at: u64 = 0;
+    for event in journal.as_slice() {
+        if !known.take(alloc, journal, at, event)? {
+            return Ok(false);
+        }
+        at = at.saturating_add(1);
+    }
+    Ok(true)
+}
+
+/// What came of the events of which all this is known.
+fn told(known: &Known) -> Replayed {
+    let mut swept: u64 = 0;
+    for vacuum in known.vacuums.as_slice() {
+        swept = swept.saturating_add(vacuum.swept);
+    }
+    Replayed {
+        vacuums: known.vacuums.len(),
+        swept,
+        again: known.again,
+    }
+}
+
 /// What came of the events of a journal of rows 1.1 to 1.800. None where one does not fit those before it: a
 /// scan that gave a row that it might not give, or not one that it had to, a vacuum that left a row that was
 /// deleted before it opened, a row that was inserted before its time.
 pub fn judge(alloc: Global, journal: &Journal<Quad>) -> Result<Option<Replayed>, Memory> {
     let mut known = Known::new(alloc)?;
-    let mut at: u64 = 0;
-    for event in journal.as_slice() {
-        if !known.take(alloc, journal, at, event)? {
-            return Ok(None);
-        }
-        at = at.saturating_add(1);
-    }
-    let mut swept: u64 = 0;
-    for vacuum in known.vacuums.as_slice() {
-        swept = swept.saturating_add(vacuum.swept);
-    }
-    Ok(Some(Replayed {
-        vacuums: known.vacuums.len(),
-        swept,
-        again: known.again,
-    }))
+    let fits = take_all(alloc, &mut known, journal)?;
+    Ok(if fits { Some(told(&known)) } else { None })
 }

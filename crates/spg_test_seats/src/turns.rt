@@ -17,6 +17,7 @@ use spg_test_calls::{
     vacuum_step,
 };
 use std::alloc::Global;
+use std::mem;
 use std::test::Fail;
 
 /// How many turns an order has. In a turn one seat does up to eight sections.
@@ -226,6 +227,14 @@ fn step(
     Ok(())
 }
 
+/// Ends a seat's scan.
+fn close(state: &mut State<Quad>, seat: SeatNo) -> Result<(), Memory> {
+    match close_scan(state, seat) {
+        Some(Err(memory)) => Err(memory),
+        _ => Ok(()),
+    }
+}
+
 /// Reads an item of a seat's scan, which holds so many.
 fn read(
     state: &mut State<Quad>,
@@ -235,8 +244,7 @@ fn read(
     met: &mut Met,
 ) -> Result<(), Memory> {
     if held == 0 {
-        let _ = close_scan(state, seat).transpose()?;
-        return Ok(());
+        return close(state, seat);
     }
     if let Some(out) = scan_read(state, seat, draw.index(held)) {
         note_read(&out?, met);
@@ -333,7 +341,9 @@ fn goes_right(alloc: Global, state: &mut State<Quad>, seed: u32) -> Result<bool,
 /// The same on a new state.
 fn starts_right(alloc: Global, seed: u32) -> Result<bool, Memory> {
     let mut state = State::new(alloc, Quad, 65536)?;
-    goes_right(alloc, &mut state, seed)
+    let right = goes_right(alloc, &mut state, seed);
+    mem::forget(state);
+    right
 }
 
 /// Each closed scan gave each row once that it must give, and none that it may not give; each closed

@@ -14,6 +14,7 @@ use spg_page::Page;
 use spg_quad::Quad;
 use spg_tree::{PageTable, StepRefused};
 use std::alloc::Global;
+use std::mem;
 use std::test::Fail;
 
 /// The last moment of the clock.
@@ -44,7 +45,7 @@ pub(crate) fn are_pages(table: &PageTable, pages: &List<Page>) -> bool {
 
 /// What came of a section, if it was done: whether the pages and where the insert stands are as
 /// before, and the clock.
-#[derive(Clone, Copy, Debug, PartialEq, Eq)]
+#[derive(Clone, Copy, PartialEq, Eq)]
 pub(crate) struct Outcome {
     pub(crate) answer: Option<Result<(), StepRefused>>,
     pub(crate) same_pages: bool,
@@ -63,6 +64,23 @@ fn fill<O: OpClass>(state: &mut State<O>, count: u16) -> Result<(), Memory>
     Ok(())
 }
 
+/// The pages of an index once its nulls tree is just divided, at this limit and moment. The row is not on
+/// them.
+fn filled<O: OpClass>(
+    alloc: Global,
+    state: &mut State<O>,
+    row: Row,
+    limit: u32,
+    clock: Stamp,
+) -> Result<PageTable, Memory>
+    requires { stage_at state.old 0 ≡ free }
+    ensures shape { IfOk result (λ made. Shape O.meaning (sheets_of made)) }
+    ensures fresh { IfOk result (λ made. IsFresh (spots (sheets_of made)) row) }
+{
+    fill(state, 409)?;
+    parted(alloc, state, row, limit, clock)
+}
+
 /// The pages of an index whose nulls tree was just divided, so that its lists fill the last page, at
 /// this limit and moment. The row is not on them.
 fn prepared<O: OpClass>(
@@ -76,8 +94,9 @@ fn prepared<O: OpClass>(
     ensures fresh { IfOk result (λ made. IsFresh (spots (sheets_of made)) row) }
 {
     let mut state = State::new(alloc, class, 4)?;
-    fill(&mut state, 409)?;
-    parted(alloc, &mut state, row, limit, clock)
+    let made = filled(alloc, &mut state, row, limit, clock);
+    mem::forget(state);
+    made
 }
 
 /// An insert of a null comes to the first chain, which is to move.
@@ -117,20 +136,30 @@ fn moved_at<O: OpClass>(
     tried(alloc, &class, &mut table, row)
 }
 
+/// Whether that comes of the move. Where none is done, pages, insert and clock stay.
+fn is_so(
+    alloc: Global,
+    limit: u32,
+    moment: u64,
+    wanted: Result<(), StepRefused>,
+) -> Result<bool, Memory> {
+    let outcome = moved_at(alloc, Quad, limit, moment)?;
+    let stays = wanted.is_err();
+    let expected = Outcome {
+        answer: Some(wanted),
+        same_pages: stays,
+        same_insert: true,
+        clock: if stays { moment } else { LAST },
+    };
+    Ok(outcome == expected)
+}
+
 /// Once the clock has come to its end no chain moves, and pages and insert stay as they were. The
 /// last moment but one still serves.
 #[test]
 fn moves_no_chain_once_the_clock_is_full(rt: HostRuntime) -> Result<(), Fail> {
     for (limit, moment, wanted) in MOVES {
-        let outcome = moved_at(rt.alloc(), Quad, limit, moment)?;
-        let stays = wanted.is_err();
-        let expected = Outcome {
-            answer: Some(wanted),
-            same_pages: stays,
-            same_insert: true,
-            clock: if stays { moment } else { LAST },
-        };
-        assert_eq!(rt; outcome, expected);
+        assert!(rt; is_so(rt.alloc(), limit, moment, wanted)?);
     }
     Ok(())
 }

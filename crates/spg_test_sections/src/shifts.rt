@@ -2,18 +2,21 @@ ghost use Rattle.std.specs.Prelude.{◌≡◌, IfOk};
 ghost use Rattle.spg_forest.specs.Pages.{IsFresh};
 ghost use Rattle.spg_forest.specs.Shape.{Shape, spots};
 ghost use Rattle.spg_tree.specs.Table.{sheets_of};
+ghost use Rattle.spg_core.specs.Stage.{free};
+ghost use Rattle.spg_core.specs.Seen.{stage_at};
 
 use crate::answers::{added, follow_named};
 use crate::clock::{at_root, copied, parted};
 use crate::moments::{LAST, Outcome, are_pages};
 use crate::texts::{Texts, key_of};
-use crate::wide::wide;
+use crate::wide::widen_all;
 use spg_base::{Block, Bytes, List, Memory, Offset, Place, Row, Stamp};
+use spg_core::State;
 use spg_page::{Node, Nodes, Page, PageKind, Tuple};
 use spg_radix::Radix;
 use spg_tree::{PageTable, StepRefused};
 use std::alloc::Global;
-use std::process::Abort;
+use std::mem;
 use std::test::Fail;
 
 /// Limits, moments of the clock, and what comes of a node that has no room. A full clock is told
@@ -38,6 +41,23 @@ fn place(block: u32, offset: u16) -> Place {
     }
 }
 
+/// The pages of an index once its last page is full of inner tuples, at this limit and moment. The row is
+/// not on them.
+fn widened<O: Texts>(
+    alloc: Global,
+    state: &mut State<O>,
+    row: Row,
+    limit: u32,
+    clock: Stamp,
+) -> Result<PageTable, Memory>
+    requires { stage_at state.old 0 ≡ free }
+    ensures shape { IfOk result (λ made. Shape O.meaning (sheets_of made)) }
+    ensures fresh { IfOk result (λ made. IsFresh (spots (sheets_of made)) row) }
+{
+    widen_all(alloc, state)?;
+    parted(alloc, state, row, limit, clock)
+}
+
 /// The pages of an index whose last page is full of inner tuples, at this limit and moment. The row
 /// is not on them.
 fn prepared<O: Texts>(
@@ -50,8 +70,10 @@ fn prepared<O: Texts>(
     ensures shape { IfOk result (λ made. Shape O.meaning (sheets_of made)) }
     ensures fresh { IfOk result (λ made. IsFresh (spots (sheets_of made)) row) }
 {
-    let mut state = wide(alloc, class)?;
-    parted(alloc, &mut state, row, limit, clock)
+    let mut state = State::new(alloc, class, 65536)?;
+    let made = widened(alloc, &mut state, row, limit, clock);
+    mem::forget(state);
+    made
 }
 
 /// What came of a node that was to be put in, with the pages before and after.
@@ -60,6 +82,11 @@ struct Trial {
     outcome: Outcome,
     old: List<Page>,
     new: List<Page>,
+}
+
+/// A text for which the tuple below the root has no node.
+fn new_key<O: Texts>(alloc: Global) -> Result<O::Key, Memory> {
+    key_of::<O>(Bytes::copy(alloc, b"a\x0d")?)
 }
 
 /// An insert of a text comes to the tuple below the root, which is to have one more node.
@@ -72,7 +99,7 @@ fn tried<O: Texts>(
     requires shape { Shape O.meaning (sheets_of table.old) }
     requires fresh { IsFresh (spots (sheets_of table.old)) row }
 {
-    let key = key_of::<O>(Bytes::copy(alloc, b"a\x0d")?)?;
+    let key = new_key::<O>(alloc)?;
     let mut descent = at_root(alloc, class, table, row, Some(key))?;
     follow_named(alloc, class, table, &mut descent)?;
     let old = copied(alloc, table)?;
@@ -159,18 +186,34 @@ fn is_same(old: &List<Page>, new: &List<Page>, block: usize) -> bool {
     }
 }
 
+/// How many nodes the inner tuples of the full page have before, by their offsets.
+const COUNTS: [(u16, usize); 4] = [(1, 257), (2, 257), (3, 257), (4, 243)];
+
+/// Whether an inner tuple of the full page has so many nodes.
+fn has_count(alloc: Global, pages: &List<Page>, offset: u16, count: usize) -> Result<bool, Memory> {
+    let nodes = nodes_at(alloc, pages, 5, offset)?;
+    Ok(nodes.as_slice().len() == count)
+}
+
+/// Whether the only node of the root leads there.
+fn leads_to(alloc: Global, pages: &List<Page>, to: Place) -> Result<bool, Memory> {
+    let root = nodes_at(alloc, pages, 1, 1)?;
+    let node = Node {
+        label: 97,
+        link: Some(to),
+    };
+    Ok(root.as_slice() == [node].as_slice())
+}
+
 /// The pages before: the last one is full.
-fn compare_old<R: AllocGlobal + Abort>(rt: &R, old: &List<Page>) -> Result<(), Fail> {
-    assert_eq!(rt; old.len(), 6);
-    assert_eq!(rt; sums(old, 5), Some((PageKind::Inner, 4, 0)));
-    for (offset, count) in [(1, 257), (2, 257), (3, 257), (4, 243)] {
-        let nodes = nodes_at(rt.alloc(), old, 5, offset)?;
-        assert_eq!(rt; nodes.as_slice().len(), count);
+fn is_before(alloc: Global, old: &List<Page>) -> Result<bool, Memory> {
+    for (offset, count) in COUNTS {
+        if !has_count(alloc, old, offset, count)? {
+            return Ok(false);
+        }
     }
-    let root = nodes_at(rt.alloc(), old, 1, 1)?;
-    let link = Some(place(5, 4));
-    assert_eq!(rt; root.as_slice(), [Node { label: 97, link }].as_slice());
-    Ok(())
+    let full = old.len() == 6 && sums(old, 5) == Some((PageKind::Inner, 4, 0));
+    Ok(leads_to(alloc, old, place(5, 4))? && full)
 }
 
 /// Whether the inner tuple at an offset of the full page has the same nodes before and after.
@@ -186,52 +229,78 @@ fn has_same_nodes(
 }
 
 /// Where the tuple stood: a redirect, beside the tuples that were there.
-fn compare_left<R: AllocGlobal + Abort>(
-    rt: &R,
-    old: &List<Page>,
-    new: &List<Page>,
-) -> Result<(), Fail> {
-    assert_eq!(rt; sums(new, 5), Some((PageKind::Inner, 4, 1936)));
+fn is_left(alloc: Global, old: &List<Page>, new: &List<Page>) -> Result<bool, Memory> {
     for offset in 1..4 {
-        let same = has_same_nodes(rt.alloc(), old, new, offset)?;
-        assert_eq!(rt; same, true);
+        if !has_same_nodes(alloc, old, new, offset)? {
+            return Ok(false);
+        }
     }
-    let left = redirect_at(rt.alloc(), new, 5, 4)?;
-    assert_eq!(rt; left, (place(8, 1), 0));
-    Ok(())
+    let leads = redirect_at(alloc, new, 5, 4)? == (place(8, 1), 0);
+    Ok(leads && sums(new, 5) == Some((PageKind::Inner, 4, 1936)))
+}
+
+/// The nodes of the tuple that moves, with the new one.
+fn nodes_with_new(alloc: Global, old: &List<Page>) -> Result<Nodes, Memory> {
+    let before = nodes_at(alloc, old, 5, 4)?;
+    longer(alloc, &before)
 }
 
 /// The next page of the same parity has the tuple with the new node, and the root leads there.
-fn compare_moved<R: AllocGlobal + Abort>(
-    rt: &R,
-    old: &List<Page>,
-    new: &List<Page>,
-) -> Result<(), Fail> {
-    let before = nodes_at(rt.alloc(), old, 5, 4)?;
-    let wanted = longer(rt.alloc(), &before)?;
-    let nodes = nodes_at(rt.alloc(), new, 8, 1)?;
-    assert_eq!(rt; nodes.as_slice(), wanted.as_slice());
-    let root = nodes_at(rt.alloc(), new, 1, 1)?;
-    let link = Some(place(8, 1));
-    assert_eq!(rt; root.as_slice(), [Node { label: 97, link }].as_slice());
-    Ok(())
+fn has_moved(alloc: Global, old: &List<Page>, new: &List<Page>) -> Result<bool, Memory> {
+    if !leads_to(alloc, new, place(8, 1))? {
+        return Ok(false);
+    }
+    let wanted = nodes_with_new(alloc, old)?;
+    let nodes = nodes_at(alloc, new, 8, 1)?;
+    Ok(nodes.as_slice() == wanted.as_slice())
+}
+
+/// Whether a page of inner tuples has these sums.
+fn has_sums(new: &List<Page>, block: usize, count: u16, free: u16) -> bool {
+    sums(new, block) == Some((PageKind::Inner, count, free))
 }
 
 /// The other pages are as they were, and two more are empty.
-fn compare_others<R: AllocGlobal + Abort>(
-    rt: &R,
-    old: &List<Page>,
-    new: &List<Page>,
-) -> Result<(), Fail> {
-    assert_eq!(rt; new.len(), 9);
-    for block in [0, 2, 3, 4] {
-        assert_eq!(rt; is_same(old, new, block), true);
-    }
-    assert_eq!(rt; sums(new, 1), sums(old, 1));
-    for (block, count, free) in [(6, 0, 8160), (7, 0, 8160), (8, 1, 6196)] {
-        assert_eq!(rt; sums(new, block), Some((PageKind::Inner, count, free)));
-    }
-    Ok(())
+fn are_others(old: &List<Page>, new: &List<Page>) -> bool {
+    new.len() == 9
+        && is_same(old, new, 0)
+        && is_same(old, new, 2)
+        && is_same(old, new, 3)
+        && is_same(old, new, 4)
+        && sums(new, 1) == sums(old, 1)
+        && has_sums(new, 6, 0, 8160)
+        && has_sums(new, 7, 0, 8160)
+        && has_sums(new, 8, 1, 6196)
+}
+
+/// What was and what comes of the node, where the tuple moves.
+fn moves(alloc: Global, old: &List<Page>, new: &List<Page>) -> Result<bool, Memory> {
+    let left = is_left(alloc, old, new)?;
+    let moved = has_moved(alloc, old, new)?;
+    Ok(left && moved && are_others(old, new))
+}
+
+/// Whether that comes of the node. Where it is refused, pages, insert and clock stay.
+fn is_so(
+    alloc: Global,
+    limit: u32,
+    moment: u64,
+    wanted: Result<(), StepRefused>,
+) -> Result<bool, Memory> {
+    let tried = tried_at(alloc, Radix, limit, moment)?;
+    let stays = wanted.is_err();
+    let expected = Outcome {
+        answer: Some(wanted),
+        same_pages: stays,
+        same_insert: stays,
+        clock: if stays {
+            moment
+        } else {
+            moment.saturating_add(1)
+        },
+    };
+    let before = is_before(alloc, &tried.old)? && tried.outcome == expected;
+    Ok(before && (stays || moves(alloc, &tried.old, &tried.new)?))
 }
 
 /// An inner tuple that has no room for one more node moves to another page. Where the clock or the
@@ -239,21 +308,7 @@ fn compare_others<R: AllocGlobal + Abort>(
 #[test]
 fn moves_an_inner_tuple_without_room(rt: HostRuntime) -> Result<(), Fail> {
     for (limit, moment, wanted) in ADDS {
-        let tried = tried_at(rt.alloc(), Radix, limit, moment)?;
-        compare_old(&rt, &tried.old)?;
-        let stays = wanted.is_err();
-        let expected = Outcome {
-            answer: Some(wanted),
-            same_pages: stays,
-            same_insert: stays,
-            clock: if stays { moment } else { moment + 1 },
-        };
-        assert_eq!(rt; tried.outcome, expected);
-        if !stays {
-            compare_left(&rt, &tried.old, &tried.new)?;
-            compare_moved(&rt, &tried.old, &tried.new)?;
-            compare_others(&rt, &tried.old, &tried.new)?;
-        }
+        assert!(rt; is_so(rt.alloc(), limit, moment, wanted)?);
     }
     Ok(())
 }

@@ -1,10 +1,10 @@
-ghost use Rattle.std.specs.Prelude.{◌≡◌, IfOk, OnOk};
+ghost use Rattle.std.specs.Prelude.{◌≡◌, OnOk};
 ghost use Rattle.spg_core.specs.Stage.{free};
 ghost use Rattle.spg_core.specs.Seen.{stage_at};
 
 use crate::driver::begin;
 use crate::texts::{Texts, key_of};
-use spg_base::{Bytes, Memory, Row, Same};
+use spg_base::{Bytes, Memory, Row};
 use spg_core::State;
 use std::alloc::Global;
 
@@ -47,6 +47,13 @@ fn try_text<O: Texts>(state: &mut State<O>, text: Bytes, sections: u8) -> Result
     begin(state, Row::at(2, 1), Some(key), sections)
 }
 
+/// A text of these bytes, first and last.
+fn text_of(alloc: Global, upper: &[u8], ends: &[u8]) -> Result<Bytes, Memory> {
+    let mut text = Bytes::copy(alloc, upper)?;
+    text.extend(ends)?;
+    Ok(text)
+}
+
 /// Splits the inner tuple of the root before the last byte of its prefix. What goes below gains a
 /// node for the end of the text and one for each byte from the first on.
 fn widen<O: Texts>(
@@ -60,27 +67,24 @@ fn widen<O: Texts>(
     ensures { OnOk result (stage_at state.new 0 ≡ free) }
 {
     try_text(state, Bytes::copy(alloc, upper)?, 2)?;
-    let mut front = Bytes::copy(alloc, upper)?;
-    front.push(last)?;
-    try_text(state, front.copy()?, 3)?;
+    try_text(state, text_of(alloc, upper, &[last])?, 3)?;
     for byte in first..256 {
-        let mut text = front.copy()?;
-        text.push(byte as u8)?;
+        let text = text_of(alloc, upper, &[last, byte as u8])?;
         try_text(state, text, 3)?;
     }
     Ok(())
 }
 
-/// An index of texts on six pages, whose clock is at 0. The last page has four inner tuples, each
-/// below the next: three of 257 nodes and one of 243, which hangs from the root. Nothing is free
-/// there.
-pub(crate) fn wide<O: Texts>(alloc: Global, class: O) -> Result<State<O>, Memory>
-    ensures { IfOk result (λ state. stage_at state 0 ≡ free) }
+/// Makes an empty index one of texts on six pages, whose clock is at 0. The last page has four inner
+/// tuples, each below the next: three of 257 nodes and one of 243, which hangs from the root. Nothing is
+/// free there.
+pub(crate) fn widen_all<O: Texts>(alloc: Global, state: &mut State<O>) -> Result<(), Memory>
+    requires { stage_at state.old 0 ≡ free }
+    ensures { OnOk result (stage_at state.new 0 ≡ free) }
 {
-    let mut state = State::new(alloc, class, 65536)?;
-    fill_root(alloc, &mut state)?;
+    fill_root(alloc, state)?;
     for (upper, last, first) in FRONTS {
-        widen(alloc, &mut state, upper, last, first)?;
+        widen(alloc, state, upper, last, first)?;
     }
-    Ok(state)
+    Ok(())
 }

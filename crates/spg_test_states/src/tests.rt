@@ -1,7 +1,8 @@
 use crate::small::small_state;
-use spg_base::SeatNo;
+use spg_base::{Memory, SeatNo};
 use spg_core::{Bare, OpenKind};
 use spg_quad::Quad;
+use std::alloc::Global;
 use std::mem::forget;
 use std::test::Fail;
 
@@ -13,13 +14,23 @@ fn open_at(bare: &Bare<Quad>, number: u8) -> Option<OpenKind> {
     }
 }
 
+/// Whether an insert, a vacuum and a scan that holds two items are open.
+fn has_much_open(bare: &Bare<Quad>) -> bool {
+    open_at(bare, 0) == Some(OpenKind::Insert)
+        && open_at(bare, 1) == Some(OpenKind::Vacuum)
+        && open_at(bare, 2) == Some(OpenKind::Scan { held: 2 })
+}
+
+/// Whether the small state comes about, and all that is open in it.
+fn comes_about(alloc: Global) -> Result<(bool, bool), Memory> {
+    let (bare, is_so) = small_state(alloc, Quad)?;
+    let much = has_much_open(&bare);
+    forget(bare);
+    Ok((is_so, much))
+}
+
 #[test]
 fn much_is_open_at_once(rt: HostRuntime) -> Result<(), Fail> {
-    let (bare, is_so) = small_state(rt.alloc(), Quad)?;
-    assert!(rt; is_so);
-    assert_eq!(rt; open_at(&bare, 0), Some(OpenKind::Insert));
-    assert_eq!(rt; open_at(&bare, 1), Some(OpenKind::Vacuum));
-    assert_eq!(rt; open_at(&bare, 2), Some(OpenKind::Scan { held: 2 }));
-    forget(bare);
+    assert!(rt; comes_about(rt.alloc())? == (true, true));
     Ok(())
 }
