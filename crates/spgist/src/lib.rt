@@ -22,8 +22,8 @@ pub use queries::{DEFAULT_LIMIT, equal, one, prefix, within};
 pub use renews::renew;
 pub use spg_among::{Between, Idle, NearOut, near_among};
 pub use spg_base::{
-    Block, Bytes, Failed, Labels, List, Memory, Origin, Point, PointCond, Row, Rows, Same, SeatNo,
-    Span, Stamp, Stat,
+    Block, Bytes, Failed, Labels, List, Memory, Origin, Place, Point, PointCond, Row, Rows, Same,
+    SeatNo, Span, Stamp, Stat,
 };
 pub use spg_build::{BuildRefused, Entry, Gathered, build};
 pub use spg_clauses::{Fault, Reason};
