@@ -4,6 +4,7 @@ use crate::program::{done_over, push_numbered, ran_whole};
 use spg_base::{Bytes, List, Memory};
 use spg_io::FaultyImages;
 use std::alloc::{AllocError, Global};
+use std::process::Abort;
 use std::sync::Wait;
 use std::test::Fail;
 use std::thread::Threads;

@@ -84,7 +84,7 @@ const RUNS: [(&[u8], Status, [u64; 5]); 6] = [
 ];
 
 /// How the run of a script ends, and what its gate was told.
-fn told<R: AllocGlobal + Threads + Wait + Sync>(
+fn run_told<R: AllocGlobal + Threads + Wait + Sync>(
     rt: &R,
     script: &[u8],
 ) -> Result<(Status, [u64; 5]), Memory> {
@@ -96,7 +96,7 @@ fn told<R: AllocGlobal + Threads + Wait + Sync>(
 #[test]
 fn tells_the_gate(rt: HostRuntime) -> Result<(), Fail> {
     for (script, status, counts) in &RUNS {
-        assert!(rt; told(&rt, script)? == (*status, *counts));
+        assert!(rt; run_told(&rt, script)? == (*status, *counts));
     }
     Ok(())
 }
