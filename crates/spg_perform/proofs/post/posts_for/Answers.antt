@@ -17,7 +17,7 @@ loop-lane-preserved g c =
           (λ cs. subst (IsVacant (get_or lanes k cs)) (sym c.new.ensures.task) record {
             lane = c.as_slice.ensures ∙ (c.lane-item.is ∙ get_or_default lanes k c.lane-item.result cs within);
             empty = c.in_ok-records.ensures.items;
-            room = omega (arith, c.in_ok-records.ensures.capacity, c.len.ensures, ap length (c.lane-item.is ∙ get_or_default lanes k c.lane-item.result cs within));
+            room = omega (arith, c.in_ok-records.ensures.capacity, c.len-in-loop-lane.ensures, ap length (c.lane-item.is ∙ get_or_default lanes k c.lane-item.result cs within));
           }) i d below cs);
     }
 

@@ -1,4 +1,4 @@
-use Rattle.std.proofs.Common.{◌≡◌, ◌<◌, ◌+◌, ℕ, List, [], length, get_or, map, sym, ap, ◌∙◌, subst, arith}
+use Rattle.std.proofs.Common.{◌≡◌, ◌<◌, ◌+◌, ℕ, List, [], ◌++◌, length, get_or, map, take, drop, sym, ap, ◌∙◌, subst, arith}
 use Rattle.std.specs.Prelude.{All, false}
 use Rattle.std.proofs.lemmas.List.Elements.{All-get_or}
 use Rattle.spg_script.specs.declared.command.Command.{Command}
@@ -15,7 +15,7 @@ share-requires-clause-ready g c = λ lives outlives i d below.
     let speech = g.O.Spoken.speech in
     let lanes = c.args.lanes.now in
     let posts = c.deref_mut.result.now in
-    let count : length posts ≡ length lanes = ap length c.deref_mut.ensures.value ∙ sym c.in-Ok.posts.ok ∙ c.in-Ok.ensures.count in
+    let count : length posts ≡ length lanes = ap length c.deref_mut.ensures.value ∙ sym c.in-Ok.posts.ok.0 ∙ c.in-Ok.ensures.count in
     let inside : i < length lanes = omega (arith, below, count) in
     let post = get_or posts i d in
     let vacant : IsVacant (get_or lanes i []) post.task = subst (λ (xs : List _). IsVacant (get_or lanes i []) (get_or xs i d).task) (sym c.deref_mut.ensures.value) (c.in-Ok.ensures.vacant i d [] inside) in
@@ -36,7 +36,7 @@ returns-in-Ok-share-clause-ok g c =
     let old = c.of.result in
     let new = c.in-Ok-share.index in
     let shared = c.in-Ok-share.ensures in
-    let count : length posts ≡ length lanes = ap length c.deref_mut.ensures.value ∙ sym c.in-Ok.posts.ok ∙ c.in-Ok.ensures.count in
+    let count : length posts ≡ length lanes = ap length c.deref_mut.ensures.value ∙ sym c.in-Ok.posts.ok.0 ∙ c.in-Ok.ensures.count in
     let ran : RanBeside m speech old new lanes (map (λ p. p.task.records.items) after) = record {
       grew = shared.ok.journal;
       done = by_lane m speech (λ p. p.task.records.items) old.origin 0 old.journal new.journal lanes after (c.share.ensures.count ∙ count)
@@ -52,6 +52,8 @@ returns-in-Ok-share-clause-ok g c =
       made = shared.ok.origin;
       closed = shared.ok.closed;
     } in
-    let groups = back_in c.in-Ok.posts.len after c.in-Ok.posts.items (c.share.ensures.count ∙ ap length c.deref_mut.ensures.value ∙ sym c.in-Ok.posts.ok) in
-    subst (λ (s : Seen _ _ _ _). RanBeside m speech s c.into_state.result lanes _) c.of.ensures (subst (λ (s : Seen _ _ _ _). RanBeside m speech old s lanes _) (sym c.into_state.ensures.value)
-    (subst (λ xs. RanBeside m speech old new lanes (map (λ p. p.task.records.items) xs)) (sym groups) ran))
+    let groups = back_in c.in-Ok.posts.len after c.in-Ok.posts.items (c.share.ensures.count ∙ ap length c.deref_mut.ensures.value ∙ sym c.in-Ok.posts.ok.0) in
+    let back = take c.in-Ok.posts.len (after ++ drop (length after) c.in-Ok.posts.items) in
+    let told : RanBeside m speech old new lanes (map (λ p. p.task.records.items) back) = subst (λ xs. RanBeside m speech old new lanes (map (λ p. p.task.records.items) xs)) (sym groups) ran in
+    subst (λ (s : Seen g.row.O.Denot g.row.O-Key.Denot g.row.O-Recon.Denot g.row.O-Cond.Denot). RanBeside m speech s c.into_state.result lanes (map (λ p. p.task.records.items) back)) c.of.ensures
+    (subst (λ (s : Seen g.row.O.Denot g.row.O-Key.Denot g.row.O-Recon.Denot g.row.O-Cond.Denot). RanBeside m speech old s lanes (map (λ p. p.task.records.items) back)) (sym c.into_state.ensures.value) told)
