@@ -73,7 +73,7 @@ fn note_lane(book: &mut Book, records: Vec<Record>)
 }
 
 /// Notes the records of the lanes, lane by lane.
-fn note_all<O: OpClass, G: Gate>(book: &mut Book, posts: Vec<Lane<O, Post<'_, G>>>)
+fn note_all<O: OpClass, G>(book: &mut Book, posts: Vec<Lane<O, Post<'_, G>>>)
     requires room { length (joined (map (λ p. p.task.records.items) posts.items)) ≤ book.old.spare }
     ensures records { book.new.records ≡ book.old.records ++ joined (map (λ p. p.task.records.items) posts.entry.items) }
     ensures room { book.new.spare + length (joined (map (λ p. p.task.records.items) posts.entry.items)) ≡ book.old.spare }
