@@ -16,7 +16,6 @@ pub mod Beginning
 pub mod LaneCalls
 pub mod LaneTold
 pub mod LaneRuns
-pub mod Gathers
 pub mod Besides
 pub mod Refusing
 pub mod TogetherLeads

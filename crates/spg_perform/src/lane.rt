@@ -1,25 +1,27 @@
-// A lane: its commands by the pass of its seat, each done by the desk.
-ghost use Rattle.std.specs.Prelude.{◌≡◌, ◌≤◌, [], false, length, All, vec_capacity};
+// A lane: its commands, each done by its seat.
+ghost use Rattle.std.specs.Prelude.{◌≡◌, false, length};
 ghost use Rattle.spg_script.specs.declared.command.Command.TheVariants as asked;
 ghost use Rattle.spg_script.specs.Speech.{IsKnown};
-ghost use Rattle.spg_desk.specs.Passes.{desk_id, desk_of, view_of};
+ghost use Rattle.spg_share.specs.Seats.{seat_name, knows};
 ghost use Rattle.spg_commands.specs.Acted.{CanBeDone};
 ghost use Rattle.spg_perform.specs.Lanes.{Went, WentOne, insert_record, kill_record, find_record, vacuum_record, refused_at};
-ghost use Rattle.spg_perform.specs.Posts.{IsWhole};
+ghost use Rattle.spg_perform.specs.Posts.{IsWhole, IsReady};
 
+use crate::post::Post;
 use spg_base::{Memory, Row, Span};
 use spg_commands::{Gate, key_in, query_in};
-use spg_desk::{Desk, FindAnswer, InsertAnswer, KillAnswer, Pass, VacuumAnswer};
 use spg_opclass::OpClass;
 use spg_report::{Outcome, Record};
 use spg_script::{AnyKey, AnyQuery, Command, Spoken};
+use spg_share::{FindAnswer, InsertAnswer, KillAnswer, Seat, Task, VacuumAnswer};
+use std::alloc::Global;
 use std::sync::Wait;
 
 /// The record of a command that could not be begun for want of memory.
-fn wanting<O: OpClass>(pass: &Pass<O>) -> Record
-    ensures { result ≡ refused_at (length (view_of pass.now).seen) }
+fn wanting<O: OpClass>(seat: &Seat<'_, O>) -> Record
+    ensures { result ≡ refused_at (length (knows seat.now).seen) }
 {
-    let at = pass.seen();
+    let at = seat.seen();
     Record {
         span: Span { from: at, to: at },
         outcome: Outcome::Memory,
@@ -76,123 +78,99 @@ fn vacuum_record(answer: &VacuumAnswer) -> Record
 #[tactic(auto, using(crate::proofs::LaneTold::went_insert, crate::proofs::LaneTold::went_wanting))]
 fn insert<R: Wait, O: Spoken>(
     rt: &R,
-    desk: &Desk<O>,
-    pass: Pass<O>,
+    seat: &mut Seat<'_, O>,
     row: Row,
     key: &Option<AnyKey>,
-) -> (Pass<O>, Record)
-    requires own { desk_of pass ≡ desk_id desk.now }
-    requires whole { IsWhole (view_of pass) }
+) -> Record
+    requires whole { IsWhole (knows seat.old) }
     requires known { IsKnown O.speech (asked.Insert row key.now) }
-    ensures own { desk_of result.0 ≡ desk_of pass }
-    ensures went { WentOne O.meaning O.speech (view_of pass) (view_of result.0) (asked.Insert row key.now) result.1 }
+    ensures same { seat_name seat.new ≡ seat_name seat.old }
+    ensures went { WentOne O.meaning O.speech (knows seat.old) (knows seat.new) (asked.Insert row key.now) result }
 {
-    let key = match key_in(desk.class(), key) {
+    let key = match key_in(seat.class(), key) {
         Ok(Some(key)) => key,
         Ok(None) => unreachable!(),
-        Err(Memory) => {
-            let record = wanting(&pass);
-            return (pass, record);
-        }
+        Err(Memory) => return wanting(seat),
     };
-    let (pass, answer) = desk.insert(rt, pass, row, key);
-    (pass, insert_record(&answer))
+    let answer = seat.insert(rt, row, key);
+    insert_record(&answer)
 }
 
 #[tactic(auto, using(crate::proofs::LaneTold::went_delete))]
-fn delete<R: Wait, O: Spoken>(rt: &R, desk: &Desk<O>, pass: Pass<O>, row: Row) -> (Pass<O>, Record)
-    requires own { desk_of pass ≡ desk_id desk.now }
-    ensures own { desk_of result.0 ≡ desk_of pass }
-    ensures went { WentOne O.meaning O.speech (view_of pass) (view_of result.0) (asked.Delete row) result.1 }
+fn delete<R: Wait, O: Spoken>(rt: &R, seat: &mut Seat<'_, O>, row: Row) -> Record
+    ensures same { seat_name seat.new ≡ seat_name seat.old }
+    ensures went { WentOne O.meaning O.speech (knows seat.old) (knows seat.new) (asked.Delete row) result }
 {
-    let (pass, answer) = desk.kill(rt, pass, row);
-    (pass, kill_record(&answer))
+    let answer = seat.delete(rt, row);
+    kill_record(&answer)
 }
 
 #[tactic(auto, using(crate::proofs::LaneTold::went_find, crate::proofs::LaneTold::went_wanting))]
-fn find<R: Wait + AllocGlobal, O: Spoken>(
+fn find<R: Wait, O: Spoken>(
     rt: &R,
-    desk: &Desk<O>,
-    pass: Pass<O>,
+    alloc: Global,
+    seat: &mut Seat<'_, O>,
     query: &AnyQuery,
-) -> (Pass<O>, Record)
-    requires own { desk_of pass ≡ desk_id desk.now }
-    requires whole { IsWhole (view_of pass) }
+) -> Record
+    requires whole { IsWhole (knows seat.old) }
     requires known { IsKnown O.speech (asked.Find query.now) }
-    ensures own { desk_of result.0 ≡ desk_of pass }
-    ensures went { WentOne O.meaning O.speech (view_of pass) (view_of result.0) (asked.Find query.now) result.1 }
+    ensures same { seat_name seat.new ≡ seat_name seat.old }
+    ensures went { WentOne O.meaning O.speech (knows seat.old) (knows seat.new) (asked.Find query.now) result }
 {
-    let query = match query_in(rt.alloc(), desk.class(), query) {
+    let query = match query_in(alloc, seat.class(), query) {
         Ok(Some(query)) => query,
         Ok(None) => unreachable!(),
-        Err(Memory) => {
-            let record = wanting(&pass);
-            return (pass, record);
-        }
+        Err(Memory) => return wanting(seat),
     };
-    let (pass, answer) = desk.find(rt, pass, query);
-    (pass, find_record(answer))
+    let answer = seat.find(rt, query);
+    find_record(answer)
 }
 
 #[tactic(auto, using(crate::proofs::LaneTold::went_vacuum))]
-fn vacuum<R: Wait, O: Spoken>(rt: &R, desk: &Desk<O>, pass: Pass<O>) -> (Pass<O>, Record)
-    requires own { desk_of pass ≡ desk_id desk.now }
-    ensures own { desk_of result.0 ≡ desk_of pass }
-    ensures went { WentOne O.meaning O.speech (view_of pass) (view_of result.0) asked.Vacuum result.1 }
+fn vacuum<R: Wait, O: Spoken>(rt: &R, seat: &mut Seat<'_, O>) -> Record
+    ensures same { seat_name seat.new ≡ seat_name seat.old }
+    ensures went { WentOne O.meaning O.speech (knows seat.old) (knows seat.new) asked.Vacuum result }
 {
-    let (pass, answer) = desk.vacuum(rt, pass);
-    (pass, vacuum_record(&answer))
+    let answer = seat.vacuum(rt);
+    vacuum_record(&answer)
 }
 
 /// Does one command of a lane.
-fn lane_command<R: Wait + AllocGlobal, O: Spoken>(
+fn lane_command<R: Wait, O: Spoken>(
     rt: &R,
-    desk: &Desk<O>,
-    pass: Pass<O>,
+    alloc: Global,
+    seat: &mut Seat<'_, O>,
     command: &Command,
-) -> (Pass<O>, Record)
-    requires own { desk_of pass ≡ desk_id desk.now }
-    requires whole { IsWhole (view_of pass) }
+) -> Record
+    requires whole { IsWhole (knows seat.old) }
     requires can { CanBeDone O.speech false command.now }
-    ensures own { desk_of result.0 ≡ desk_of pass }
-    ensures went { WentOne O.meaning O.speech (view_of pass) (view_of result.0) command.now result.1 }
+    ensures same { seat_name seat.new ≡ seat_name seat.old }
+    ensures went { WentOne O.meaning O.speech (knows seat.old) (knows seat.new) command.now result }
 {
     match command {
-        Command::Insert { row, key } => insert(rt, desk, pass, *row, key),
-        Command::Delete { row } => delete(rt, desk, pass, *row),
-        Command::Find { query } => find(rt, desk, pass, query),
-        Command::Vacuum => vacuum(rt, desk, pass),
+        Command::Insert { row, key } => insert(rt, seat, *row, key),
+        Command::Delete { row } => delete(rt, seat, *row),
+        Command::Find { query } => find(rt, alloc, seat, query),
+        Command::Vacuum => vacuum(rt, seat),
         // No lane has these.
         Command::Save { name: _ } | Command::Stat | Command::Near { .. } => unreachable!(),
     }
 }
 
-/// Does the commands of a lane one after another. Before each it asks the gate.
-pub(crate) fn run_lane<R: Wait + AllocGlobal, O: Spoken, G: Gate>(
-    rt: &R,
-    desk: &Desk<O>,
-    gate: &G,
-    lane: u8,
-    pass: Pass<O>,
-    commands: &[Command],
-    records: &mut Vec<Record>,
-) -> Pass<O>
-    requires own { desk_of pass ≡ desk_id desk.now }
-    requires whole { IsWhole (view_of pass) }
-    requires can { All (CanBeDone O.speech false) commands.now }
-    requires empty { records.old.items ≡ [] }
-    requires room { length commands.now ≤ vec_capacity records.old }
-    ensures own { desk_of result ≡ desk_of pass }
-    ensures went { Went O.meaning O.speech (view_of pass) (view_of result) commands.now records.new.items }
-{
-    let mut pass = pass;
-    let mut number = 0u32;
-    for command in commands {
-        gate.at(rt, lane, number);
-        let (next, done) = lane_command(rt, desk, pass, command);
-        pass = next;
-        records.push_reserved(done);
-        number = number.saturating_add(1);
+impl<'a, O: Spoken, G: Gate> Task<O> for Post<'a, G> {
+    ghost ready = { λ post v. IsReady O.speech post v };
+
+    ghost does = { λ before after v w. Went O.meaning O.speech v w before.commands.now after.records.items };
+
+    /// Does the commands of the lane one after another. Before each it asks the gate.
+    fn run<R: Wait>(&mut self, rt: &R, seat: &mut Seat<'_, O>) {
+        let commands = self.commands;
+        let mut number = 0u32;
+        for command in commands {
+            self.gate.at(rt, self.number, number);
+            let done = lane_command(rt, self.alloc, seat, command);
+            self.records.push_reserved(done);
+            number = number.saturating_add(1);
+        }
     }
-    pass
 }

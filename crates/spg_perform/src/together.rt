@@ -1,5 +1,5 @@
 // The lanes of a block beside each other.
-ghost use Rattle.std.specs.Prelude.{◌≡◌, ◌<◌, ◌≤◌, ◌+◌, ◌++◌, ◌==◌, ℕ, true, false, Option, List as Items, length, vec_len, slice_index_or, All, IfOk, IfErr};
+ghost use Rattle.std.specs.Prelude.{◌≡◌, ◌<◌, ◌≤◌, ◌+◌, ◌++◌, ◌==◌, ℕ, true, false, Option, List as Items, length, map, vec_len, All, IfOk, IfErr};
 ghost use Rattle.spg_rows.specs.Right.{Right};
 ghost use Rattle.spg_tree.specs.Table.{sheets_of};
 ghost use Rattle.spg_core.specs.Seen.{past_of};
@@ -11,20 +11,18 @@ ghost use Rattle.spg_io.specs.Held.{Holding};
 ghost use Rattle.spg_perform.specs.Session.{AllClosed, LeadsOn, standing};
 ghost use Rattle.spg_commands.specs.Acted.{CanBeDone};
 ghost use Rattle.spg_perform.specs.Lanes.{refusals};
-ghost use Rattle.spg_perform.specs.Posts.{IsVacant, groups_of, RanBeside};
+ghost use Rattle.spg_perform.specs.Posts.{RanBeside};
 
-use crate::dealing::{deal, run_all};
-use crate::gathering::gather;
 use crate::position::position;
 use crate::post::{Post, posts_for};
 use spg_base::{List, Span};
 use spg_commands::{Book, Gate};
 use spg_core::State;
-use spg_desk::Desk;
 use spg_opclass::{OpClass, SharedClass};
 use spg_report::{Outcome, Record};
 use spg_script::{Command, Spoken};
-use std::snapshot::Snapshot;
+use spg_share::{Lane, share};
+use spg_whole::Index;
 use std::sync::Wait;
 use std::thread::Threads;
 
@@ -40,56 +38,26 @@ fn are_idle(lanes: &[List<Command>]) -> bool
     true
 }
 
-/// Runs the lanes of a block beside each other at their posts, each with a pass of its own. The state is
-/// handed back as it was, and no command was begun, where there is no memory for the desk.
-fn run_lanes<R: AllocGlobal + Threads + Wait + Sync, O: Spoken + SharedClass, G: Gate>(
+/// Runs the lanes of a block beside each other, each at a post of its own. Where there is no memory for
+/// that, the state is handed back as it was, and no command was begun.
+fn beside<'a, R: AllocGlobal + Threads + Wait + Sync, O: Spoken + SharedClass, G: Gate>(
     rt: &R,
     state: State<O>,
-    lanes: &[List<Command>],
-    posts: &mut [Post<O>],
-    gate: &G,
-) -> Result<State<O>, State<O>>
+    lanes: &'a [List<Command>],
+    gate: &'a G,
+) -> Result<(State<O>, Vec<Lane<O, Post<'a, G>>>), State<O>>
     requires closed { AllClosed (past_of state) }
     requires some { (0 < length lanes.now) × (length lanes.now ≤ 32) }
     requires can { All (λ (lane : Items Asked). All (CanBeDone O.speech false) lane) lanes.now }
-    requires count { length posts.old ≡ length lanes.now }
-    requires vacant { (i : ℕ) (d : _) (c : Items Asked) → i < length lanes.now → IsVacant (slice_index_or lanes.now i c) (slice_index_or posts.old i d) }
-    ensures ok { IfOk result (λ after. RanBeside O.meaning O.speech state after lanes.now (groups_of posts.new)) }
-    ensures err { IfErr result (λ back. back ≡ state) }
-    ensures count { length posts.new ≡ length posts.old }
-{
-    let before = Snapshot::of(&state);
-    match Desk::new(rt.alloc(), state, lanes.len() as u8) {
-        Ok((desk, first)) => {
-            deal(&desk, first, posts);
-            run_all(rt, &desk, gate, lanes, posts);
-            let first = gather(&desk, &before, lanes, posts);
-            Ok(desk.close(first))
-        }
-        Err((state, _)) => Err(state),
-    }
-}
-
-/// Runs the lanes of a block beside each other. Where there is no memory for the posts or the desk, the
-/// state is handed back as it was, and no command was begun.
-fn beside<R: AllocGlobal + Threads + Wait + Sync, O: Spoken + SharedClass, G: Gate>(
-    rt: &R,
-    state: State<O>,
-    lanes: &[List<Command>],
-    gate: &G,
-) -> Result<(State<O>, Vec<Post<O>>), State<O>>
-    requires closed { AllClosed (past_of state) }
-    requires some { (0 < length lanes.now) × (length lanes.now ≤ 32) }
-    requires can { All (λ (lane : Items Asked). All (CanBeDone O.speech false) lane) lanes.now }
-    ensures ok { IfOk result (λ done. RanBeside O.meaning O.speech state done.0 lanes.now (groups_of done.1.items)) }
+    ensures ok { IfOk result (λ done. RanBeside O.meaning O.speech state done.0 lanes.now (map (λ p. p.task.records.items) done.1.items)) }
     ensures err { IfErr result (λ back. back ≡ state) }
 {
-    let Ok(mut posts) = posts_for(rt.alloc(), lanes) else {
+    let Ok(mut posts) = posts_for(rt.alloc(), lanes, gate) else {
         return Err(state);
     };
-    match run_lanes(rt, state, lanes, &mut posts, gate) {
-        Ok(after) => Ok((after, posts)),
-        Err(before) => Err(before),
+    match share(rt, Index::of(state), &mut posts) {
+        Ok(index) => Ok((index.into_state(), posts)),
+        Err((index, _)) => Err(index.into_state()),
     }
 }
 
@@ -105,13 +73,13 @@ fn note_lane(book: &mut Book, records: Vec<Record>)
 }
 
 /// Notes the records of the lanes, lane by lane.
-fn note_all<O: OpClass>(book: &mut Book, posts: Vec<Post<O>>)
-    requires room { length (joined (groups_of posts.items)) ≤ book.old.spare }
-    ensures records { book.new.records ≡ book.old.records ++ joined (groups_of posts.items) }
-    ensures room { book.new.spare + length (joined (groups_of posts.items)) ≡ book.old.spare }
+fn note_all<O: OpClass, G>(book: &mut Book, posts: Vec<Lane<O, Post<'_, G>>>)
+    requires room { length (joined (map (λ p. p.task.records.items) posts.items)) ≤ book.old.spare }
+    ensures records { book.new.records ≡ book.old.records ++ joined (map (λ p. p.task.records.items) posts.entry.items) }
+    ensures room { book.new.spare + length (joined (map (λ p. p.task.records.items) posts.entry.items)) ≡ book.old.spare }
 {
     for post in posts {
-        note_lane(book, post.records);
+        note_lane(book, post.task.records);
     }
 }
 
