@@ -30,6 +30,7 @@ pub mod Siftings
 pub mod Works
 pub mod Sweepers
 pub mod Vacuumed
+pub mod Blocking
 pub mod Runs
 pub mod Counting
 pub mod Promised

@@ -18,6 +18,7 @@ pub mod Refusing
 pub mod Runs
 pub mod Guides
 pub mod Looking
+pub mod Blocked
 pub mod Sifting
 pub mod RunsBounded
 pub mod Calls

@@ -49,20 +49,13 @@ impl<O: OpClass> Bare<O> {
         self.kept.open_insert(seat, row, started)
     }
 
-    /// The next section of an insert. `Descended` where it comes to the root, or from an inner
-    /// tuple to the child or the empty downlink of a node. `Restructured` where the leaves are
-    /// divided without its own, where a node is put into the inner tuple at which it stands, and
-    /// where that tuple is split. `Put` where the row is put, and the insert has ended. `ClockFull`
-    /// exactly where a chain moves, one below a root is divided, or a tuple with one more node does
-    /// not fit in its place, and the clock is 2^48 - 1, unless memory is short before. `IndexFull`
-    /// exactly where a pick of the section finds no page, unless the clock or want of memory stops
-    /// it before; fewer than 4 blocks are left below the limit then. Both only where the keys of its
-    /// tree that were ever inserted take more than 8,160 bytes. `Restarted` exactly where the root
-    /// or child to be visited stands on a block that another seat has latched: the insert is at its
-    /// start then. It changes only blocks that the seat had latched or that nobody had; at its
-    /// start, and once its row is put, the seat has latched none. The latches of the other seats
-    /// stay. No page is lost, and the clock does not go back. It makes one inner tuple at most, and
-    /// takes one of the sections that may come yet.
+    /// The next section of an insert (docs/ALGORITHM.md, Insert). `ClockFull` comes exactly where a chain
+    /// moves, one below a root is divided, or a tuple with one more node does not fit in its place, and the
+    /// clock is 2^48 - 1, unless memory is short before; `IndexFull` exactly where a pick of the section
+    /// finds no page, unless the clock or want of memory stops it before. Both only where the keys of its
+    /// tree that were ever inserted take more than 8,160 bytes. `Restarted` comes only where another seat
+    /// has latched the block that it names: the insert is at its start then. At its start, and once its row
+    /// is put, the seat has latched no block.
     #[inline(always)]
     pub(crate) fn insert_step(&mut self, class: &O, seat: SeatNo) -> Result<InsertOut, StepRefused>
         requires inserting { IsInserting (stage_at self.old seat) }

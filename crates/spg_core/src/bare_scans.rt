@@ -2,6 +2,7 @@ ghost use Rattle.std.specs.Prelude.{◌≡◌, ◌<◌, ◌↔◌, IfOk, OnOk, O
 ghost use Rattle.spg_core.specs.Stage.{free, IsReading, IsRead, held_count};
 ghost use Rattle.spg_core.specs.Seen.{stage_at};
 ghost use Rattle.spg_core.specs.Looking.{CopiesItem, KeptIn, SiftsItem};
+ghost use Rattle.spg_core.specs.Blocked.{IsItemFree};
 ghost use Rattle.spg_core.specs.Sections.{OpensScan, ReadsItem, ClosesScan};
 ghost use Rattle.spg_core.specs.Runs.{opens_scan, reads, copies, sifts, closes};
 ghost use Rattle.spg_core.specs.Calls.{IsCall};
@@ -30,7 +31,7 @@ impl<O: OpClass> Bare<O> {
 
     /// Reads a held item: what it leads to takes its place, and the live rows that the query asks for
     /// are taken. `Latched` exactly where another seat has latched the item's block, and the scan stays
-    /// as it is.
+    /// as it is; that wants no memory.
     pub(crate) fn scan_read(
         &mut self,
         class: &O,
@@ -40,6 +41,7 @@ impl<O: OpClass> Bare<O> {
         requires held { item < held_count (stage_at self.old seat) }
         ensures ok { IfOk result (λ out. ReadsItem O.meaning self.old self.new seat item out) }
         ensures call { IfOk result (λ out. IsCall O.meaning self.old self.new seat (reads item out)) }
+        ensures latched { OnErr result (IsItemFree self.old seat item) }
         ensures err { OnErr result (self.new ≡ self.old) }
     {
         self.kept.scan_read(class, seat, item)
@@ -49,11 +51,12 @@ impl<O: OpClass> Bare<O> {
     /// tuple of the main tree, and where the query has conditions the live leaves of a chain or root
     /// leaf page of the main tree. The item is then being sifted, and its tuples are met. One that is
     /// being sifted gives its copy again. Any other is read. `Latched` exactly where another seat has
-    /// latched the item's block, and the scan stays as it is.
+    /// latched the item's block, and the scan stays as it is; that wants no memory.
     pub fn scan_copy(&mut self, seat: SeatNo, item: usize) -> Result<ScanCopy<O>, Memory>
         requires held { item < held_count (stage_at self.old seat) }
         ensures ok { IfOk result (λ out. CopiesItem O.meaning self.old self.new seat item out) }
         ensures call { IfOk result (λ out. IsCall O.meaning self.old self.new seat (copies item out)) }
+        ensures latched { OnErr result (IsItemFree self.old seat item) }
         ensures err { OnErr result (self.new ≡ self.old) }
     {
         self.kept.scan_copy(seat, item)

@@ -4,6 +4,7 @@ ghost use Rattle.spg_seats.specs.Descending.{ChangesHeld};
 ghost use Rattle.spg_core.specs.Stage.{free, IsSweeping};
 ghost use Rattle.spg_core.specs.Seen.{stage_at, past_of};
 ghost use Rattle.spg_core.specs.Stepping.{Grows};
+ghost use Rattle.spg_core.specs.Blocked.{IsWorkFree};
 ghost use Rattle.spg_core.specs.Sections.{OthersHold, KillsRow, OpensVacuum, StepsVacuum};
 ghost use Rattle.spg_core.specs.Runs.{opens_vacuum};
 ghost use Rattle.spg_core.specs.Calls.{IsCall, WorksOn, SweepsPages, kill_of};
@@ -41,10 +42,10 @@ impl<O: OpClass> Bare<O> {
     /// The next section of a vacuum. `Pending` exactly where it handles the first place of its pending
     /// list that is not done; `Block` exactly where all of these are done, and it handles the next
     /// block; `Finished` exactly where there is no next block either, and the vacuum has ended then.
-    /// `Latched` exactly where another seat has latched the block to be handled, and nothing changes.
-    /// The rows that it sweeps are told in the order of the offsets that they had. Redirects become
-    /// placeholders whose stamps are below the opening stamp of the vacuum and of each open scan, so
-    /// what began at such a stamp takes no harm.
+    /// `Latched` exactly where another seat has latched the block to be handled, and nothing changes;
+    /// that wants no memory. The rows that it sweeps are told in the order of the offsets that they
+    /// had. Redirects become placeholders whose stamps are below the opening stamp of the vacuum and of
+    /// each open scan, so what began at such a stamp takes no harm.
     pub fn vacuum_step(&mut self, seat: SeatNo) -> Result<VacuumOut, Memory>
         requires sweeping { IsSweeping (stage_at self.old seat) }
         ensures ok { IfOk result (λ out. StepsVacuum self.old self.new seat out) }
@@ -53,6 +54,7 @@ impl<O: OpClass> Bare<O> {
         ensures others { OthersHold self.old.table self.new.table seat }
         ensures within { ChangesHeld self.old.table self.new.table seat }
         ensures grows { Grows self.old.table self.new.table }
+        ensures latched { OnErr result (IsWorkFree self.old seat) }
         ensures err { OnErr result (self.new ≡ self.old) }
     {
         self.kept.vacuum_step(seat)

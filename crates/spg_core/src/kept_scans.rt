@@ -2,6 +2,7 @@ ghost use Rattle.std.specs.Prelude.{◌≡◌, ◌<◌, ◌↔◌, IfOk, OnOk, O
 ghost use Rattle.spg_core.specs.Stage.{free, IsReading, IsRead, held_count};
 ghost use Rattle.spg_core.specs.Seen.{stage_at};
 ghost use Rattle.spg_core.specs.Looking.{CopiesItem, KeptIn, SiftsItem};
+ghost use Rattle.spg_core.specs.Blocked.{IsItemFree};
 ghost use Rattle.spg_core.specs.Sections.{OpensScan, ReadsItem, ClosesScan};
 ghost use Rattle.spg_core.specs.Runs.{opens_scan, reads, copies, sifts, closes};
 ghost use Rattle.spg_core.specs.Calls.{IsCall};
@@ -49,6 +50,7 @@ impl<O: OpClass> Kept<O> {
         requires held { item < held_count (stage_at self.old seat) }
         ensures ok { IfOk result (λ out. ReadsItem O.meaning self.old self.new seat item out) }
         ensures call { IfOk result (λ out. IsCall O.meaning self.old self.new seat (reads item out)) }
+        ensures latched { OnErr result (IsItemFree self.old seat item) }
         ensures err { OnErr result (self.new ≡ self.old) }
     {
         let liveness = Liveness {
@@ -72,6 +74,7 @@ impl<O: OpClass> Kept<O> {
         requires held { item < held_count (stage_at self.old seat) }
         ensures ok { IfOk result (λ out. CopiesItem O.meaning self.old self.new seat item out) }
         ensures call { IfOk result (λ out. IsCall O.meaning self.old self.new seat (copies item out)) }
+        ensures latched { OnErr result (IsItemFree self.old seat item) }
         ensures err { OnErr result (self.new ≡ self.old) }
     {
         let out = copy_slot(&self.table, &self.rows, &mut self.slots, seat, item)?;

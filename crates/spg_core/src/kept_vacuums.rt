@@ -5,6 +5,7 @@ ghost use Rattle.spg_seats.specs.Descending.{ChangesHeld};
 ghost use Rattle.spg_core.specs.Stage.{free, IsSweeping};
 ghost use Rattle.spg_core.specs.Seen.{stage_at, past_of};
 ghost use Rattle.spg_core.specs.Stepping.{Grows};
+ghost use Rattle.spg_core.specs.Blocked.{IsWorkFree};
 ghost use Rattle.spg_core.specs.Sections.{OthersHold, KillsRow, OpensVacuum, StepsVacuum};
 ghost use Rattle.spg_core.specs.Runs.{opens_vacuum};
 ghost use Rattle.spg_core.specs.Calls.{IsCall, WorksOn, SweepsPages, kill_of};
@@ -12,7 +13,7 @@ ghost use Rattle.spg_core.specs.Calls.{IsCall, WorksOn, SweepsPages, kill_of};
 use crate::answer::{VacuumOut, VacuumRefused};
 use crate::kept::{Kept, ROOM};
 use crate::slot::{Slot, opened, set_slot};
-use crate::sweeping::{sweep_slot, tell_sweeps};
+use crate::sweeping::{held_slot, sweep_slot, tell_sweeps};
 use crate::waiting::vacuum_seat;
 use spg_base::{Memory, Row, SeatNo, Stamp};
 use spg_opclass::OpClass;
@@ -64,6 +65,30 @@ impl<O: OpClass> Kept<O> {
     }
 
     pub(crate) fn vacuum_step(&mut self, seat: SeatNo) -> Result<VacuumOut, Memory>
+        requires sweeping { IsSweeping (stage_at self.old seat) }
+        ensures ok { IfOk result (λ out. StepsVacuum self.old self.new seat out) }
+        ensures call { IfOk result (λ out. WorksOn O.meaning self.old self.new seat out) }
+        ensures changes { IfOk result (λ _. SweepsPages O.meaning self.old self.new seat) }
+        ensures others { OthersHold self.old.table self.new.table seat }
+        ensures within { ChangesHeld self.old.table self.new.table seat }
+        ensures grows { Grows self.old.table self.new.table }
+        ensures latched { OnErr result (IsWorkFree self.old seat) }
+        ensures err { OnErr result (self.new ≡ self.old) }
+    {
+        match held_slot(&self.table, self.slots.as_slice(), seat) {
+            Some(held) => {
+                self.table.set_touched(Touched::new());
+                Ok(VacuumOut::Latched {
+                    block: held.0,
+                    by: held.1,
+                })
+            }
+            None => self.sweep(seat),
+        }
+    }
+
+    /// A section of a vacuum, for which there is room in the journal first.
+    fn sweep(&mut self, seat: SeatNo) -> Result<VacuumOut, Memory>
         requires sweeping { IsSweeping (stage_at self.old seat) }
         ensures ok { IfOk result (λ out. StepsVacuum self.old self.new seat out) }
         ensures call { IfOk result (λ out. WorksOn O.meaning self.old self.new seat out) }

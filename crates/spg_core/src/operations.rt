@@ -13,6 +13,7 @@ ghost use Rattle.spg_core.specs.Operations.{CanStep, StepsSlot, IsOutgrownBy, Ca
 ghost use Rattle.spg_core.specs.Stepping.{IsNearLimit};
 ghost use Rattle.spg_core.specs.Sections.{FindsNoPageFor, TicksFor};
 ghost use Rattle.spg_core.specs.Guides.{GuidedIn};
+ghost use Rattle.spg_core.specs.Blocked.{ItemFreeIn};
 ghost use Rattle.spg_scan.specs.Scanning.{IsClosing, emptied};
 ghost use Rattle.spg_scan.specs.Parts.{EntriesLive};
 
@@ -86,6 +87,7 @@ pub(crate) fn read_slot<O: OpClass>(
     requires scan { CanRead O.meaning table.now (slice_index_or slots.old.items seat kept.Free) item }
     requires live { liveness.now.all_live ≡ true → EntriesLive O.meaning (sheets_of table.now) liveness.now.table.now }
     ensures ok { IfOk result (λ out. ReadsSlot O.meaning table.now liveness.now.table.now slots.old.items slots.new.items seat item out) }
+    ensures latched { OnErr result (ItemFreeIn table.now (stage_of (slice_index_or slots.old.items seat kept.Free)) seat item) }
     ensures err { OnErr result (slots.new.items ≡ slots.old.items) }
 {
     match &mut slots[usize::from(seat.number())] {

@@ -4,6 +4,7 @@ ghost use Rattle.spg_forest.specs.Shape.{Shape};
 ghost use Rattle.spg_tree.specs.Table.{sheets_of};
 ghost use Rattle.spg_core.specs.declared.slot.Slot.TheVariants as kept;
 ghost use Rattle.spg_core.specs.Looking.{KeptIn};
+ghost use Rattle.spg_core.specs.Blocked.{ItemFreeIn};
 ghost use Rattle.spg_core.specs.Operations.{CanRead};
 ghost use Rattle.spg_core.specs.Sifting.{CopiesSlot, SiftsSlot};
 ghost use Rattle.spg_core.specs.Slot.{stage_of};
@@ -28,6 +29,7 @@ pub(crate) fn copy_slot<O: OpClass>(
     requires shape { Shape O.meaning (sheets_of table.now) }
     requires scan { CanRead O.meaning table.now (slice_index_or slots.old.items seat kept.Free) item }
     ensures ok { IfOk result (λ out. CopiesSlot O.meaning table.now rows.now slots.old.items slots.new.items seat item out) }
+    ensures latched { OnErr result (ItemFreeIn table.now (stage_of (slice_index_or slots.old.items seat kept.Free)) seat item) }
     ensures err { OnErr result (slots.new.items ≡ slots.old.items) }
 {
     match &mut slots[usize::from(seat.number())] {

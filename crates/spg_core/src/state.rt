@@ -21,6 +21,7 @@ ghost use Rattle.spg_core.specs.Stage.{free, IsInserting, IsSweeping, IsRead, Is
 ghost use Rattle.spg_core.specs.Since.{opened_at};
 ghost use Rattle.spg_core.specs.Seen.{stage_at, past_of, HasClass, with_class, IsPresentWith};
 ghost use Rattle.spg_core.specs.Stepping.{IsNearLimit, Grows, MakesAtMostOne};
+ghost use Rattle.spg_core.specs.Blocked.{IsItemFree, IsWorkFree};
 ghost use Rattle.spg_core.specs.Ends.{SeatEnds, SeatThenEnds};
 ghost use Rattle.spg_core.specs.Kept.{RootsAreHeavy};
 ghost use Rattle.spg_core.specs.Counts.{IsStat};
@@ -236,20 +237,13 @@ impl<O: OpClass> State<O> {
         }
     }
 
-    /// The next section of an insert. `Descended` where it comes to the root, or from an inner
-    /// tuple to the child or the empty downlink of a node. `Restructured` where the leaves are
-    /// divided without its own, where a node is put into the inner tuple at which it stands, and
-    /// where that tuple is split. `Put` where the row is put, and the insert has ended. `ClockFull`
-    /// exactly where a chain moves, one below a root is divided, or a tuple with one more node does
-    /// not fit in its place, and the clock is 2^48 - 1, unless memory is short before. `IndexFull`
-    /// exactly where a pick of the section finds no page, unless the clock or want of memory stops
-    /// it before; fewer than 4 blocks are left below the limit then. Both only where the keys of its
-    /// tree that were ever inserted take more than 8,160 bytes. `Restarted` exactly where the root
-    /// or child to be visited stands on a block that another seat has latched: the insert is at its
-    /// start then. It changes only blocks that the seat had latched or that nobody had; at its
-    /// start, and once its row is put, the seat has latched none. The latches of the other seats
-    /// stay. No page is lost, and the clock does not go back. It makes one inner tuple at most, and
-    /// takes one of the sections that may come yet.
+    /// The next section of an insert (docs/ALGORITHM.md, Insert). `ClockFull` comes exactly where a chain
+    /// moves, one below a root is divided, or a tuple with one more node does not fit in its place, and the
+    /// clock is 2^48 - 1, unless memory is short before; `IndexFull` exactly where a pick of the section
+    /// finds no page, unless the clock or want of memory stops it before. Both only where the keys of its
+    /// tree that were ever inserted take more than 8,160 bytes. `Restarted` comes only where another seat
+    /// has latched the block that it names: the insert is at its start then. At its start, and once its row
+    /// is put, the seat has latched no block.
     pub fn insert_step(&mut self, seat: SeatNo) -> Result<InsertOut, StepRefused>
         requires inserting { IsInserting (stage_at self.old seat) }
         ensures ok { IfOk result (λ out. IsInsertOut self.old self.new seat out) }
@@ -298,11 +292,12 @@ impl<O: OpClass> State<O> {
 
     /// Reads a held item: what it leads to takes its place, and the live rows that the query asks for
     /// are taken. `Latched` exactly where another seat has latched the item's block, and the scan stays
-    /// as it is.
+    /// as it is; that wants no memory.
     pub fn scan_read(&mut self, seat: SeatNo, item: usize) -> Result<ReadOut, Memory>
         requires held { item < held_count (stage_at self.old seat) }
         ensures ok { IfOk result (λ out. ReadsItem O.meaning self.old self.new seat item out) }
         ensures call { IfOk result (λ out. IsCall O.meaning self.old self.new seat (reads item out)) }
+        ensures latched { OnErr result (IsItemFree self.old seat item) }
         ensures err { OnErr result (self.new ≡ self.old) }
     {
         self.bare.scan_read(&self.class, seat, item)
@@ -333,10 +328,10 @@ impl<O: OpClass> State<O> {
     /// The next section of a vacuum. `Pending` exactly where it handles the first place of its pending
     /// list that is not done; `Block` exactly where all of these are done, and it handles the next
     /// block; `Finished` exactly where there is no next block either, and the vacuum has ended then.
-    /// `Latched` exactly where another seat has latched the block to be handled, and nothing changes.
-    /// The rows that it sweeps are told in the order of the offsets that they had. Redirects become
-    /// placeholders whose stamps are below the opening stamp of the vacuum and of each open scan, so
-    /// what began at such a stamp takes no harm.
+    /// `Latched` exactly where another seat has latched the block to be handled, and nothing changes;
+    /// that wants no memory. The rows that it sweeps are told in the order of the offsets that they
+    /// had. Redirects become placeholders whose stamps are below the opening stamp of the vacuum and of
+    /// each open scan, so what began at such a stamp takes no harm.
     pub fn vacuum_step(&mut self, seat: SeatNo) -> Result<VacuumOut, Memory>
         requires sweeping { IsSweeping (stage_at self.old seat) }
         ensures ok { IfOk result (λ out. StepsVacuum self.old self.new seat out) }
@@ -345,6 +340,7 @@ impl<O: OpClass> State<O> {
         ensures others { OthersHold self.old.table self.new.table seat }
         ensures within { ChangesHeld self.old.table self.new.table seat }
         ensures grows { Grows self.old.table self.new.table }
+        ensures latched { OnErr result (IsWorkFree self.old seat) }
         ensures err { OnErr result (self.new ≡ self.old) }
     {
         self.bare.vacuum_step(seat)

@@ -1,5 +1,5 @@
 //! The sections of a vacuum, and how they are told.
-ghost use Rattle.std.specs.Prelude.{◌≡◌, ◌≤◌, ◌+◌, ◌++◌, IsTrue, length, slice_index_or, Contains, IfOk, OnErr};
+ghost use Rattle.std.specs.Prelude.{Bool, ◌≡◌, ◌≤◌, ◌+◌, ◌++◌, IsTrue, length, slice_index_or, Contains, IfOk, OnErr};
 ghost use Rattle.std.specs.BTreeSet.{contains, IsEmpty};
 ghost use Rattle.spg_base.specs.Row.{RowAt, row_cmp};
 ghost use Rattle.spg_forest.specs.Shape.{Shape};
@@ -10,12 +10,14 @@ ghost use Rattle.spg_seats.specs.Opening.{sweeps};
 ghost use Rattle.spg_tree.specs.Table.{sheets_of};
 ghost use Rattle.spg_vacuum.specs.Vacuums.{IsVacuum};
 ghost use Rattle.spg_core.specs.declared.slot.Slot.TheVariants as kept;
+ghost use Rattle.spg_core.specs.Slot.{stage_of};
+ghost use Rattle.spg_core.specs.Blocked.{WorkHeldIn};
 ghost use Rattle.spg_core.specs.Sweeping.{DoesWork, KeepsWork, IsVacuumSlot, IsHorizonFor, CanSweep, SweepsSlot, SetsSwept, LeaveSet};
 
 use crate::answer::VacuumOut;
 use crate::slot::{Slot, slot_at};
 use crate::waiting::horizon;
-use spg_base::{List, Memory, Row, RowSet, Rows, SeatNo, Stamp};
+use spg_base::{Block, List, Memory, Row, RowSet, Rows, SeatNo, Stamp};
 use spg_opclass::OpClass;
 use spg_rows::{Event, Journal, RowTable};
 use spg_tree::{PageTable, Touched};
@@ -84,6 +86,24 @@ fn horizon_for<O: OpClass>(slots: &[Slot<O>], seat: SeatNo) -> Stamp
 {
     match slot_at(slots, seat) {
         Slot::Vacuum(vacuum) => horizon(slots, vacuum.stamp()),
+        _ => unreachable!(),
+    }
+}
+
+/// The block that the vacuum in the seat's slot handles next and the other seat that has latched it.
+/// None exactly where no other seat has, or the vacuum is at its end.
+pub(crate) fn held_slot<O: OpClass>(
+    table: &PageTable,
+    slots: &[Slot<O>],
+    seat: SeatNo,
+) -> Option<(Block, SeatNo)>
+    requires seats { length slots.now ≡ 64 }
+    requires shape { Shape O.meaning (sheets_of table.now) }
+    requires vacuum { (test : RowAt → Bool) × CanSweep O.meaning table.now test (slice_index_or slots.now seat kept.Free) }
+    ensures { WorkHeldIn table.now (stage_of (slice_index_or slots.now seat kept.Free)) seat result }
+{
+    match slot_at(slots, seat) {
+        Slot::Vacuum(vacuum) => vacuum.held_next::<O>(table, seat),
         _ => unreachable!(),
     }
 }

@@ -14,16 +14,12 @@ use spg_opclass::OpClass;
 use spg_tree::StepRefused;
 
 impl<O: OpClass> State<O> {
-    /// The sections of an insert one after another, until its row is put, another seat holds the block
-    /// to be visited, or a section is refused: each is one that `insert_step` does from the state that
-    /// the one before it left, and nothing else is done. It returns, since each section takes one of
-    /// those that may come yet. After a refusal the sections before it stand, and the insert is open as
-    /// they left it. What the other seats have open stays. `IndexFull` only where fewer than 4 blocks
-    /// are left below the limit, `ClockFull` only where the clock is 2^48 - 1, and both only where the
-    /// keys of its tree that were ever inserted take more than 8,160 bytes. After `Put` and `Restarted`
-    /// the seat has nothing latched. Only blocks change that the seat had latched or that nobody had,
-    /// and the latches of the other seats stay. No page is lost, and the clock does not go back. It
-    /// waits for nobody.
+    /// The sections of an insert one after another, each as `insert_step` does it, until its row is put,
+    /// another seat holds the block to be visited, or a section is refused. It returns, since each section
+    /// takes one of those that may come yet. After a refusal the sections before it stand, and the insert is
+    /// open as they left it. `IndexFull` only where fewer than 4 blocks are left below the limit, `ClockFull`
+    /// only where the clock is 2^48 - 1, both only where the keys of its tree that were ever inserted take
+    /// more than 8,160 bytes. After `Put` and `Restarted` the seat has nothing latched. It waits for nobody.
     pub fn insert_through(&mut self, seat: SeatNo) -> Result<InsertRan, StepRefused>
         requires inserting { IsInserting (stage_at self.old seat) }
         ensures ok { IfOk result (λ ran. RunsThrough self.old self.new seat ran) }

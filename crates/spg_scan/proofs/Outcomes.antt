@@ -1,5 +1,5 @@
 -- What comes of an item that is copied, read, or gone on by.
-use Rattle.std.proofs.Common.{◌≡◌, inr, ℕ, true, [], ◌∷◌, Option, Some, None, sym, ap, ◌∙◌}
+use Rattle.std.proofs.Common.{◌≡◌, inr, ℕ, true, [], ◌∷◌, Option, Some, None, Result, Ok, Err, OnErr, sym, ap, ◌∙◌}
 use Rattle.std.proofs.lemmas.Bool.{false≢true}
 use Rattle.spg_opclass.specs.Meaning.{Meaning}
 use Rattle.spg_opclass.specs.declared.copied.Copied.{Copied}
@@ -8,7 +8,7 @@ use Rattle.spg_forest.specs.View.{Place}
 use Rattle.spg_forest.specs.Sheets.{Sheets}
 use Rattle.spg_forest.specs.Shape.{spots}
 use Rattle.spg_rows.specs.Table as rows
-use Rattle.spg_tree.specs.Table.{Table, sheets_of}
+use Rattle.spg_tree.specs.Table.{Table, sheets_of, latch_at}
 use Rattle.spg_scan.specs.declared.copying.Copying.{Copying}
 use Rattle.spg_scan.specs.declared.scan_copy.ScanCopy.{ScanCopy}
 use Rattle.spg_scan.specs.declared.scan_copy.ScanCopy.TheVariants.{Read, Latched, Sift}
@@ -16,8 +16,14 @@ use Rattle.spg_scan.specs.Items.{Item, held, IsItem}
 use Rattle.spg_scan.specs.Held.{kept_as}
 use Rattle.spg_scan.specs.Scanning.{Scanning, replaced}
 use Rattle.spg_scan.specs.Reading.{IsFreeFor}
-use Rattle.spg_scan.specs.Parts.{IsPlaceAt}
+use Rattle.spg_scan.specs.Parts.{IsPlaceAt, HasPlace, other_than}
+use Rattle.spg_scan.proofs.Readings.{other_none}
 use Rattle.spg_scan.specs.Copying.{is_copied, kept_copy, HasKept, IsCopying, Copies, IsPlain, IsPlaceOut, IsCopyOut}
+
+-- what holds at any answer
+pub on_err : {T E P : Type 0} (r : Result T E) → P → OnErr r P
+on_err (Ok x) p = tt
+on_err (Err e) p = p
 
 -- what is kept is no place
 pub no_copy : {O Key Recon Cond : Type 0} (query : Query O Key Recon Cond) (item : Item Recon) (x : Place) (r : Option Recon) (copied : Copied O Key Recon Cond) → item ≡ held x r → kept_copy query item ≡ Some copied → ⊥
@@ -50,3 +56,11 @@ module _ {O Key Recon Cond : Type 0} (s : Scanning O Key Recon Cond) (i : ℕ) w
 
   pub place_same : (place : Place) → IsPlaceAt s.items i place → (x : Place) (r : Option Recon) → IsItem s.items i (held x r) → x ≡ place
   place_same place (q, b) x r a = let e : Some (held x r) ≡ Some (held place q) = sym a ∙ b in let f : held x r ≡ held place q = cc e in cc f
+
+  -- a place whose block no other seat holds
+  pub free_at : (t : Table) (seat : ℕ) (place : Place) → IsPlaceAt s.items i place → other_than seat (latch_at t place.block) ≡ None → IsFreeFor t s i seat
+  free_at t seat place there none x r by a e = other_none seat by (latch_at t place.block) none (ap (λ (y : Place). latch_at t y.block) (sym (place_same place there x r a)) ∙ e)
+
+  -- what is no place stands on no block
+  pub free_apart : (t : Table) (seat : ℕ) → (HasPlace s.items i → ⊥) → IsFreeFor t s i seat
+  free_apart t seat none x r by a e = absurd (none (x, (r, a)))

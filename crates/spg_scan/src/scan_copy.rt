@@ -4,7 +4,7 @@ ghost use Rattle.spg_forest.specs.Shape.{Shape};
 ghost use Rattle.spg_tree.specs.Table.{sheets_of};
 ghost use Rattle.spg_scan.specs.Held.{kept_as};
 ghost use Rattle.spg_scan.specs.Scanning.{replaced};
-ghost use Rattle.spg_scan.specs.Reading.{IsHeld};
+ghost use Rattle.spg_scan.specs.Reading.{IsHeld, IsFreeFor};
 ghost use Rattle.spg_scan.specs.Parts.{IsPlaceAt, HasPlace, IsMainAt, is_where};
 ghost use Rattle.spg_scan.specs.Copying.{kept_copy, IsCopyOf, IsCopying, IsCopyOut, IsPlaceOut};
 
@@ -45,7 +45,8 @@ impl<O: OpClass> Scan<O> {
     /// The copy of an item that is being sifted. None is a place.
     pub(crate) fn copy_of(&self, item: usize) -> Result<Option<Copied<O>>, Memory>
         requires { item < length self.now.items }
-        ensures { IfOk result (λ copied. IsCopyOf self.now item copied) }
+        ensures ok { IfOk result (λ copied. IsCopyOf self.now item copied) }
+        ensures place { OnErr result (HasPlace self.now.items item → ⊥) }
     {
         let alloc = *self.rows.allocator();
         match &self.items[item] {
@@ -193,6 +194,7 @@ impl<O: OpClass> Scan<O> {
         requires held { IsHeld O.meaning (sheets_of table.now) self.old item }
         requires place { HasPlace self.old.items item }
         ensures ok { IfOk result (λ out. IsCopyOut O.meaning table.now rows.now self.old self.new item seat out) }
+        ensures latched { OnErr result (IsFreeFor table.now self.old item seat) }
         ensures err { OnErr result (self.new ≡ self.old) }
     {
         let place = self.place_at(item);
@@ -207,8 +209,8 @@ impl<O: OpClass> Scan<O> {
     /// tuple of the main tree, and where the query has conditions a chain or root leaf page of the
     /// main tree, of which the live leaves are copied. The item is then being sifted, and its tuples
     /// are met. One that is being sifted gives its copy again. Any other is read. `Latched` comes
-    /// exactly where another seat holds the block of the item's place. After `Memory` nothing has
-    /// changed.
+    /// exactly where another seat holds the block of the item's place, and wants no memory. After
+    /// `Memory` nothing has changed.
     pub fn copy_item(
         &mut self,
         table: &PageTable,
@@ -220,6 +222,7 @@ impl<O: OpClass> Scan<O> {
         requires item { item < length self.old.items }
         requires held { IsHeld O.meaning (sheets_of table.now) self.old item }
         ensures ok { IfOk result (λ out. IsCopyOut O.meaning table.now rows.now self.old self.new item seat out) }
+        ensures latched { OnErr result (IsFreeFor table.now self.old item seat) }
         ensures err { OnErr result (self.new ≡ self.old) }
     {
         match self.copy_of(item)? {

@@ -2,7 +2,7 @@
 ghost use Rattle.std.specs.Prelude.{◌≡◌, ◌<◌, true, length, IfOk, OnErr};
 ghost use Rattle.spg_forest.specs.Shape.{Shape};
 ghost use Rattle.spg_tree.specs.Table.{latch_at, sheets_of};
-ghost use Rattle.spg_scan.specs.Reading.{IsHeld, IsReadOut};
+ghost use Rattle.spg_scan.specs.Reading.{IsHeld, IsFreeFor, IsReadOut};
 ghost use Rattle.spg_scan.specs.Parts.{HasPlace, EntriesLive, other_than};
 
 use crate::liveness::Liveness;
@@ -43,6 +43,7 @@ impl<O: OpClass> Scan<O> {
         requires live { liveness.now.all_live ≡ true → EntriesLive O.meaning (sheets_of table.now) liveness.now.table.now }
         requires place { HasPlace self.old.items item }
         ensures ok { IfOk result (λ out. IsReadOut O.meaning table.now liveness.now.table.now self.old self.new item seat out) }
+        ensures latched { OnErr result (IsFreeFor table.now self.old item seat) }
         ensures err { OnErr result (self.new ≡ self.old) }
     {
         let place = self.place_at(item);
@@ -56,8 +57,8 @@ impl<O: OpClass> Scan<O> {
         }
     }
 
-    /// Reads a held item, as `Walk::read` does. Where it is told that each row that has an entry is
-    /// live, it looks up none.
+    /// Reads a held item, as `Walk::read` does. Where it is told that each row that has an entry is live,
+    /// it looks up none.
     pub fn read_told(
         &mut self,
         alloc: Global,
@@ -72,6 +73,7 @@ impl<O: OpClass> Scan<O> {
         requires held { IsHeld O.meaning (sheets_of table.now) self.old item }
         requires live { liveness.now.all_live ≡ true → EntriesLive O.meaning (sheets_of table.now) liveness.now.table.now }
         ensures ok { IfOk result (λ out. IsReadOut O.meaning table.now liveness.now.table.now self.old self.new item seat out) }
+        ensures latched { OnErr result (IsFreeFor table.now self.old item seat) }
         ensures err { OnErr result (self.new ≡ self.old) }
     {
         match self.copy_of(item)? {

@@ -6,3 +6,4 @@ pub mod Steps
 pub mod Handling
 pub mod Keeping
 pub mod OtherSeats
+pub mod Holders

@@ -1,5 +1,5 @@
 -- What holds of an open vacuum, and what its sections do.
-use Rattle.std.specs.Prelude.{◌≡◌, ℕ, ◌+◌, ◌-◌, ◌^◌, ◌<◌, ◌≤◌, Bool, true, false, nat_lt, min, List, [], ◌∷◌, length, Some}
+use Rattle.std.specs.Prelude.{◌≡◌, ℕ, ◌+◌, ◌-◌, ◌^◌, ◌<◌, ◌≤◌, Bool, true, false, nat_lt, min, List, [], ◌∷◌, length, Option, Some, None}
 use Rattle.spg_base.specs.Row.{RowAt}
 use Rattle.spg_opclass.specs.Meaning.{Meaning}
 use Rattle.spg_forest.specs.View.{Place}
@@ -14,7 +14,7 @@ use Rattle.spg_vacuum.specs.declared.done.Done.TheVariants.{Swept, Latched}
 use Rattle.spg_vacuum.specs.declared.done.Work.{Work}
 use Rattle.spg_vacuum.specs.declared.done.Work.TheVariants as works
 use Rattle.spg_vacuum.specs.declared.vacuum.Vacuum.{Vacuum}
-use Rattle.spg_vacuum.specs.Latch.{IsFree}
+use Rattle.spg_vacuum.specs.Latch.{IsFree, IsHolder}
 use Rattle.spg_vacuum.specs.Listing.{with_listed, first_done, first_place}
 use Rattle.spg_vacuum.specs.Handled.{HandlesBlock, HandlesPlace, found_at, found_from}
 
@@ -26,6 +26,24 @@ work_at [] false = works.Finish
 
 abbrev pub work_of : Vacuum → Table → Work
 work_of v t = work_at v.pending.todo (nat_lt v.next (length t.pages))
+
+-- the block that is handled next: that of the first place to do, else the next one, and none at the end
+abbrev pub block_at : List Place → ℕ → Bool → Option ℕ
+block_at (p ∷ ps) next more = Some p.block
+block_at [] next true = Some next
+block_at [] next false = None
+
+abbrev pub next_block : Vacuum → Table → Option ℕ
+next_block v t = block_at v.pending.todo v.next (nat_lt v.next (length t.pages))
+
+-- no other seat holds the block that a vacuum handles next
+abbrev pub IsNextFree : Table → Vacuum → ℕ → Type 0
+IsNextFree t v seat = (b : ℕ) → next_block v t ≡ Some b → IsFree t b seat
+
+-- the block that a vacuum handles next and the other seat that holds it, where one does
+abbrev pub IsNextHeld : Table → Vacuum → ℕ → Option (ℕ × ℕ) → Type 0
+IsNextHeld t v seat None = IsNextFree t v seat
+IsNextHeld t v seat (Some (block, by)) = (next_block v t ≡ Some block) × IsHolder t block seat (Some by)
 
 -- these are the targets of an open vacuum, which is at a block from 1 on
 pub record IsVacuum {Key Recon Cond : Type 0} (m : Meaning Key Recon Cond) (t : Table) (v : Vacuum) (target : RowAt → Type 0) : Type 0 where

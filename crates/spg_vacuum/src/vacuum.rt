@@ -1,8 +1,8 @@
-ghost use Rattle.std.specs.Prelude.{◌≡◌, ◌≤◌, IfOk, OnErr};
+ghost use Rattle.std.specs.Prelude.{◌≡◌, ◌≤◌, Bool, IfOk, OnErr};
 ghost use Rattle.std.specs.BTreeSet.{contains};
-ghost use Rattle.spg_base.specs.Row.{row_cmp};
+ghost use Rattle.spg_base.specs.Row.{RowAt, row_cmp};
 ghost use Rattle.spg_forest.specs.Shape.{Shape};
-ghost use Rattle.spg_cover.specs.Vacuum.{Of};
+ghost use Rattle.spg_cover.specs.Vacuum.{Of, AreHigh};
 ghost use Rattle.spg_tree.specs.Table.{sheets_of};
 
 use crate::done::{Done, Work};
@@ -29,7 +29,7 @@ pub struct Vacuum {
 impl Vacuum {
     ghost use Rattle.spg_vacuum.specs.declared.done.Work.TheVariants as works;
     ghost use Rattle.spg_vacuum.specs.Listing.{none_listed};
-    ghost use Rattle.spg_vacuum.specs.Vacuums.{work_of, IsVacuum, BlockDone, FirstDone, KeepsVacuum, LeavesNone};
+    ghost use Rattle.spg_vacuum.specs.Vacuums.{work_of, next_block, IsVacuum, IsNextFree, IsNextHeld, BlockDone, FirstDone, KeepsVacuum, LeavesNone};
 
     /// A vacuum that opens at a journal position and at the clock's stamp: at block 1, with nothing
     /// pending. It takes no memory.
@@ -73,10 +73,34 @@ impl Vacuum {
         }
     }
 
+    /// The block that is handled next. None at the end.
+    fn next_block(&self, table: &PageTable) -> Option<Block>
+        ensures value { result ≡ next_block self.now table.now }
+        ensures high { AreHigh self.now.pending.todo }
+    {
+        match self.pending.first() {
+            Some(place) => Some(place.block),
+            None if self.next < table.page_count() => Some(Block(self.next)),
+            None => None,
+        }
+    }
+
+    /// The block that is handled next and the other seat that holds it. None exactly where no other seat
+    /// does, or the vacuum is at its end. It takes no memory.
+    pub fn held_next<O: OpClass>(&self, table: &PageTable, seat: SeatNo) -> Option<(Block, SeatNo)>
+        requires shape { Shape O.meaning (sheets_of table.now) }
+        requires vacuum { (test : RowAt → Bool) × IsVacuum O.meaning table.now self.now (Of test) }
+        ensures { IsNextHeld table.now self.now seat result }
+    {
+        let block = self.next_block(table)?;
+        let by = other_holder(table, block, seat)?;
+        Some((block, by))
+    }
+
     /// Handles the next block. On a leaf page the targets are swept, and what its redirects lead to
     /// whose stamps are not below the vacuum's is listed; redirects of stamps below the horizon become
     /// placeholders, and placeholders at the end are removed. `Latched` comes exactly where another seat
-    /// holds the block. After `Memory` table and vacuum are as they were.
+    /// holds the block, and wants no memory. After `Memory` table and vacuum are as they were.
     pub fn block_section<O: OpClass>(
         &mut self,
         alloc: Global,
@@ -91,6 +115,7 @@ impl Vacuum {
         requires horizon { horizon ≤ self.old.stamp }
         ensures done { IfOk result (λ done. BlockDone table.old table.new self.old self.new (contains row_cmp targets.now.rows) horizon seat done) }
         ensures keeps { IfOk result (λ done. KeepsVacuum O.meaning table.old table.new self.new (contains row_cmp targets.now.rows) horizon done) }
+        ensures latched { OnErr result (IsNextFree table.old self.old seat) }
         ensures err { OnErr result (table.new ≡ table.old) }
         ensures err_vacuum { OnErr result (self.new ≡ self.old) }
     {
@@ -118,8 +143,8 @@ impl Vacuum {
     /// Handles the first place of the pending list that is not done. On a leaf page its whole page is
     /// handled as a block's is; on an inner page what the tuple there leads to is listed: where its
     /// nodes lead, in their order, or the target of a redirect. The place is done then, and the list is
-    /// emptied once all are. `Latched` comes exactly where another seat holds the block. After `Memory`
-    /// table and vacuum are as they were.
+    /// emptied once all are. `Latched` comes exactly where another seat holds the block, and wants no
+    /// memory. After `Memory` table and vacuum are as they were.
     pub fn pending_section<O: OpClass>(
         &mut self,
         alloc: Global,
@@ -134,6 +159,7 @@ impl Vacuum {
         requires horizon { horizon ≤ self.old.stamp }
         ensures done { IfOk result (λ done. FirstDone table.old table.new self.old self.new (contains row_cmp targets.now.rows) horizon seat done) }
         ensures keeps { IfOk result (λ done. KeepsVacuum O.meaning table.old table.new self.new (contains row_cmp targets.now.rows) horizon done) }
+        ensures latched { OnErr result (IsNextFree table.old self.old seat) }
         ensures err { OnErr result (table.new ≡ table.old) }
         ensures err_vacuum { OnErr result (self.new ≡ self.old) }
     {

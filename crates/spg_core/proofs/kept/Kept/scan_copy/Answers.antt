@@ -4,9 +4,11 @@ use Rattle.spg_core.specs.declared.slot.Slot.TheVariants.{Free}
 use Rattle.spg_core.specs.Slot.{stage_of}
 use Rattle.spg_core.specs.Stage.{Stage, held_count}
 use Rattle.spg_core.specs.Looking.{CopiesFor}
+use Rattle.spg_core.specs.Seen.{stage_at}
+use Rattle.spg_core.specs.Blocked.{ItemFreeIn}
 use Rattle.spg_core.specs.Kept.{IsState}
-use Rattle.spg_core.proofs.Slots.{stage_is, seen_as}
-use Rattle.spg_core.proofs.Steps.{with_fields, fits, kept_same}
+use Rattle.spg_core.proofs.Slots.{stage_is, table_is, seen_as}
+use Rattle.spg_core.proofs.Steps.{with_fields, fits, kept_same, on_err}
 use Rattle.spg_core.proofs.Scans.{can_read}
 use Rattle.spg_core.proofs.Siftings.{kept_copies, copies_seen}
 use Rattle.spg_core.proofs.Bounding.{same_bounded, copy_bounded}
@@ -56,3 +58,12 @@ returns-clause-ok g c = told g ((goal.at.returns-clause-ok g c).After-set_touche
 
 pub returns-clause-call : goal.returns-clause-call
 returns-clause-call g c = told g ((goal.at.returns-clause-call g c).After-set_touched)
+
+pub returns-in_err-out-clause-latched : goal.returns-in_err-out-clause-latched
+returns-in_err-out-clause-latched g c =
+    let s = c.self.inside in
+    let seen = c.args.self.now in
+    let seat = c.args.seat in
+    on_err c.from_residual.result
+    (subst (λ (t : Table). ItemFreeIn t (stage_at seen seat) seat c.args.item) (sym (table_is s seen c.self.view_is 0))
+    (subst (λ (x : Stage _ _ _ _). ItemFreeIn s.table x seat c.args.item) (sym (stage_is s seen c.self.view_is seat)) c.in_err-out.ensures.latched))

@@ -5,12 +5,16 @@ use Rattle.spg_base.specs.declared.point.Point.{Point}
 use Rattle.spg_forest.specs.Shape.{spots}
 use Rattle.spg_tree.specs.Table.{sheets_of, latch_at}
 use Rattle.spg_scan.proofs.Readings.{other_some, other_none}
+use Rattle.spg_scan.proofs.Outcomes.{on_err}
 use Rattle.spg_near.specs.Held.{item_of}
-use Rattle.spg_near.specs.Nearing.{NearItem, LeafSpot, near_replaced, live_of}
+use Rattle.spg_near.specs.Nearing.{LeafSpot, near_replaced, live_of}
+use Rattle.spg_near.specs.Reads.{IsFreeItem}
 use Rattle.spg_near.proofs.Looks.{block_there}
 use Rattle.spg_near.proofs.Needed.{live_spot, needed_whole}
 use Rattle.spg_near.proofs.NearFields.{item_here}
+use Rattle.spg_near.proofs.near.Near.read_place.Given.{Over}
 use Rattle.spg_near.proofs.near.Near.read_place.Goals as goal
+use Rattle.spg_near.proofs.near.Near.read_place.Goals.{In-None}
 
 pub held_by_other-requires : goal.held_by_other-requires
 held_by_other-requires g c =
@@ -42,6 +46,16 @@ look-requires-clause-held g c =
     let here = item_here s.target s.limit s.at s.stamp s.items.items s.found.items s.met c.args.item c.args.self.now c.self.view_is w c.index-held.ensures c.requires.item in
     (c.args.self.now.stamp, c.requires.held (item_of w) here)
 
+-- where the branch for None is taken, no other seat holds the block
+free : (g : Over) (c : In-None g) → IsFreeItem c.args.table.now c.args.self.now c.args.item c.args.seat
+free g c = λ it by a e.
+    let s = c.self.inside in
+    let w = c.index-held.result.now in
+    let here = item_here s.target s.limit s.at s.stamp s.items.items s.found.items s.met c.args.item c.args.self.now c.self.view_is w c.index-held.ensures c.requires.item in
+    let one : Some it ≡ Some (item_of w) = sym a ∙ here in
+    let same : it ≡ item_of w = same_Some it (item_of w) one in
+    other_none c.args.seat by (latch_at c.args.table.now w.place.block) (sym c.held_by_other.ensures ∙ c.in-None.is) (ap (λ z. latch_at c.args.table.now z.place.block) (sym same) ∙ e)
+
 pub returns-in_ok-take-in-None-clause-ok : goal.returns-in_ok-take-in-None-clause-ok
 returns-in_ok-take-in-None-clause-ok g c =
     let m = g.O.OpClass.meaning in
@@ -54,12 +68,8 @@ returns-in_ok-take-in-None-clause-ok g c =
     let live = live_of c.args.rows.now leaves in
     let here : slice_get now.items c.args.item ≡ Some (item_of w) = item_here s.target s.limit s.at s.stamp s.items.items s.found.items s.met c.args.item now c.self.view_is w c.index-held.ensures c.requires.item in
     let gives : LeafSpot m g.O.NearClass.box_below now.target (item_of w) (spots S w.place) kids leaves = subst (λ (p : Point). LeafSpot m g.O.NearClass.box_below p (item_of w) (spots S w.place) kids leaves) (ap (λ z. z.target) c.self.view_is) c.in_ok-step-in-None.ensures.gives in
-    let free : (it : NearItem _) (by : ℕ) → slice_get now.items c.args.item ≡ Some it → latch_at c.args.table.now it.place.block ≡ Some by → by ≡ c.args.seat = λ it by a e.
-    let one : Some it ≡ Some (item_of w) = sym a ∙ here in
-    let same : it ≡ item_of w = same_Some it (item_of w) one in
-    other_none c.args.seat by (latch_at c.args.table.now w.place.block) (sym c.held_by_other.ensures ∙ c.in-None.is) (ap (λ z. latch_at c.args.table.now z.place.block) (sym same) ∙ e) in
     let (found, needed, after) = c.in_ok-take-in-None.ensures.ok in (
-      free,
+      free g ((goal.at.returns-in_ok-take-in-None-clause-ok g c).In-None),
       record {
         item = item_of w;
         items = kids;
@@ -83,12 +93,8 @@ returns-in_ok-take-in-None-clause-all g c = λ h.
     let leaves = c.in_ok-step-in-None.step.leaves.items in
     let live = live_of c.args.rows.now leaves in
     let here : slice_get now.items c.args.item ≡ Some (item_of w) = item_here s.target s.limit s.at s.stamp s.items.items s.found.items s.met c.args.item now c.self.view_is w c.index-held.ensures c.requires.item in
-    let gives : LeafSpot m g.O.NearClass.box_below now.target (item_of w) (spots S w.place) kids leaves = subst (λ (p : Point). LeafSpot m g.O.NearClass.box_below p (item_of w) (spots S w.place) kids leaves) (ap (λ z. z.target) c.self.view_is) c.in_ok-step-in-None.ensures.gives in
-    let free : (it : NearItem _) (by : ℕ) → slice_get now.items c.args.item ≡ Some it → latch_at c.args.table.now it.place.block ≡ Some by → by ≡ c.args.seat = λ it by a e.
-    let one : Some it ≡ Some (item_of w) = sym a ∙ here in
-    let same : it ≡ item_of w = same_Some it (item_of w) one in
-    other_none c.args.seat by (latch_at c.args.table.now w.place.block) (sym c.held_by_other.ensures ∙ c.in-None.is) (ap (λ z. latch_at c.args.table.now z.place.block) (sym same) ∙ e) in (
-      free,
+    let gives : LeafSpot m g.O.NearClass.box_below now.target (item_of w) (spots S w.place) kids leaves = subst (λ (p : Point). LeafSpot m g.O.NearClass.box_below p (item_of w) (spots S w.place) kids leaves) (ap (λ z. z.target) c.self.view_is) c.in_ok-step-in-None.ensures.gives in (
+      free g ((goal.at.returns-in_ok-take-in-None-clause-all g c).In-None),
       (
         record {
           item = item_of w;
@@ -103,3 +109,9 @@ returns-in_ok-take-in-None-clause-all g c = λ h.
         refl,
       ),
     )
+
+pub returns-in_err-step-in-None-clause-latched : goal.returns-in_err-step-in-None-clause-latched
+returns-in_err-step-in-None-clause-latched g c = on_err c.from_residual.result (free g ((goal.at.returns-in_err-step-in-None-clause-latched g c).In-None))
+
+pub returns-in_err-take-in-None-clause-latched : goal.returns-in_err-take-in-None-clause-latched
+returns-in_err-take-in-None-clause-latched g c = on_err c.from_residual-in_err-take-in-None.result (free g ((goal.at.returns-in_err-take-in-None-clause-latched g c).In-None))

@@ -10,6 +10,7 @@ use Rattle.spg_vacuum.specs.Handled.{found_from}
 use Rattle.spg_vacuum.specs.Listing.{Listing, first_done}
 use Rattle.spg_vacuum.proofs.Places.{listed_front}
 use Rattle.spg_vacuum.proofs.Keeping.{first_of_todo, place_stands, place_kept}
+use Rattle.spg_vacuum.proofs.Holders.{on_err, place_free}
 use Rattle.spg_vacuum.proofs.vacuum.Vacuum.pending_section.Goals as goal
 
 pub other_holder-requires : goal.other_holder-requires
@@ -46,3 +47,6 @@ returns-clause-keeps g c =
     let mk : ℕ → Listing → Vacuum = λ n p. record v { swept = n; pending = p } in
     place_kept g.O.OpClass.meaning c.args.table.now c.args.self.now (contains row_cmp c.args.targets.now.rows) c.args.horizon c.requires.shape c.requires.vacuum c.requires.horizon c.handle_place.new.table _ c.in_ok-rows.rows c.in-Some.place ps (sheet_at c.args.table.now c.in-Some.place.block).inner
     high s.0 e refl c.in_ok-rows.ensures.ok (ap₂ mk (c.saturating_add-self.ensures ∙ ap (λ n. min (v.swept + n) (2 ^ 64 - 1)) c.len.ensures) (c.mark_first.ensures ∙ ap (λ (x : Listing). first_done x.done x.todo) c.in_ok-rows.ensures.list))
+
+pub returns-in_err-rows-clause-latched : goal.returns-in_err-rows-clause-latched
+returns-in_err-rows-clause-latched g c = on_err c.from_residual.result (place_free c.args.table.now c.args.self.now c.in-Some.place c.args.seat (sym c.first.ensures.value ∙ c.in-Some.is) c.in_default-other_holder.ensures)
