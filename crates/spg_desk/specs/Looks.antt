@@ -10,6 +10,7 @@ use Rattle.spg_rows.specs.declared.event.Event.{Event}
 use Rattle.spg_rows.specs.History.{History}
 use Rattle.spg_rows.specs.Present.{IsPresentWith}
 use Rattle.spg_rows.specs.Rows.{held_by}
+use Rattle.spg_seats.specs.Slots.{kept_key}
 use Rattle.spg_bounds.specs.Bounds.{AreBounded}
 use Rattle.spg_turn.specs.declared.rule.View.{View}
 use Rattle.spg_core.specs.Counts.{IsStat}
@@ -17,6 +18,8 @@ use Rattle.spg_calls.specs.Calls.{span_at}
 use Rattle.spg_copy.specs.Copies.{unlatched}
 use Rattle.spg_desk.specs.declared.looked.StatAnswer.{StatAnswer}
 use Rattle.spg_desk.specs.declared.looked.HeldAnswer.{HeldAnswer}
+use Rattle.spg_desk.specs.declared.looked.KeyAnswer.{KeyAnswer}
+use Rattle.spg_desk.specs.declared.looked.KeyAnswer.TheVariants as keys
 use Rattle.spg_desk.specs.declared.looked.PagesAnswer.{PagesAnswer}
 use Rattle.spg_desk.specs.declared.looked.PagesAnswer.TheVariants.{Copied, Memory}
 use Rattle.spg_desk.specs.Told.{Told}
@@ -48,6 +51,11 @@ module _ {O Key Recon Cond : Type 0} (m : Meaning Key Recon Cond) (v w : View (E
 
   abbrev pub DidAskHeld : RowAt → HeldAnswer → Type 0
   DidAskHeld row a = LooksAt a.at × (a.by ≡ held_by row (reverse w.seen))
+
+  -- nothing was done, and this is the key of the row's last life by the journal seen; none where the row had no life, or its last was dropped
+  abbrev pub DidAskKey : RowAt → KeyAnswer Key → Type 0
+  DidAskKey row (keys.Copied key at) = LooksAt at × (key ≡ kept_key row (reverse w.seen))
+  DidAskKey row (keys.Memory at) = LooksAt at
 
   abbrev pub DidCopy : PagesAnswer → Type 0
   DidCopy (Copied pages at) = LooksAt at × IsCopyOf m v.origin (reverse w.seen) pages

@@ -21,5 +21,5 @@ mod vacuum;
 
 pub use answer::{FindAnswer, InsertAnswer, KillAnswer, NearAnswer, VacuumAnswer};
 pub use desk::Desk;
-pub use looked::{HeldAnswer, PagesAnswer, StatAnswer};
+pub use looked::{HeldAnswer, KeyAnswer, PagesAnswer, StatAnswer};
 pub use pass::Pass;

@@ -20,6 +20,15 @@ pub struct HeldAnswer {
     pub at: u64,
 }
 
+/// What came of a copy of a row's key.
+#[derive(Drop)]
+pub enum KeyAnswer<K> {
+    /// The key, or that it is a null, where the journal was so long. None where the row was free.
+    Copied { key: Option<Option<K>>, at: u64 },
+    /// Want of memory, where the journal was so long.
+    Memory(u64),
+}
+
 /// What came of a copy of the pages.
 #[derive(Drop)]
 pub enum PagesAnswer {

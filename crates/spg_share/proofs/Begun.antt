@@ -11,7 +11,7 @@ use Rattle.spg_rows.specs.declared.event.Event.{Event}
 use Rattle.spg_turn.specs.declared.rule.View.{View}
 use Rattle.spg_desk.specs.Told.{Told}
 use Rattle.spg_desk.specs.Answers.{DidInsert, DidKill, DidFind, DidNear, DidVacuum}
-use Rattle.spg_desk.specs.Looks.{DidCopy}
+use Rattle.spg_desk.specs.Looks.{DidAskKey, DidCopy}
 use Rattle.spg_desk.specs.declared.answer.InsertAnswer.{InsertAnswer}
 use Rattle.spg_desk.specs.declared.answer.InsertAnswer.TheVariants as inserts
 use Rattle.spg_desk.specs.declared.answer.KillAnswer.{KillAnswer}
@@ -22,6 +22,8 @@ use Rattle.spg_desk.specs.declared.answer.NearAnswer.{NearAnswer}
 use Rattle.spg_desk.specs.declared.answer.NearAnswer.TheVariants as nears
 use Rattle.spg_desk.specs.declared.answer.VacuumAnswer.{VacuumAnswer}
 use Rattle.spg_desk.specs.declared.answer.VacuumAnswer.TheVariants as vacuums
+use Rattle.spg_desk.specs.declared.looked.KeyAnswer.{KeyAnswer}
+use Rattle.spg_desk.specs.declared.looked.KeyAnswer.TheVariants as keys
 use Rattle.spg_desk.specs.declared.looked.PagesAnswer.{PagesAnswer}
 use Rattle.spg_desk.specs.declared.looked.PagesAnswer.TheVariants as copies
 use Rattle.spg_desk.specs.declared.pass.Pass.{Pass}
@@ -62,6 +64,10 @@ module _ {O Key Recon Cond : Type 0} (m : Meaning Key Recon Cond) (v w : View (E
   vacuum_begun (vacuums.Open by span) told = told_begun span _ told.0
   vacuum_begun (vacuums.Memory span) (inl told) = told_begun span _ told.0
   vacuum_begun (vacuums.Memory span) (inr told) = told_begun span _ told.1
+
+  pub key_begun : (row : RowAt) (answer : KeyAnswer Key) → DidAskKey m v w row answer → begun w ≡ begun v
+  key_begun row (keys.Copied key at) did = told_begun _ _ did.0.told
+  key_begun row (keys.Memory at) did = told_begun _ _ did.told
 
   pub copy_begun : (answer : PagesAnswer) → DidCopy m v w answer → begun w ≡ begun v
   copy_begun (copies.Copied pages at) did = told_begun _ _ did.0.told

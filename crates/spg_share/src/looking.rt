@@ -1,13 +1,13 @@
 // Calls that look at the index in one turn.
 use crate::seat::Seat;
 use spg_base::Row;
-use spg_desk::{HeldAnswer, PagesAnswer, StatAnswer};
+use spg_desk::{HeldAnswer, KeyAnswer, PagesAnswer, StatAnswer};
 use spg_opclass::OpClass;
 use std::sync::Wait;
 
 impl<'a, O: OpClass> Seat<'a, O> {
     ghost use Rattle.std.specs.Prelude.{◌≡◌};
-    ghost use Rattle.spg_desk.specs.Looks.{DidStat, DidAskHeld, DidCopy};
+    ghost use Rattle.spg_desk.specs.Looks.{DidStat, DidAskHeld, DidAskKey, DidCopy};
     ghost use Rattle.spg_share.specs.Seats.{seat_name, knows};
 
     /// Counts pages and tuples, as they stand in one turn.
@@ -33,6 +33,20 @@ impl<'a, O: OpClass> Seat<'a, O> {
             unreachable!()
         };
         let (pass, answer) = self.desk.held_by(rt, pass, row);
+        self.pass = Some(pass);
+        answer
+    }
+
+    /// A copy of the key of the row's last life, or that it is a null. None where the row had no life,
+    /// or its last was an insert that was given up.
+    pub fn key_of<R: Wait>(&mut self, rt: &R, row: Row) -> KeyAnswer<O::Key>
+        ensures same { seat_name self.new ≡ seat_name self.old }
+        ensures did { DidAskKey O.meaning (knows self.old) (knows self.new) row result }
+    {
+        let Some(pass) = self.pass.take() else {
+            unreachable!()
+        };
+        let (pass, answer) = self.desk.key_of(rt, pass, row);
         self.pass = Some(pass);
         answer
     }

@@ -8,7 +8,8 @@ use spg_io::PlainImages;
 use spg_opclass::Query;
 use spg_quad::Quad;
 use spg_share::{
-    FindAnswer, InsertAnswer, KillAnswer, Lane, NearAnswer, PagesAnswer, Seat, Task, VacuumAnswer,
+    FindAnswer, InsertAnswer, KeyAnswer, KillAnswer, Lane, NearAnswer, PagesAnswer, Seat, Task,
+    VacuumAnswer,
 };
 use spg_whole::Index;
 use std::alloc::Global;
@@ -103,6 +104,26 @@ fn look<R: Wait>(rt: &R, seat: &mut Seat<'_, Quad>, each: &mut Each)
     each.note(is_near(&near));
 }
 
+/// Whether the seat tells the key of the row, or that it has none.
+fn tells<R: Wait>(rt: &R, seat: &mut Seat<'_, Quad>, row: Row, key: Option<Option<Point>>) -> bool
+    ensures { seat_name seat.new ≡ seat_name seat.old }
+{
+    match seat.key_of(rt, row) {
+        KeyAnswer::Copied { key: found, .. } => found == key,
+        KeyAnswer::Memory(_) => false,
+    }
+}
+
+/// Looks at the key of the row that is left, and of one that never was.
+fn keys<R: Wait>(rt: &R, seat: &mut Seat<'_, Quad>, each: &mut Each)
+    ensures { seat_name seat.new ≡ seat_name seat.old }
+{
+    let block = u32::from(each.number);
+    let left = tells(rt, seat, Row::at(block, 2), Some(Some(point(each.number))));
+    let never = tells(rt, seat, Row::at(block, 3), None);
+    each.note(left && never);
+}
+
 /// Looks at the counts, at a row and at the pages, and saves.
 fn see<R: Wait>(rt: &R, seat: &mut Seat<'_, Quad>, each: &mut Each)
     ensures { seat_name seat.new ≡ seat_name seat.old }
@@ -132,6 +153,7 @@ impl Task<Quad> for Each {
     fn run<R: Wait>(&mut self, rt: &R, seat: &mut Seat<'_, Quad>) {
         write(rt, seat, self);
         look(rt, seat, self);
+        keys(rt, seat, self);
         see(rt, seat, self);
         clean(rt, seat, self);
     }
@@ -177,7 +199,7 @@ fn come<R: AllocGlobal + Threads + Wait + Sync>(
 /// Whether each seat made its calls, and all did what they were to do.
 fn all_right(lanes: &[Lane<Quad, Each>]) -> bool {
     for lane in lanes {
-        if (lane.task.calls, lane.task.right) != (11, 11) {
+        if (lane.task.calls, lane.task.right) != (12, 12) {
             return false;
         }
     }
