@@ -35,6 +35,7 @@ module _ {O Key Recon Cond : Type 0} (old new : Seen O Key Recon Cond) (seat : �
     journal = a.journal;
     closed = ends_closed old.journal (old.journal ++ OpenScan seat All ∷ []) new.journal (OpenScan seat All ∷ Leave seat ∷ []) (Leave seat) a.journal (a.journal ∙ sym (append_assoc old.journal (OpenScan seat All ∷ []) (Leave seat ∷ []))) (λ past before. refl) (refl, (refl, tt)) closed;
     origin = a.origin;
+    class = a.class;
     grows = grows_as old.table new.table a.pages;
   }
 

@@ -7,7 +7,7 @@ use Rattle.spg_rows.specs.declared.event.Event.{Event}
 use Rattle.spg_rows.specs.History.{own}
 use Rattle.spg_turn.specs.declared.rule.View.{View}
 use Rattle.spg_turn.specs.Views.{StartsWith, kept_of, first_view}
-use Rattle.spg_core.specs.Seen.{Seen, past_of}
+use Rattle.spg_core.specs.Seen.{Seen, past_of, KeepsClass}
 use Rattle.spg_desk.specs.declared.pass.Pass.{Pass}
 use Rattle.spg_desk.specs.Passes.{view_of}
 use Rattle.spg_whole.specs.Calls.{AllClosed}
@@ -25,12 +25,13 @@ module _ {O Key Recon Cond : Type 0} where
 
   -- an index was shared: the first pass knew this at the end of its task, and that once the others came back
   module _ (old new : Seen O Key Recon Cond) (count : ℕ) (v w : View (Event O Key Recon Cond)) (lead : begun v ≡ record (first_view old.journal old.origin) { given = count }) (all : Gathered v count count w) (list : new.journal ≡ w.seen) where
-    pub grew_so : {laws : Ghosts O Key Recon Cond} → (q : Option (Pass O Key Recon Cond laws)) → pass_knows q ≡ v → IsKept w 0 q → new.origin ≡ w.origin → AllClosed (past_of new) → Grew old new
-    grew_so {laws} None knows kept made idle = absurd kept
-    grew_so {laws} (Some q) knows kept made idle = record {
+    pub grew_so : {laws : Ghosts O Key Recon Cond} → (q : Option (Pass O Key Recon Cond laws)) → pass_knows q ≡ v → IsKept w 0 q → new.origin ≡ w.origin → KeepsClass old new → AllClosed (past_of new) → Grew old new
+    grew_so {laws} None knows kept made class idle = absurd kept
+    grew_so {laws} (Some q) knows kept made class idle = record {
       journal = subst (λ (l : List (Event O Key Recon Cond)). StartsWith l old.journal) (sym list)
           (starts_then w.seen v.seen old.journal (subst (λ (z : View (Event O Key Recon Cond)). StartsWith w.seen z.seen) knows kept.0) (begins v (record (first_view old.journal old.origin) { given = count }) lead));
       origin = made ∙ all.origin_is ∙ ap (λ (z : View (Event O Key Recon Cond)). z.origin) lead;
+      class = class;
       closed = idle;
     }
 

@@ -100,6 +100,7 @@ module _ {O Key Recon Cond : Type 0} (m : Meaning Key Recon Cond) where
           journal = told;
           closed = ends_closed s0.journal s1.journal s2.journal (OpenInsert seat row k ∷ Put seat row ∷ []) (Put seat row) told last (λ past before. refl) (refl, (refl, tt)) closed;
           origin = puts.origin ∙ ap (λ (s : Seen O Key Recon Cond). s.origin) opens.0;
+          class = puts.class ∙ ap (λ (s : Seen O Key Recon Cond). s.class) opens.0;
           grows = opened_grew s2.table grown;
         }
 
@@ -117,6 +118,7 @@ module _ {O Key Recon Cond : Type 0} (m : Meaning Key Recon Cond) where
             journal = told;
             closed = ends_closed s0.journal s1.journal s3.journal (OpenInsert seat row k ∷ Drop seat row cause ∷ []) (Drop seat row cause) told dropped (λ past before. refl) (refl, (refl, tt)) closed;
             origin = ap (λ (s : Seen O Key Recon Cond). s.origin) gives.is ∙ goes.origin ∙ ap (λ (s : Seen O Key Recon Cond). s.origin) opens.0;
+            class = ap (λ (s : Seen O Key Recon Cond). s.class) gives.is ∙ goes.class ∙ ap (λ (s : Seen O Key Recon Cond). s.class) opens.0;
             grows = opened_grew s3.table (grows_then s1.table s2.table s3.table grown (grows_as s2.table s3.table same));
           }
 

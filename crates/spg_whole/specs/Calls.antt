@@ -15,7 +15,7 @@ use Rattle.spg_rows.specs.Told.{IsUsed}
 use Rattle.spg_tree.specs.Table.{sheets_of}
 use Rattle.spg_scan.specs.declared.walk.Closed.{Closed}
 use Rattle.spg_seats.specs.Opening.{sweeps}
-use Rattle.spg_core.specs.Seen.{Seen, past_of}
+use Rattle.spg_core.specs.Seen.{Seen, past_of, KeepsClass}
 use Rattle.spg_core.specs.Stepping.{SamePages, IsNearLimit, Grows}
 use Rattle.spg_core.specs.Weight.{opened_keys}
 use Rattle.spg_whole.specs.declared.refused.InsertRefused.{InsertRefused}
@@ -26,11 +26,12 @@ use Rattle.spg_whole.specs.Answers.{IsAnswer}
 abbrev pub AllClosed : {O Key Recon Cond : Type 0} → History O Key Recon Cond → Type 0
 AllClosed past = (seat : ℕ) → open_of seat past ≡ nothing
 
--- the journal grew by these events, and no seat has anything open; with what the state was made stays, no page is lost, and the clock does not go back
+-- the journal grew by these events, and no seat has anything open; with what the state was made and its class stay, no page is lost, and the clock does not go back
 pub record Did {O Key Recon Cond : Type 0} (old new : Seen O Key Recon Cond) (events : List (Event O Key Recon Cond)) : Type 0 where
   pub journal : new.journal ≡ old.journal ++ events
   pub closed : AllClosed (past_of new)
   pub origin : new.origin ≡ old.origin
+  pub class : KeepsClass old new
   pub grows : Grows old.table new.table
 
 -- ---- inserts

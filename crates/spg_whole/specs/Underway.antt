@@ -20,7 +20,7 @@ use Rattle.spg_seats.specs.Opening.{sweeps}
 use Rattle.spg_core.specs.Stage.{Stage, free, descending, reading, sweeping, IsRead, IsSweeping}
 use Rattle.spg_core.specs.Stepping.{SamePages, Grows}
 use Rattle.spg_core.specs.Through.{IsInsertOf}
-use Rattle.spg_core.specs.Seen.{Seen, stage_at, past_of}
+use Rattle.spg_core.specs.Seen.{Seen, stage_at, past_of, KeepsClass}
 use Rattle.spg_core.specs.Weight.{opened_keys}
 use Rattle.spg_core.specs.declared.answer.OpenRefused.{OpenRefused}
 use Rattle.spg_core.specs.declared.answer.OpenRefused.TheVariants as open_refused
@@ -53,6 +53,7 @@ IsRestingScan m S query (sweeping v) = ⊥
 pub record ReadsOn {O Key Recon Cond : Type 0} (m : Meaning Key Recon Cond) (old new : Seen O Key Recon Cond) (seat : ℕ) : Type 0 where
   pub journal : new.journal ≡ old.journal
   pub origin : new.origin ≡ old.origin
+  pub class : KeepsClass old new
   pub pages : SamePages old.table new.table
   pub scanning : IsScanning (stage_at old seat) → IsScanning (stage_at new seat)
   pub scan : (query : Query O Key Recon Cond) → IsRestingScan m (sheets_of old.table) query (stage_at old seat) → IsRestingScan m (sheets_of old.table) query (stage_at new seat)
@@ -67,6 +68,7 @@ pub record SweepsOn {O Key Recon Cond : Type 0} (old new : Seen O Key Recon Cond
   pub rows : List RowAt
   pub journal : new.journal ≡ old.journal ++ sweeps seat rows
   pub origin : new.origin ≡ old.origin
+  pub class : KeepsClass old new
   pub grows : Grows old.table new.table
   pub sweeping : IsSweeping (stage_at old seat) → IsSweeping (stage_at new seat)
 
@@ -75,6 +77,7 @@ pub record SweepsToEnd {O Key Recon Cond : Type 0} (old new : Seen O Key Recon C
   pub rows : List RowAt
   pub journal : new.journal ≡ old.journal ++ (sweeps seat rows ++ CloseVacuum seat swept ∷ [])
   pub origin : new.origin ≡ old.origin
+  pub class : KeepsClass old new
   pub grows : Grows old.table new.table
   pub end : stage_at new seat ≡ free
 
