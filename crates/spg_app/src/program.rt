@@ -86,27 +86,14 @@ fn run_script<R: AllocGlobal + Threads + Wait + Sync, S: Source, K: Sink, M: Ima
     run_by_class(rt, line, &script, out, images, gate)
 }
 
-/// The program: reads a script from the source, does its commands and writes the text of the run
-/// to the sink; what the script saves goes to the images. The words are `run` with the options
-/// `--limit N`, N from 4 to 131,072 pages, without it 65,536, and `--from NAME`: the run then goes on
-/// from the image of that name. Or they are `check NAME`: no script is read, and how many pages and
-/// entries the image has is written. Or they are `gen COUNT SEED` with the options `--lanes N` and
-/// `--class C`: the script is the generated one, nothing is read, and the summary of the run is written.
-/// Or they are `build NAME` with the option `--workers N`: the script inserts rows and does nothing else,
-/// an index is built of it at once and saved under the name, and how large it is is written.
-/// Or they are `standby LAG` with the option `--limit N`, LAG from 0 to 1,000: a script whose commands
-/// insert, delete, find and are vacuums outside lanes is done on a new index, whose finds a standby
-/// answers that is at most LAG sections behind.
-/// `Usage` comes exactly where they are none of these. Lanes run beside each other, and each asks the
-/// gate before each of its commands. `ReadFault` comes only where the source failed. `BadScript(n)` comes
-/// exactly where the bytes are no script, and line `n`, counted from 1, is the first at which none can
-/// go on; `BadScript(0)` exactly where there are more than 67,108,864 bytes. For `build` another line than
-/// an insert is bad, and for `standby` a lane and any other command; `Full` comes only where `4 * E + 7` for `E` rows is above 131,072. Behind a script
-/// `BadImage` comes exactly where the image fails a clause, with the first that it fails, as far as the
-/// images tell; `ImageFault` only where they failed. Nothing is written then.
-/// Once the commands have begun the state after the last one is handed back, and the status is the
-/// first of these that applies: `WriteFault` where the sink failed, `Memory` where there was none for
-/// writing, `ImageFault` and `Memory` where a record says so, else `Done`.
+/// The program: does what the words ask for (docs/FORMAT.md, Words and exit status), from the source, to
+/// the sink and with the images. Each lane asks the gate before each of its commands. `Usage` comes
+/// exactly where they ask for nothing; `ReadFault` only where the source failed; `BadScript(n)` exactly
+/// where line `n`, counted from 1, is the first at which no script that the words take can go on, 0 where
+/// there are more than 67,108,864 bytes; `BadImage` exactly where the image fails a clause, with the first
+/// of them. Nothing is written then. Once the commands have begun the state after the last one is handed
+/// back, and the status is the first that applies: `WriteFault` where the sink failed, `Memory` where there
+/// was none for writing, `ImageFault` and `Memory` where a record says so, else `Done`.
 pub fn run<R: AllocGlobal + Threads + Wait + Sync, S: Source, K: Sink, M: Images, G: Gate>(
     rt: &R,
     words: &[String],

@@ -61,17 +61,12 @@ fn move_from<O: OpClass>(
     Ok(())
 }
 
-/// Moves the short chain at which an insert stands, with the insert's leaf behind its head, to one
-/// other leaf page. The old head becomes a redirect to the new one with the clock's moment, the other
-/// tuples become placeholders, the downlink of the tuple above is set, and the clock is raised. A dead
-/// tuple is a chain of no tuples. No inner tuple is made. `table` tells the whole table: the order of
-/// the chain and where it is, and the pages remembered, which are those after the pick; latches and
-/// counter stay as they are. The blocks touched are exactly those written or added, each once; each but
-/// that where the insert stands and that of the tuple above was latched by no other seat. `ClockFull`
-/// comes exactly where the clock is 2^48 - 1, before a page is picked; `IndexFull` exactly where the
-/// pick of a leaf page for the chain with its new leaf, by this seat and not on the old block, needs a
-/// new page and there may be none, unless memory is short before. After a refusal the table is as it
-/// was.
+/// Moves the short chain at which an insert stands, with the insert's leaf behind its head, to one other
+/// leaf page, and leaves a redirect (docs/ALGORITHM.md, Move of a chain). A dead tuple is a chain of no
+/// tuples. `ClockFull` comes exactly where the clock is 2^48 - 1, before a page is picked; `IndexFull`
+/// exactly where the pick of a leaf page for the chain with its new leaf, by this seat and not on the old
+/// block, needs a new page and there may be none, unless memory is short before. After a refusal the
+/// table is as it was.
 pub fn move_chain<O: OpClass>(
     alloc: Global,
     table: &mut PageTable,

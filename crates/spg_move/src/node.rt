@@ -74,22 +74,13 @@ fn note_shift<O: OpClass>(descent: &mut Descent<O>, to: Place)
     descent.note_node();
 }
 
-/// Puts a node with this label and an empty downlink into the inner tuple at which an insert stands:
-/// that of a root, or one to which the node of the tuple above leads. The node has the position `at`,
-/// from 0 to the number of nodes; the other nodes keep their order and their downlinks. Where the
-/// longer tuple fits in its place it stays there, and at a root it always fits; no inner tuple is made
-/// then. Else it goes to a picked inner page of the same tree and of the same parity as its old block,
-/// the one inner tuple that is made; the old place becomes a redirect to it with the clock's moment,
-/// the downlink of the tuple above is set, the clock is raised by one, and the insert stands at the new
-/// place, whose block is among those touched and is that of the tuple above or was latched by no other
-/// seat. In both cases the insert notes that it has added a node, and the touched blocks are exactly
-/// those written or added, each once; `table` tells the whole table. Of the blocks touched, each but
-/// that where the insert stands and that of the tuple above was latched by no other seat. `ClockFull`
-/// comes exactly where the longer tuple does not fit and the clock is 2^48 - 1, before a page is
-/// picked, unless memory is short before; `IndexFull` exactly where it does not fit and the pick of an
-/// inner page for it, by this seat and not on the old block, needs a new page and there may be none,
-/// unless memory is short before. After a refusal table and insert are as they were. The latches and
-/// the counter stay as they are; the pages remembered are those after the pick.
+/// Puts a node with this label and an empty downlink into the inner tuple at which an insert stands, at
+/// a position from 0 to the number of nodes. Where the longer tuple does not fit in its place, which it
+/// always does at a root, it goes to a picked inner page of its old parity, and the insert stands there
+/// (docs/ALGORITHM.md, Added node, split tuple). The insert notes that it has added a node.
+/// `ClockFull` comes exactly where it does not fit and the clock is 2^48 - 1, before a page is picked;
+/// `IndexFull` exactly where it does not fit and the pick of a page needs a new one and there may be
+/// none, unless memory is short before. After a refusal table and insert are as they were.
 pub fn add_node<O: OpClass>(
     alloc: Global,
     table: &mut PageTable,

@@ -23,19 +23,12 @@ use spg_tree::{Descent, PageTable, StepRefused};
 use std::alloc::Global;
 
 /// Splits the inner tuple at which an insert stands in two. The upper tuple, with the prefix and the
-/// labels given, replaces it in place and is never longer. It is not all-the-same, and its downlinks
-/// are empty but that of the node `child`, which leads to the lower tuple, the one inner tuple that is
-/// made. The lower tuple has the prefix given for it and the labels, the downlinks and the all-the-same
-/// mark of the old tuple. It goes on the page of the upper tuple where it fits there beside it and that
-/// page is no root, else on an inner page of the next parity, one more than that of the upper tuple's
-/// block modulo 3, which is picked. The insert stays where it stands, and the rise is noted. Touched
-/// are exactly the blocks that are written or added, each once. Of the blocks touched, each but that
-/// where the insert stands and that of the tuple above was latched by no other seat. The clock stays,
-/// so `ClockFull` never comes; `IndexFull` comes exactly where the lower tuple does not fit beside the
-/// upper one on a page that is no root, and the pick of a page of that parity for it, by this seat,
-/// needs a new page and there may be none, unless memory is short before. After a refusal table and
-/// insert are as they were. `table` tells the whole table: the pages remembered are those after the
-/// pick, and latches and counter stay as they are.
+/// labels given, replaces it in place; its node `child` leads to the lower tuple, which has the rest of
+/// the old one and stands beside it or on a picked page (docs/ALGORITHM.md, Added node, split tuple).
+/// The insert stays where it stands, and the rise is noted. The clock stays, so `ClockFull` never comes.
+/// `IndexFull` comes exactly where the lower tuple does not fit beside the upper one on a page that is
+/// no root, and the pick of a page for it needs a new one and there may be none, unless memory is short
+/// before. After a refusal table and insert are as they were.
 pub fn split_tuple<O: OpClass>(
     alloc: Global,
     table: &mut PageTable,

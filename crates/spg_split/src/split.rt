@@ -30,32 +30,14 @@ pub enum SplitOut {
     LeftOut,
 }
 
-/// Divides the leaves where an insert stands, and its own leaf, as the class divided a copy of them:
-/// those of a root leaf page, or those of a chain below a root that is too long to move. `parted` has
-/// that copy, as `bunch_at` makes it, and what the class answered. It is None exactly in the nulls tree,
-/// whose values are all in one node.
-///
-/// At a root the new inner tuple becomes the root's only tuple, and each list goes as a chain to one
-/// other leaf page. Below a root the new inner tuple goes on the page of the tuple above where it fits
-/// and that page is no root, else on a picked inner page of the next parity. The old head becomes a
-/// redirect to it with the clock's moment, the other tuples become placeholders, the downlink of the
-/// tuple above is set, and the clock is raised. Lists stay on the old page, in node order, while each
-/// fits there; the first that does not and all after it go to one other leaf page. Where the class put
-/// all in one node, the tuple is all-the-same: it has 8 nodes of that label, which are filled in turn.
-///
+/// Divides the leaves where an insert stands, and its own leaf, as the class divided a copy of them
+/// (docs/ALGORITHM.md, Division). `parted` has that copy, as `bunch_at` makes it, and what the class
+/// answered: None exactly in the nulls tree, whose values are all in one node.
 /// `LeftOut` comes exactly where the lists that must go elsewhere do not fit with the leaf on one page;
-/// then it is in none of them, and the insert stands at the new inner tuple, whose block is among those
-/// touched and below a root is that of the tuple above or was latched by no other seat. A rise is noted
-/// then exactly where all leaves but the new one are in one node. `ClockFull` comes never at a root, and
-/// below one exactly where the clock is 2^48 - 1, before a page is picked. `IndexFull` comes exactly
-/// where the pick of a page for the lists, or below a root for the inner tuple or for the lists that go,
+/// then it is in none of them, and the insert stands at the new inner tuple. `ClockFull` comes exactly
+/// below a root where the clock is 2^48 - 1, before a page is picked; `IndexFull` exactly where a pick
 /// needs a new page and there may be none, unless memory is short before. After a refusal table and
 /// insert are as they were.
-///
-/// `table` tells the whole table: the inner tuple is that of the class's meaning, its nodes lead to its
-/// lists, and the pages remembered are those after the picks. The blocks touched are exactly those
-/// written or added, each once; each but that where the insert stands and that of the tuple above was
-/// latched by no other seat. Latches and counter stay as they are.
 pub fn split_leaf<O: OpClass>(
     alloc: Global,
     table: &mut PageTable,

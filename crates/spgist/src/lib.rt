@@ -4,8 +4,8 @@
 //! An `Index` belongs to one owner, and its calls are whole: `insert`, `delete`, `find`, `vacuum`. `near` gives the rows
 //! nearest to a point, `find_some` and `Reader` search an index that many threads read, `save` and `load_index` write and
 //! read images, `build_index` makes an index of many rows at once, `renew` begins a journal anew.
-//! Threads share it by the crate `spg_share`. A class is `Quad` or `Kd` for points, `Radix` for texts, `Ranges` for ranges
-//! of whole numbers, or `With` one of these and a number beside each key; docs/CLASSES.md tells how another one is made.
+//! Threads share it by the crate `spg_share`. A class is `Quad` or `Kd` for points, `Radix` for texts, `With` one of these
+//! and a number beside each key, or `Ranges` for ranges of whole numbers; docs/CLASSES.md tells how another one is made.
 #![tactic(auto)]
 
 mod builds;
