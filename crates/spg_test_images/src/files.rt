@@ -69,3 +69,11 @@ fn stays_in_the_folder(rt: HostRuntime) -> Result<(), Fail> {
     }
     Ok(())
 }
+
+#[test]
+fn a_refusal_says_why(rt: HostRuntime) -> Result<(), Fail> {
+    let refused = IoRefused::Failed;
+    let text = format!(in rt.alloc(); "{refused}")?;
+    assert_eq!(rt; text.as_str(), "the device failed");
+    Ok(())
+}

@@ -8,6 +8,8 @@ mod pages;
 #[cfg(test)]
 mod picks;
 #[cfg(test)]
+mod spelled;
+#[cfg(test)]
 mod sweeps;
 #[cfg(test)]
 mod vacuums;

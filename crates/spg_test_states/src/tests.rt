@@ -1,7 +1,8 @@
 use crate::small::small_state;
 use spg_base::{Memory, SeatNo};
-use spg_core::{Bare, OpenKind};
+use spg_core::{ApplyRefused, Bare, OpenKind, OpenRefused, VacuumRefused};
 use spg_quad::Quad;
+use spg_scan::SiftRefused;
 use std::alloc::Global;
 use std::mem::forget;
 use std::test::Fail;
@@ -32,5 +33,24 @@ fn comes_about(alloc: Global) -> Result<(bool, bool), Memory> {
 #[test]
 fn much_is_open_at_once(rt: HostRuntime) -> Result<(), Fail> {
     assert!(rt; comes_about(rt.alloc())? == (true, true));
+    Ok(())
+}
+
+#[test]
+fn refusals_say_why(rt: HostRuntime) -> Result<(), Fail> {
+    let by = SeatNo::first();
+    let held = OpenRefused::RowHeld { by };
+    let open = VacuumRefused::Open { by };
+    let opens = format!(in rt.alloc(); "{held}, {open}")?;
+    assert_eq!(rt;
+        opens.as_str(),
+        "seat 0 holds the row, seat 0 has a vacuum open"
+    );
+    let page = ApplyRefused::Changed;
+    let item = SiftRefused::Changed;
+    let changed = format!(in rt.alloc(); "{page}, {item}")?;
+    let words =
+        "the page has changed since it was looked at, the item is not the one that was copied";
+    assert_eq!(rt; changed.as_str(), words);
     Ok(())
 }

@@ -231,3 +231,11 @@ fn tells_what_was_wanted(rt: HostRuntime) -> Result<(), Fail> {
     }
     Ok(())
 }
+
+#[test]
+fn a_refusal_names_the_line(rt: HostRuntime) -> Result<(), Fail> {
+    let refused = ScriptRefused::BadLine(3);
+    let text = format!(in rt.alloc(); "{refused}")?;
+    assert_eq!(rt; text.as_str(), "bad line 3");
+    Ok(())
+}
