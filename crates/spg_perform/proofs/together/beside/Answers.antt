@@ -2,7 +2,6 @@ use Rattle.std.proofs.Common.{◌≡◌, ◌<◌, ◌+◌, ℕ, List, [], ◌++�
 use Rattle.std.specs.Prelude.{All, false}
 use Rattle.std.proofs.lemmas.List.Elements.{All-get_or}
 use Rattle.spg_script.specs.declared.command.Command.{Command}
-use Rattle.spg_report.specs.declared.record.Record.{Record}
 use Rattle.spg_core.specs.Seen.{Seen}
 use Rattle.spg_commands.specs.Acted.{CanBeDone}
 use Rattle.spg_perform.specs.Lanes.{LaneDone}
