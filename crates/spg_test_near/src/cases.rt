@@ -1,4 +1,5 @@
 // Searches, and what comes of them.
+use crate::lines::{CHAINS, DELETED, LONG};
 use crate::turns::Turn;
 use spg_base::Point;
 
@@ -16,105 +17,6 @@ pub(crate) struct Case {
     pub(crate) quad: (u64, u64),
     pub(crate) kd: (u64, u64),
 }
-
-/// Four lines of points, in a quad tree four chains of one inner tuple: the first of 30 points.
-const CHAINS: [Turn; 4] = [
-    Turn::Insert {
-        row: 1,
-        x: 1000,
-        y: 1000,
-        by: 1,
-        count: 30,
-    },
-    Turn::Insert {
-        row: 31,
-        x: -1300,
-        y: 1000,
-        by: 1,
-        count: 200,
-    },
-    Turn::Insert {
-        row: 231,
-        x: -1000,
-        y: -1000,
-        by: 1,
-        count: 30,
-    },
-    Turn::Insert {
-        row: 261,
-        x: 1000,
-        y: -1000,
-        by: 1,
-        count: 100,
-    },
-];
-
-/// The same, the first chain of 100 points.
-const LONG: [Turn; 4] = [
-    Turn::Insert {
-        row: 1,
-        x: 1000,
-        y: 1000,
-        by: 1,
-        count: 100,
-    },
-    Turn::Insert {
-        row: 101,
-        x: -1300,
-        y: 1000,
-        by: 1,
-        count: 150,
-    },
-    Turn::Insert {
-        row: 251,
-        x: -1000,
-        y: -1000,
-        by: 1,
-        count: 30,
-    },
-    Turn::Insert {
-        row: 281,
-        x: 1000,
-        y: -1000,
-        by: 1,
-        count: 100,
-    },
-];
-
-/// The first, with three rows deleted.
-const DELETED: [Turn; 7] = [
-    Turn::Insert {
-        row: 1,
-        x: 1000,
-        y: 1000,
-        by: 1,
-        count: 30,
-    },
-    Turn::Insert {
-        row: 31,
-        x: -1300,
-        y: 1000,
-        by: 1,
-        count: 200,
-    },
-    Turn::Insert {
-        row: 231,
-        x: -1000,
-        y: -1000,
-        by: 1,
-        count: 30,
-    },
-    Turn::Insert {
-        row: 261,
-        x: 1000,
-        y: -1000,
-        by: 1,
-        count: 100,
-    },
-    Turn::Kill { row: 1 },
-    Turn::Kill { row: 2 },
-    Turn::Kill { row: 11 },
-];
 
 pub(crate) const CASES: [Case; 18] = [
     // Points of one page, the nearest last.

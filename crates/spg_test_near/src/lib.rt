@@ -4,6 +4,8 @@
 #[cfg(test)]
 mod cases;
 #[cfg(test)]
+mod lines;
+#[cfg(test)]
 mod nearest;
 mod others;
 #[cfg(test)]

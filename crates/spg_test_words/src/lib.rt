@@ -7,8 +7,12 @@ mod bad_lines;
 #[cfg(test)]
 mod beside;
 #[cfg(test)]
+mod loads;
+#[cfg(test)]
 mod reports;
 #[cfg(test)]
 mod scripts;
+#[cfg(test)]
+mod speech;
 #[cfg(test)]
 mod values;
