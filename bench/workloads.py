@@ -45,6 +45,16 @@ def texts(rng, count):
     return [f'"{address(rng) if rng.random() < 0.5 else url(rng)}"' for _ in range(count)]
 
 
+def digit(keys):
+    """The keys, each with a number of one digit beside it."""
+    return lambda rng, count: [f"{key} value {at % 10}" for at, key in enumerate(keys(rng, count))]
+
+
+def digits(keys):
+    """The keys, each with a number of 19 or 20 digits beside it."""
+    return lambda rng, count: [f"{key} value {rng.randint(10**18, 2**64 - 1)}" for key in keys(rng, count)]
+
+
 def inserts(keys):
     return [f"insert {row(number)} {key}" for number, key in enumerate(keys)]
 
@@ -95,6 +105,12 @@ WORKLOADS = [
     ("20,000 uniform points in one lane, quad", "quad", uniform, FEWER, one_lane, 210),
     ("20,000 addresses and URLs in one lane, radix", "radix", texts, FEWER, one_lane, 340),
     ("20,000 uniform points, then 5,000 equalities in one lane, quad", "quad", uniform, FEWER, one_lane_of_equalities, None),
+    ("50,000 uniform points with a digit, quad", "quad value", digit(uniform), COUNT, plain, None),
+    ("the same, k-d, with a digit", "kd value", digit(uniform), COUNT, plain, None),
+    ("50,000 addresses and URLs with a digit, radix", "radix value", digit(texts), COUNT, plain, None),
+    ("50,000 uniform points with 19 or 20 digits, quad", "quad value", digits(uniform), COUNT, plain, None),
+    ("the same, k-d, with 19 or 20 digits", "kd value", digits(uniform), COUNT, plain, None),
+    ("50,000 addresses and URLs with 19 or 20 digits, radix", "radix value", digits(texts), COUNT, plain, None),
 ]
 
 

@@ -56,10 +56,7 @@ fn push_key<O: Spoken>(
     ensures { OnOk result (line.new ≡ line.old ++ key_or_null_text O.speech key.now) }
 {
     match key {
-        Some(key) => {
-            let text = class.key_text(alloc, key)?;
-            line.extend(text.as_slice())
-        }
+        Some(key) => line.key(alloc, class, key),
         None => line.extend(b"null"),
     }
 }

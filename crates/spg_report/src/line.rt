@@ -5,7 +5,7 @@ ghost use Rattle.spg_script.specs.Spelling.{IsRow};
 
 use itoa::Buffer;
 use spg_base::{Memory, Row};
-use spg_script::Tail;
+use spg_script::{Spoken, Tail};
 use std::alloc::Global;
 use std::marker::Model;
 
@@ -81,6 +81,13 @@ impl Line {
         let mut text = Tail::new();
         text.row(row);
         self.extend(text.as_slice())
+    }
+
+    /// Adds a key at the end, as its class spells it.
+    pub fn key<O: Spoken>(&mut self, alloc: Global, class: &O, key: &O::Key) -> Result<(), Memory>
+        ensures { OnOk result (self.new ≡ self.old ++ O.speech.key_text key.now) }
+    {
+        class.push_key_text(alloc, &mut self.bytes, key)
     }
 
     /// Adds a distance at the end, in decimal digits.

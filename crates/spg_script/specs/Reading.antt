@@ -1,6 +1,6 @@
 -- What each part of the reader makes of bytes. The lemmas show that it is what the bytes spell, and that nothing that
 -- is spelled is missed.
-use Rattle.std.specs.Prelude.{◌≡◌, ◌≤◌, ℕ, zero, suc, ◌+◌, ◌-◌, ◌*◌, ◌^◌, List, [], ◌∷◌, ◌++◌, length, take, drop, Option, Some, None, option_and_then, if◌then◌else◌, ◌==◌, nat_lt, nat_eq, ◌||◌, ◌&&◌, ℤ, pos, neg_ℤ, int_le, codes, bytes_eq}
+use Rattle.std.specs.Prelude.{◌≡◌, ◌≤◌, ℕ, Bool, true, false, zero, suc, ◌+◌, ◌-◌, ◌*◌, ◌^◌, List, [], ◌∷◌, ◌++◌, length, take, drop, Option, Some, None, option_and_then, if◌then◌else◌, ◌==◌, nat_lt, nat_eq, ◌||◌, ◌&&◌, ℤ, pos, neg_ℤ, int_le, codes, bytes_eq}
 use Rattle.std.specs.List.{starts_with}
 use Rattle.std.specs.Borrow.{Bor}
 use Rattle.spg_base.specs.Row.{RowAt}
@@ -26,6 +26,10 @@ use Rattle.spg_script.specs.Line.{bare_form, is_name}
 infixl 10 ◌>>=◌
 abbrev pub ◌>>=◌ : {A B : Type 0} → Option A → (A → Option B) → Option B
 o >>= f = option_and_then f o
+
+-- whether a byte is another than stop
+abbrev pub is_other : ℕ → ℕ → Bool
+is_other stop b = if b == stop then false else true
 
 -- how many bytes stand before the first that is stop
 abbrev pub len_before : ℕ → List ℕ → ℕ

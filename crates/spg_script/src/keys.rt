@@ -2,7 +2,7 @@ ghost use Rattle.std.specs.Prelude.{◌≡◌, IfOk};
 ghost use Rattle.spg_script.specs.Reading.{value_behind, point_value_of, text_value_of, any_key_of, key_of};
 
 use crate::any_key::AnyKey;
-use crate::bytes::{behind, len_before};
+use crate::bytes::{behind, len_before_far};
 use crate::key_form::KeyForm;
 use crate::numbers::{point, wide_number};
 use crate::ranges::range;
@@ -23,7 +23,7 @@ fn value(bytes: &[u8]) -> Option<u64>
 fn point_value(bytes: &[u8]) -> Option<AnyKey>
     ensures { result ≡ point_value_of bytes.now }
 {
-    let at = len_before(bytes, b' ');
+    let at = len_before_far(bytes, b' ');
     let point = point(&bytes[..at])?;
     let value = value(&bytes[at..])?;
     Some(AnyKey::PointValue { point, value })

@@ -81,7 +81,8 @@ pub fn wide_number(bytes: &[u8]) -> Option<u64>
 {
     match bytes {
         [] => None,
-        [b'0', rest @ ..] => if rest.is_empty() { Some(0) } else { None },
+        [b] if b'0' <= *b && *b <= b'9' => Some(u64::from(*b - b'0')),
+        [b'0', ..] => None,
         _ => wide_value(bytes),
     }
 }

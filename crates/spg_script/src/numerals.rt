@@ -1,4 +1,4 @@
-ghost use Rattle.std.specs.Prelude.{◌≡◌, ◌++◌, OnOk};
+ghost use Rattle.std.specs.Prelude.{◌≡◌, ◌<◌, ◌++◌, OnOk};
 ghost use Rattle.std.specs.Fmt.{signed_decimal};
 ghost use Rattle.spg_base.specs.Text.{row_text, point_text};
 ghost use Rattle.spg_script.specs.Spelling.{value_text, range_text};
@@ -34,14 +34,52 @@ pub fn push_point(text: &mut Bytes, point: Point) -> Result<(), Memory>
     text.extend(tail.as_slice())
 }
 
-/// Adds the number beside a key, behind it.
-pub fn push_value(text: &mut Bytes, value: u64) -> Result<(), Memory>
-    ensures { OnOk result (text.new ≡ text.old ++ value_text value) }
+/// The number beside a key, as it stands behind it.
+fn value_tail(value: u64) -> Tail
+    ensures { result ≡ value_text value }
 {
     let mut tail = Tail::new();
     tail.number(value);
     tail.piece(b" value ");
-    text.extend(tail.as_slice())
+    tail
+}
+
+/// A number of one digit, as it stands behind a key.
+fn digit_behind(digit: u8) -> [u8; 8]
+    requires { digit < 10 }
+    ensures { result ≡ value_text digit }
+{
+    [b' ', b'v', b'a', b'l', b'u', b'e', b' ', b'0' + digit]
+}
+
+/// Adds the number beside a key, behind it.
+pub fn push_value(text: &mut Bytes, value: u64) -> Result<(), Memory>
+    ensures { OnOk result (text.new ≡ text.old ++ value_text value) }
+{
+    if value < 10 {
+        return text.extend(&digit_behind(value as u8));
+    }
+    text.extend(value_tail(value).as_slice())
+}
+
+/// Adds the number beside a key to a line, behind the key.
+pub fn push_value_on(line: &mut Vec<u8>, value: u64) -> Result<(), Memory>
+    ensures { OnOk result (line.new.items ≡ line.old.items ++ value_text value) }
+{
+    if value >= 10 {
+        return push_tail_on(line, value);
+    }
+    line.extend_from_slice(&digit_behind(value as u8))?;
+    Ok(())
+}
+
+/// The same for a number of any digits.
+#[inline(never)]
+fn push_tail_on(line: &mut Vec<u8>, value: u64) -> Result<(), Memory>
+    ensures { OnOk result (line.new.items ≡ line.old.items ++ value_text value) }
+{
+    line.extend_from_slice(value_tail(value).as_slice())?;
+    Ok(())
 }
 
 /// Adds a range: its ends between brackets, or that it is empty.

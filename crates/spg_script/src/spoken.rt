@@ -1,10 +1,11 @@
-ghost use Rattle.std.specs.Prelude.{◌≡◌, ℕ, Option, None, true, false, IfOk};
+ghost use Rattle.std.specs.Prelude.{◌≡◌, ◌++◌, ℕ, Option, None, true, false, IfOk, OnOk};
+ghost use Rattle.spg_script.specs.declared.any_key.AnyKey.TheVariants.{Text};
 ghost use Rattle.spg_script.specs.declared.key_form.KeyForm.{KeyForm};
 ghost use Rattle.spg_script.specs.Speech.{Speech, SpeaksAsPrinted, NamesKeys, Knows, HasNoValues, takes_value, with_value, point_in, point_cond_in, text_in, text_cond_in};
 
 use crate::any_cond::AnyCond;
 use crate::any_key::AnyKey;
-use crate::numerals::{push_point, push_range, push_value};
+use crate::numerals::{push_point, push_range, push_value, push_value_on};
 use crate::spelling::{push_cond, push_quoted, push_range_cond, push_text_cond};
 use spg_base::{Bytes, Memory, Point, PointCond, Same};
 use spg_kd::Kd;
@@ -28,6 +29,13 @@ pub trait Spoken: OpClass {
     fn key_in(&self, key: &AnyKey) -> Result<Option<Self::Key>, Memory>
         ensures { IfOk result (λ found. found ≡ speech.key_in key.now) };
 
+    /// The class's key for a text of a script. None exactly where the class has no such key.
+    fn text_key_in(&self, text: &ByteText) -> Result<Option<Self::Key>, Memory>
+        ensures { IfOk result (λ found. found ≡ speech.key_in (Text text.now)) }
+    {
+        self.key_in(&AnyKey::Text(text.copy()?))
+    }
+
     /// The class's condition for a script's. None exactly where the class has no such condition.
     fn cond_in(&self, cond: &AnyCond) -> Result<Option<Self::Cond>, Memory>
         ensures { IfOk result (λ found. found ≡ speech.cond_in cond.now) };
@@ -35,6 +43,20 @@ pub trait Spoken: OpClass {
     /// The text of a key.
     fn key_text(&self, alloc: Global, key: &Self::Key) -> Result<Bytes, Memory>
         ensures { IfOk result (λ text. text ≡ speech.key_text key.now) };
+
+    /// Adds the text of a key to a line.
+    fn push_key_text(
+        &self,
+        alloc: Global,
+        line: &mut Vec<u8>,
+        key: &Self::Key,
+    ) -> Result<(), Memory>
+        ensures { OnOk result (line.new.items ≡ line.old.items ++ speech.key_text key.now) }
+    {
+        let text = self.key_text(alloc, key)?;
+        line.extend_from_slice(text.as_slice())?;
+        Ok(())
+    }
 
     /// The text of a condition.
     fn cond_text(&self, alloc: Global, cond: &Self::Cond) -> Result<Bytes, Memory>
@@ -208,6 +230,10 @@ impl Spoken for Radix {
         }
     }
 
+    fn text_key_in(&self, text: &ByteText) -> Result<Option<ByteText>, Memory> {
+        Ok(Some(text.copy()?))
+    }
+
     fn cond_in(&self, cond: &AnyCond) -> Result<Option<TextCond>, Memory> {
         match cond {
             AnyCond::Text(cond) => Ok(Some(cond.copy()?)),
@@ -313,8 +339,7 @@ impl<O: SpokenAlone> Spoken for With<O> {
                 Ok(with_value(self.inner.key_in(&AnyKey::Point(*point))?, *value))
             }
             AnyKey::TextValue { text, value } => {
-                let alone = AnyKey::Text(text.copy()?);
-                Ok(with_value(self.inner.key_in(&alone)?, *value))
+                Ok(with_value(self.inner.text_key_in(text)?, *value))
             }
             _ => Ok(None),
         }
@@ -328,6 +353,16 @@ impl<O: SpokenAlone> Spoken for With<O> {
         let mut text = self.inner.key_text(alloc, &key.key)?;
         push_value(&mut text, key.value)?;
         Ok(text)
+    }
+
+    fn push_key_text(
+        &self,
+        alloc: Global,
+        line: &mut Vec<u8>,
+        key: &WithKey<O::Key>,
+    ) -> Result<(), Memory> {
+        self.inner.push_key_text(alloc, line, &key.key)?;
+        push_value_on(line, key.value)
     }
 
     fn cond_text(&self, alloc: Global, cond: &O::Cond) -> Result<Bytes, Memory> {
