@@ -7,7 +7,7 @@ use spg_base::{List, Memory, Point, PointCond, Row};
 use spg_opclass::Query;
 use spg_quad::Quad;
 use spg_share::{FindAnswer, InsertAnswer, KillAnswer, Lane, Seat, Task, VacuumAnswer};
-use spg_test_seats::{Replayed, judge};
+use spg_test_index::{Replayed, judge};
 use spg_whole::Index;
 use std::alloc::Global;
 use std::mem;

@@ -1,13 +1,13 @@
 //! Calls of a seat, and what each answers.
 
+use crate::calls::{
+    close_scan, give_up, insert_step, kill, open_insert, open_scan, open_vacuum, scan_read,
+    vacuum_step,
+};
 use spg_base::{Memory, Point, Row, SeatNo};
 use spg_core::{InsertOut, OpenRefused, ReadOut, State, StepRefused, VacuumOut, VacuumRefused};
 use spg_opclass::Query;
 use spg_quad::Quad;
-use spg_test_calls::{
-    close_scan, give_up, insert_step, kill, open_insert, open_scan, open_vacuum, scan_read,
-    vacuum_step,
-};
 
 /// What a seat does.
 #[derive(Clone, Copy)]

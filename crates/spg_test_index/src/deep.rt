@@ -1,11 +1,11 @@
 //! A tree of many levels: each text begins the next one, so each division makes a level.
 
+use crate::calls::{kill, open_vacuum, vacuum_step};
 use crate::driver::{Found, find, insert};
 use spg_base::{Bytes, List, Memory, Row, SeatNo};
 use spg_core::{State, VacuumOut};
 use spg_opclass::Query;
 use spg_radix::{ByteText, Radix, TextCond};
-use spg_test_calls::{kill, open_vacuum, vacuum_step};
 use std::alloc::Global;
 use std::mem;
 use std::test::Fail;

@@ -1,5 +1,6 @@
 //! Inserts that divide a root and chains: what each section does, what finds give and meet then, and the counts.
 
+use crate::calls::{kill, open_vacuum, vacuum_step};
 use crate::driver::{Found, find, insert};
 use spg_base::{List, Memory, Point, PointCond, Row, SeatNo, Stat};
 use spg_core::{State, VacuumOut};
@@ -7,7 +8,6 @@ use spg_kd::Kd;
 use spg_opclass::{OpClass, Query};
 use spg_quad::Quad;
 use spg_radix::Radix;
-use spg_test_calls::{kill, open_vacuum, vacuum_step};
 use std::alloc::Global;
 use std::mem;
 use std::test::Fail;

@@ -1,9 +1,9 @@
 //! Whole inserts and finds of seat 0.
 
+use crate::calls::{close_scan, insert_or_give_up, open_insert, open_scan, scan_read};
 use spg_base::{Memory, Row, SeatNo};
 use spg_core::{Closed, InsertOut, OpenKind, OpenRefused, State, StepRefused};
 use spg_opclass::{OpClass, Query};
-use spg_test_calls::{close_scan, insert_or_give_up, open_insert, open_scan, scan_read};
 
 /// How many rows a find has given, and how many tuples it has met.
 pub(crate) type Found = (usize, u64);

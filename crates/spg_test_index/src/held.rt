@@ -1,12 +1,12 @@
 //! Scans that hold much while other seats move and divide what they hold.
 
+use crate::calls::{insert, kill, open_scan};
 use crate::driver::{Found, go_on};
 use spg_base::{Bytes, List, Memory, Point, PointCond, Row, SeatNo};
 use spg_core::{OpenKind, State};
 use spg_opclass::{OpClass, Query};
 use spg_quad::Quad;
 use spg_radix::{ByteText, Radix};
-use spg_test_calls::{insert, kill, open_scan};
 use std::alloc::Global;
 use std::mem;
 use std::test::Fail;

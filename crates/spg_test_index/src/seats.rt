@@ -2,10 +2,10 @@
 //! divide what it has still to see.
 
 use crate::answers::{Answer, Call, answer_of};
+use crate::calls::insert;
 use spg_base::{Memory, Point, Row, SeatNo, Stat};
 use spg_core::State;
 use spg_quad::Quad;
-use spg_test_calls::insert;
 use std::alloc::Global;
 use std::mem;
 use std::test::Fail;

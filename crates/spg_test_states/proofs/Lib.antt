@@ -1,2 +1,4 @@
 pub mod Seeing
 pub mod Working
+pub mod LaterPages
+pub mod Others

@@ -1,13 +1,11 @@
-//! A small state that meets what a state keeps while an insert is below the root, a scan holds a copied
-//! tuple, and a vacuum has a done place before a redirect.
+//! Tests of states that are made for them: a small one that meets what a state keeps while an insert, a scan
+//! and a vacuum are under way; sections over pages that stand already; and searches for the nearest rows,
+//! while another seat works between the reads.
 #![tactic(auto)]
 
-mod looks;
-mod sections;
-mod small;
-mod start;
 #[cfg(test)]
-mod tests;
-mod vacuums;
-
-pub use small::small_state;
+mod near;
+#[cfg(test)]
+mod sections;
+#[cfg(test)]
+mod small;

@@ -1,7 +1,0 @@
-use Rattle.std.proofs.Common.{refl}
-use Rattle.spg_rows.specs.declared.event.Event.TheVariants.{OpenInsert}
-use Rattle.spg_test_near.proofs.Working.{logs}
-use Rattle.spg_test_near.proofs.turns.open.Goals as goal
-
-pub returns-in-Ok : goal.returns-in-Ok
-returns-in-Ok g c = logs g.O.OpClass.meaning c.args.by c.args.state.now c.open_insert.new.self (OpenInsert c.args.by c.args.row c.args.key) _ refl c.in-Ok.ensures.ok.0

@@ -1,5 +1,0 @@
-use Rattle.spg_test_near.specs.Works.{Works}
-use Rattle.spg_test_near.proofs.turns.put.Given as goal
-
-abbrev pub invariant-loop : goal.invariant-loop
-invariant-loop g l = Works g.O.OpClass.meaning l.by l.fn.state l.state

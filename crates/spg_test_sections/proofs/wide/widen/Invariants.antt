@@ -1,7 +1,0 @@
-use Rattle.std.proofs.Common.{◌≡◌}
-use Rattle.spg_core.specs.Stage.{free}
-use Rattle.spg_core.specs.Seen.{stage_at}
-use Rattle.spg_test_sections.proofs.wide.widen.Given as goal
-
-abbrev pub invariant-loop-byte : goal.invariant-loop-byte
-invariant-loop-byte g l = stage_at l.state 0 ≡ free

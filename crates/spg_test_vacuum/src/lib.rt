@@ -1,5 +1,0 @@
-//! A test of a vacuum of many pages.
-#![tactic(auto)]
-
-#[cfg(test)]
-mod many_pages;
