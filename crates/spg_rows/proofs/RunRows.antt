@@ -51,6 +51,10 @@ module _ {O Key Recon Cond : Type 0} (es : Table O Key Recon Cond) (rises : Rise
   pub behind_last : (last : Entry) → 0 < length es → get_or es (length es - 1) last ≡ last → row_cmp last.0 row ≡ Less → IsBehind es row
   behind_last last some is up = all_under row_cmp row_total es rises row last some is up
 
+  -- and the last is below a row that is behind all others
+  pub last_below : (last : Entry) → 0 < length es → get_or es (length es - 1) last ≡ last → IsBehind es row → row_cmp last.0 row ≡ Less
+  last_below last some is behind = ap (λ e. row_cmp e.0 row) (sym is) ∙ behind (length es - 1) last (omega (arith, some))
+
   -- the last entry is the row's where its row is equal
   pub is_last : (last : Entry) → 0 < length es → get_or es (length es - 1) last ≡ last → row_cmp last.0 row ≡ Equal → IsAt es row (length es - 1)
   is_last last some is same = record {

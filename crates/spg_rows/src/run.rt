@@ -1,4 +1,4 @@
-ghost use Rattle.std.specs.Prelude.{◌≡◌, [], Some, None, IsTrue, IfSome, IfNone, IfOk, IfErr, OnOk, OnErr, is_some, option_copied};
+ghost use Rattle.std.specs.Prelude.{◌≡◌, ◌↔◌, [], Some, None, IsTrue, IfSome, IfNone, IfOk, IfErr, OnOk, OnErr, is_some, option_copied};
 ghost use Rattle.spg_rows.specs.Table.{entry_in, entry_with, SetsEntry};
 ghost use Rattle.spg_rows.specs.Run.{IsAt, IsBehind};
 
@@ -122,7 +122,7 @@ impl<O: OpClass> Run<O> {
 
     /// Whether the row is above all others.
     pub fn is_behind(&self, row: Row) -> bool
-        ensures { IsTrue result → IsBehind self.now row }
+        ensures { IsTrue result ↔ IsBehind self.now row }
     {
         match self.entries.last() {
             Some(last) => match last.0.cmp(&row) {

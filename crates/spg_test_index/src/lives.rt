@@ -6,7 +6,7 @@ use spg_quad::Quad;
 use std::alloc::Global;
 
 /// The rows of the list are 1.1, 1.2 and so on, so many.
-pub const ROWS: u16 = 800;
+pub(crate) const ROWS: u16 = 800;
 
 /// What is known of a life of a row: the row, its key, whether it was dropped, the positions of the
 /// events that put and deleted it, and the vacuum that swept it.

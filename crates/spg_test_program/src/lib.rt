@@ -1,30 +1,12 @@
-//! Tests of whole runs of the program: scripts in, their printed texts out.
+//! Tests of whole runs of the program: scripts in, their printed texts out. For other tests: runs over calls
+//! that fail or do not, with how each ended and what it wrote, and the lines of scripts and texts.
 #![tactic(auto)]
 
 #[cfg(test)]
-mod builds;
-#[cfg(test)]
-mod checks;
-#[cfg(test)]
 mod every_line;
 #[cfg(test)]
-mod faults;
-#[cfg(test)]
-mod gates;
-#[cfg(test)]
-mod images;
-#[cfg(test)]
-mod lanes;
-#[cfg(test)]
-mod limits;
-#[cfg(test)]
 mod loads;
-#[cfg(test)]
-mod long_texts;
-#[cfg(test)]
 mod program;
-#[cfg(test)]
-mod ranges;
 #[cfg(test)]
 mod rounds;
 #[cfg(test)]
@@ -32,10 +14,11 @@ mod rows;
 #[cfg(test)]
 mod scripts;
 #[cfg(test)]
-mod standbys;
-#[cfg(test)]
-mod values;
-#[cfg(test)]
 mod watching;
 #[cfg(test)]
 mod words;
+
+pub use program::{
+    Ended, Fails, Open, are_lines, assert_run, done, done_over, ends, is_line, joined, no_fails,
+    push_insert, push_numbered, ran, ran_by, ran_over, ran_whole, run_word, writes,
+};

@@ -13,21 +13,28 @@ const MOST: usize = 40;
 
 /// The numbers of the calls that fail, counted from 1; 0 where none does.
 #[derive(Clone, Copy)]
-pub(crate) struct Fails {
-    pub(crate) read: u64,
-    pub(crate) write: u64,
-    pub(crate) image: u64,
+pub struct Fails {
+    /// Of the reads of the script.
+    pub read: u64,
+    /// Of the writes of the text.
+    pub write: u64,
+    /// Of the calls on the images.
+    pub image: u64,
 }
 
 /// How a run ended, what it wrote, and the images after it.
 #[derive(Drop)]
-pub(crate) struct Ended {
-    pub(crate) status: Status,
-    pub(crate) text: Vec<u8>,
-    pub(crate) images: FaultyImages,
+pub struct Ended {
+    /// How the run ended.
+    pub status: Status,
+    /// What it wrote.
+    pub text: Vec<u8>,
+    /// The images, as it left them.
+    pub images: FaultyImages,
 }
 
-pub(crate) fn no_fails() -> Fails {
+/// A run of which no call fails.
+pub fn no_fails() -> Fails {
     Fails {
         read: 0,
         write: 0,
@@ -36,7 +43,7 @@ pub(crate) fn no_fails() -> Fails {
 }
 
 /// The words of a run without options.
-pub(crate) fn run_word() -> [&'static str; 1] {
+pub fn run_word() -> [&'static str; 1] {
     ["run"]
 }
 
@@ -72,14 +79,14 @@ fn sink_of(alloc: Global, call: u64) -> Result<FaultySink, Memory> {
 }
 
 /// A gate at which no lane waits.
-pub(crate) struct Open;
+pub struct Open;
 
 impl Gate for Open {
     fn at<R: Wait>(&self, _rt: &R, _lane: u8, _command: u32) {}
 }
 
 /// Runs the program on a script.
-pub(crate) fn ran<R: AllocGlobal + Threads + Wait + Sync>(
+pub fn ran<R: AllocGlobal + Threads + Wait + Sync>(
     rt: &R,
     words: &[&str],
     script: &[u8],
@@ -89,7 +96,7 @@ pub(crate) fn ran<R: AllocGlobal + Threads + Wait + Sync>(
 }
 
 /// Runs the program on a script whose lanes ask a gate.
-pub(crate) fn ran_by<R: AllocGlobal + Threads + Wait + Sync, G: Gate>(
+pub fn ran_by<R: AllocGlobal + Threads + Wait + Sync, G: Gate>(
     rt: &R,
     words: &[&str],
     script: &[u8],
@@ -135,7 +142,7 @@ fn taken<R: AllocGlobal + Threads + Wait + Sync, G: Gate>(
 }
 
 /// Runs the program on a script over images that are there, and gives how it ended and what it wrote.
-pub(crate) fn ran_over<R: AllocGlobal + Threads + Wait + Sync, G: Gate>(
+pub fn ran_over<R: AllocGlobal + Threads + Wait + Sync, G: Gate>(
     rt: &R,
     words: &[&str],
     script: &[u8],
@@ -150,7 +157,7 @@ pub(crate) fn ran_over<R: AllocGlobal + Threads + Wait + Sync, G: Gate>(
 }
 
 /// Lines with their ends.
-pub(crate) fn joined(alloc: Global, lines: &[&str]) -> Result<String, AllocError> {
+pub fn joined(alloc: Global, lines: &[&str]) -> Result<String, AllocError> {
     let mut text = String::new(alloc);
     for line in lines {
         text.push_str(line)?;
@@ -160,7 +167,7 @@ pub(crate) fn joined(alloc: Global, lines: &[&str]) -> Result<String, AllocError
 }
 
 /// Whether a run over images ends so and writes this.
-pub(crate) fn writes<R: AllocGlobal + Threads + Wait + Sync>(
+pub fn writes<R: AllocGlobal + Threads + Wait + Sync>(
     rt: &R,
     words: &[&str],
     script: &[u8],
@@ -172,7 +179,7 @@ pub(crate) fn writes<R: AllocGlobal + Threads + Wait + Sync>(
 }
 
 /// Whether a run of which these calls fail ends so and writes this.
-pub(crate) fn ends<R: AllocGlobal + Threads + Wait + Sync>(
+pub fn ends<R: AllocGlobal + Threads + Wait + Sync>(
     rt: &R,
     words: &[&str],
     script: &[u8],
@@ -185,7 +192,7 @@ pub(crate) fn ends<R: AllocGlobal + Threads + Wait + Sync>(
 }
 
 /// Runs the program on a script, and compares how it ended and what it wrote.
-pub(crate) fn assert_run<R: AllocGlobal + Threads + Wait + Sync + Abort>(
+pub fn assert_run<R: AllocGlobal + Threads + Wait + Sync + Abort>(
     rt: &R,
     words: &[&str],
     script: &[u8],
@@ -197,7 +204,7 @@ pub(crate) fn assert_run<R: AllocGlobal + Threads + Wait + Sync + Abort>(
 }
 
 /// Runs the program on a script over images: the text of a run that comes to its end.
-pub(crate) fn done_over<R: AllocGlobal + Threads + Wait + Sync>(
+pub fn done_over<R: AllocGlobal + Threads + Wait + Sync>(
     rt: &R,
     words: &[&str],
     script: &str,
@@ -210,7 +217,7 @@ pub(crate) fn done_over<R: AllocGlobal + Threads + Wait + Sync>(
 }
 
 /// Runs the program on a script that it does to its end.
-pub(crate) fn ran_whole<R: AllocGlobal + Threads + Wait + Sync + Abort>(
+pub fn ran_whole<R: AllocGlobal + Threads + Wait + Sync + Abort>(
     rt: &R,
     words: &[&str],
     script: &str,
@@ -221,7 +228,7 @@ pub(crate) fn ran_whole<R: AllocGlobal + Threads + Wait + Sync + Abort>(
 }
 
 /// Runs the program on a script: the text of a run that comes to its end.
-pub(crate) fn done<R: AllocGlobal + Threads + Wait + Sync>(
+pub fn done<R: AllocGlobal + Threads + Wait + Sync>(
     rt: &R,
     words: &[&str],
     script: &str,
@@ -231,13 +238,13 @@ pub(crate) fn done<R: AllocGlobal + Threads + Wait + Sync>(
 }
 
 /// Whether a text has this line, counted from 0.
-pub(crate) fn is_line(text: &[u8], number: usize, line: &str) -> bool {
+pub fn is_line(text: &[u8], number: usize, line: &str) -> bool {
     let mut lines = text.split(|b| *b == b'\n').skip(number);
     lines.next() == Some(line.as_bytes())
 }
 
 /// Whether a text has these lines from a number on, counted from 0.
-pub(crate) fn are_lines(text: &[u8], first: usize, lines: &[&str]) -> bool {
+pub fn are_lines(text: &[u8], first: usize, lines: &[&str]) -> bool {
     for (line, number) in lines.iter().zip(first..) {
         if !is_line(text, number, line) {
             return false;
@@ -258,7 +265,7 @@ fn push_with(text: &mut String, line: &str, told: &str) -> Result<(), AllocError
 }
 
 /// Puts a line behind a text, with a number in place of each `N`.
-pub(crate) fn push_numbered(
+pub fn push_numbered(
     alloc: Global,
     text: &mut String,
     line: &str,
@@ -269,7 +276,7 @@ pub(crate) fn push_numbered(
 }
 
 /// Puts the insert of row 1.N behind a script, whose key has this number in place of each `N`.
-pub(crate) fn push_insert(
+pub fn push_insert(
     alloc: Global,
     script: &mut String,
     key: &str,

@@ -1,6 +1,6 @@
-use crate::program::{are_lines, done, ends, no_fails, push_insert, push_numbered, run_word};
 use spg_app::Status;
 use spg_base::Memory;
+use spg_test_program::{are_lines, done, ends, no_fails, push_insert, push_numbered, run_word};
 use std::alloc::{AllocError, Global};
 use std::sync::Wait;
 use std::test::Fail;

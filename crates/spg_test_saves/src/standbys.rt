@@ -1,6 +1,6 @@
 use crate::images::{Asked, all_asked};
-use crate::program::{Fails, ends};
 use spg_app::Status;
+use spg_test_program::{Fails, ends};
 use std::test::Fail;
 
 /// Scripts that are done beside a standby: one that is behind, one that is not, each class, and scripts

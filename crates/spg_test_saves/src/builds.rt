@@ -1,8 +1,8 @@
 use crate::images::{Asked, all_asked};
-use crate::program::{Fails, ends, push_insert, writes};
 use spg_app::Status;
 use spg_base::{List, Memory};
 use spg_io::FaultyImages;
+use spg_test_program::{Fails, ends, push_insert, writes};
 use std::alloc::{AllocError, Global};
 use std::sync::Wait;
 use std::test::Fail;

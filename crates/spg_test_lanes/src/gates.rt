@@ -1,7 +1,7 @@
 //! What a gate is asked, and when: each lane once before each of its commands, and all lanes at once.
 use crate::lanes::{Lines, assert_counts, push_times};
-use crate::program::{no_fails, ran_by, run_word};
 use spg_app::{Gate, Status};
+use spg_test_program::{no_fails, ran_by, run_word};
 use std::alloc::{AllocError, Global};
 use std::process::Abort;
 use std::sync::Wait;

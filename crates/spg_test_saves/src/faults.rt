@@ -1,7 +1,7 @@
-use crate::program::{Ended, Fails, ends, no_fails, ran, run_word};
 use spg_app::Status;
 use spg_base::Memory;
 use spg_io::FaultyImages;
+use spg_test_program::{Ended, Fails, ends, no_fails, ran, run_word};
 use std::alloc::{AllocError, Global};
 use std::sync::Wait;
 use std::test::Fail;

@@ -1,8 +1,8 @@
 use crate::faults::town_images;
-use crate::program::{Fails, Open, no_fails, ran_over};
 use spg_app::{Status, last_words};
 use spg_base::{Bytes, List, Memory};
 use spg_io::FaultyImages;
+use spg_test_program::{Fails, Open, no_fails, ran_over};
 use std::alloc::Global;
 use std::sync::Wait;
 use std::test::Fail;

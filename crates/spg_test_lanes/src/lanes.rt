@@ -1,5 +1,5 @@
-use crate::program::{Open, assert_run, no_fails, ran_by, ran_whole, run_word};
 use spg_app::{Gate, Status};
+use spg_test_program::{Open, assert_run, no_fails, ran_by, ran_whole, run_word};
 use std::alloc::{AllocError, Global};
 use std::process::Abort;
 use std::sync::Wait;

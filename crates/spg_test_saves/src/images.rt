@@ -1,6 +1,6 @@
-use crate::program::{Open, joined, no_fails, ran_over};
 use spg_base::{List, Memory};
 use spg_io::FaultyImages;
+use spg_test_program::{Open, joined, no_fails, ran_over};
 use std::sync::Wait;
 use std::test::Fail;
 use std::thread::Threads;
