@@ -5,6 +5,7 @@ ghost use Rattle.std.specs.Prelude.{OnOk};
 ghost use Rattle.spgist.specs.Calls.{Inserts};
 
 use spgist::{DEFAULT_LIMIT, Index, InsertRefused, Point, Quad, Row, within};
+use std::mem;
 
 /// Opens a shop at a place.
 fn open_shop(index: &mut Index<Quad>, shop: Row, at: Point) -> Result<(), InsertRefused>
@@ -13,14 +14,21 @@ fn open_shop(index: &mut Index<Quad>, shop: Row, at: Point) -> Result<(), Insert
     index.insert(shop, Some(at))
 }
 
-fn main(rt: HostRuntime) -> anyhow::Result<()> {
-    let alloc = rt.alloc();
-    let mut index = Index::new(alloc, Quad, DEFAULT_LIMIT)?;
-    open_shop(&mut index, Row::at(1, 1), Point { x: 120, y: 40 })?;
-    open_shop(&mut index, Row::at(1, 2), Point { x: -300, y: 75 })?;
+/// Opens two shops, and prints those of a rectangle.
+fn run(rt: &HostRuntime, shops: &mut Index<Quad>) -> anyhow::Result<()> {
+    open_shop(shops, Row::at(1, 1), Point { x: 120, y: 40 })?;
+    open_shop(shops, Row::at(1, 2), Point { x: -300, y: 75 })?;
     let (low, high) = (Point { x: 0, y: -100 }, Point { x: 200, y: 100 });
-    for shop in index.find(within(alloc, low, high)?)?.as_slice() {
+    for shop in shops.find(within(rt.alloc(), low, high)?)?.as_slice() {
         println!(rt; "{shop}")?;
     }
     Ok(())
+}
+
+fn main(rt: HostRuntime) -> anyhow::Result<()> {
+    let mut shops = Index::new(rt.alloc(), Quad, DEFAULT_LIMIT)?;
+    let done = run(&rt, &mut shops);
+    // The process ends, so its memory need not be given back piece by piece.
+    mem::forget(shops);
+    done
 }

@@ -7,6 +7,7 @@ ghost use Rattle.spgist.specs.Calls.{Inserts};
 use spgist::{
     DEFAULT_LIMIT, Gathered, Index, InsertRefused, Point, Quad, Row, build_index, within,
 };
+use std::mem;
 use std::thread::Threads;
 
 /// Many shops along a street, in an index that is built at once.
@@ -29,13 +30,20 @@ fn open_shop(index: &mut Index<Quad>, shop: Row, at: Point) -> Result<(), Insert
     index.insert(shop, Some(at))
 }
 
-fn main(rt: HostRuntime) -> anyhow::Result<()> {
-    let alloc = rt.alloc();
-    let mut shops = street(&rt)?;
-    open_shop(&mut shops, Row::at(2, 1), Point { x: 3, y: 1 })?;
+/// Opens a shop, and prints those at the street's beginning.
+fn run(rt: &HostRuntime, shops: &mut Index<Quad>) -> anyhow::Result<()> {
+    open_shop(shops, Row::at(2, 1), Point { x: 3, y: 1 })?;
     let (low, high) = (Point { x: 0, y: 0 }, Point { x: 4, y: 9 });
-    for shop in shops.find(within(alloc, low, high)?)?.as_slice() {
+    for shop in shops.find(within(rt.alloc(), low, high)?)?.as_slice() {
         println!(rt; "{shop}")?;
     }
     Ok(())
+}
+
+fn main(rt: HostRuntime) -> anyhow::Result<()> {
+    let mut shops = street(&rt)?;
+    let done = run(&rt, &mut shops);
+    // The process ends, so its memory need not be given back piece by piece.
+    mem::forget(shops);
+    done
 }

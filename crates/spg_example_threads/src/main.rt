@@ -7,6 +7,7 @@ ghost use Rattle.spg_share.specs.Seats.{seat_name};
 use spg_share::{FindAnswer, Lane, Seat, Task, share};
 use spgist::{DEFAULT_LIMIT, Index, Memory, Point, Quad, Query, Row, within};
 use std::alloc::Global;
+use std::mem;
 use std::sync::Wait;
 use std::thread::Threads;
 
@@ -116,17 +117,19 @@ fn tell(rt: &HostRuntime, lanes: &[Lane<Quad, Work>]) -> anyhow::Result<()> {
     Ok(())
 }
 
-/// How many rows are there once those are swept that were deleted.
-fn left(index: &mut Index<Quad>) -> Result<usize, Memory> {
+/// Sweeps the rows that were deleted, and prints how many are left.
+fn tell_left(rt: &HostRuntime, index: &mut Index<Quad>) -> anyhow::Result<()> {
     index.vacuum()?;
-    Ok(index.find(Query::All)?.len())
+    println!(rt; "{} rows", index.find(Query::All)?.len())?;
+    Ok(())
 }
 
 fn main(rt: HostRuntime) -> anyhow::Result<()> {
     let mut lanes = lanes(rt.alloc())?;
     let mut index = run(&rt, lanes.as_mut_slice())?;
-    tell(&rt, lanes.as_slice())?;
-    let rows = left(&mut index)?;
-    println!(rt; "{rows} rows")?;
-    Ok(())
+    let told = tell(&rt, lanes.as_slice());
+    let done = tell_left(&rt, &mut index);
+    // The process ends, so its memory need not be given back piece by piece.
+    mem::forget(index);
+    told.and(done)
 }

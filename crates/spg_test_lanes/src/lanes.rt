@@ -1,5 +1,5 @@
 use spg_app::{Gate, Status};
-use spg_test_program::{Open, assert_run, no_fails, ran_by, ran_whole, run_word};
+use spg_test_program::{Open, ends, no_fails, ran, ran_by, run_word};
 use std::alloc::{AllocError, Global};
 use std::process::Abort;
 use std::sync::Wait;
@@ -53,6 +53,17 @@ fn gate_holding(lane: u8) -> Held {
 
 fn is_freed(gate: &Held) -> bool {
     gate.freed.load(Ordering::SeqCst) != 0
+}
+
+/// Runs the program on a script that it does to its end.
+pub(crate) fn ran_whole<R: AllocGlobal + Threads + Wait + Sync + Abort>(
+    rt: &R,
+    words: &[&str],
+    script: &str,
+) -> Result<Vec<u8>, Fail> {
+    let ended = ran(rt, words, script.as_bytes(), no_fails())?;
+    assert!(rt; ended.status == Status::Done);
+    Ok(ended.text)
 }
 
 /// Inserts of rows `block`.1, `block`.2 and so on.
@@ -239,7 +250,8 @@ fn lanes_without_a_command(rt: HostRuntime) -> Result<(), Fail> {
         b"class radix\ninsert 1.1 \"a\"\ntogether\nlane\nlane\nend\ntogether\nlane\nlane\ndelete 1.1\nlane\nend\nstat\n";
     let text =
         b"1 0 2 added\n2 2 3 killed\n3 3 3 stat pages 3 inner 0 leaf 1 redirect 0 dead 0 placeholder 0 clock 0\njournal 3\n0 0 open insert 1.1 \"a\"\n1 0 put 1.1\n2 1 kill 1.1\n";
-    assert_run(&rt, &run_word(), script, Status::Done, text)
+    assert!(rt; ends(&rt, &run_word(), script, no_fails(), (Status::Done, text))?);
+    Ok(())
 }
 
 /// Two blocks of lanes: those of the first insert, those of the second look.

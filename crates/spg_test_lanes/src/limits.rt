@@ -1,8 +1,8 @@
-use crate::lanes::{Lines, assert_counts, push_inserts, push_times};
+use crate::lanes::{Lines, assert_counts, push_inserts, push_times, ran_whole};
 use crate::long_texts::push_many;
 use spg_base::{Bytes, List, Memory};
 use spg_io::FaultyImages;
-use spg_test_program::{done_over, push_numbered, ran_whole};
+use spg_test_program::{done_over, push_numbered};
 use std::alloc::{AllocError, Global};
 use std::process::Abort;
 use std::sync::Wait;

@@ -19,6 +19,6 @@ mod watching;
 mod words;
 
 pub use program::{
-    Ended, Fails, Open, are_lines, assert_run, done, done_over, ends, is_line, joined, no_fails,
-    push_insert, push_numbered, ran, ran_by, ran_over, ran_whole, run_word, writes,
+    Ended, Fails, Open, are_lines, done, done_over, ends, is_line, joined, no_fails, push_insert,
+    push_numbered, ran, ran_by, ran_over, run_word, writes,
 };

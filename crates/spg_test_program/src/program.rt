@@ -3,9 +3,7 @@ use spg_base::{Bytes, List, Memory};
 use spg_io::{FaultyImages, FaultySink, FaultySource};
 use std::alloc::{AllocError, Global};
 use std::mem;
-use std::process::Abort;
 use std::sync::Wait;
-use std::test::Fail;
 use std::thread::Threads;
 
 /// The most bytes of a read.
@@ -191,18 +189,6 @@ pub fn ends<R: AllocGlobal + Threads + Wait + Sync>(
     Ok((status, text.as_slice()) == wanted)
 }
 
-/// Runs the program on a script, and compares how it ended and what it wrote.
-pub fn assert_run<R: AllocGlobal + Threads + Wait + Sync + Abort>(
-    rt: &R,
-    words: &[&str],
-    script: &[u8],
-    status: Status,
-    text: &[u8],
-) -> Result<(), Fail> {
-    assert!(rt; ends(rt, words, script, no_fails(), (status, text))?);
-    Ok(())
-}
-
 /// Runs the program on a script over images: the text of a run that comes to its end.
 pub fn done_over<R: AllocGlobal + Threads + Wait + Sync>(
     rt: &R,
@@ -214,17 +200,6 @@ pub fn done_over<R: AllocGlobal + Threads + Wait + Sync>(
         (Status::Done, text) => Ok(Some(text)),
         _ => Ok(None),
     }
-}
-
-/// Runs the program on a script that it does to its end.
-pub fn ran_whole<R: AllocGlobal + Threads + Wait + Sync + Abort>(
-    rt: &R,
-    words: &[&str],
-    script: &str,
-) -> Result<Vec<u8>, Fail> {
-    let ended = ran(rt, words, script.as_bytes(), no_fails())?;
-    assert!(rt; ended.status == Status::Done);
-    Ok(ended.text)
 }
 
 /// Runs the program on a script: the text of a run that comes to its end.

@@ -1,4 +1,4 @@
-use crate::program::{assert_run, run_word};
+use crate::program::{ends, no_fails, run_word};
 use spg_app::Status;
 use std::test::Fail;
 
@@ -79,7 +79,7 @@ const RUNS: [(&[u8], &[u8]); 19] = [
 #[test]
 fn prints_the_run(rt: HostRuntime) -> Result<(), Fail> {
     for (script, text) in &RUNS {
-        assert_run(&rt, &run_word(), script, Status::Done, text)?;
+        assert!(rt; ends(&rt, &run_word(), script, no_fails(), (Status::Done, text))?);
     }
     Ok(())
 }
@@ -180,7 +180,8 @@ const BAD: [(&[u8], u32); 86] = [
 #[test]
 fn tells_the_first_bad_line(rt: HostRuntime) -> Result<(), Fail> {
     for (script, line) in &BAD {
-        assert_run(&rt, &run_word(), script, Status::BadScript(*line), b"")?;
+        let wanted: (Status, &[u8]) = (Status::BadScript(*line), b"");
+        assert!(rt; ends(&rt, &run_word(), script, no_fails(), wanted)?);
     }
     Ok(())
 }

@@ -1,4 +1,4 @@
-use crate::program::assert_run;
+use crate::program::{ends, no_fails};
 use spg_app::Status;
 use std::test::Fail;
 
@@ -86,10 +86,26 @@ const TAKEN: [&[&str]; 5] = [
 #[test]
 fn reads_the_words(rt: HostRuntime) -> Result<(), Fail> {
     for words in &REFUSED {
-        assert_run(&rt, words, b"class quad\n", Status::Usage, b"")?;
+        assert!(rt;
+            ends(
+                &rt,
+                words,
+                b"class quad\n",
+                no_fails(),
+                (Status::Usage, b"")
+            )?
+        );
     }
     for words in &TAKEN {
-        assert_run(&rt, words, b"class quad\n", Status::Done, b"journal 0\n")?;
+        assert!(rt;
+            ends(
+                &rt,
+                words,
+                b"class quad\n",
+                no_fails(),
+                (Status::Done, b"journal 0\n")
+            )?
+        );
     }
     Ok(())
 }
