@@ -1,4 +1,3 @@
-pub mod Streams
 pub mod Outcomes
 pub mod Begins
 pub mod Earlier

@@ -11,7 +11,7 @@ use Rattle.spg_app.specs.Classes.{class_at, state_of}
 use Rattle.spg_words.specs.declared.load.Load.{Load}
 use Rattle.spg_words.specs.Lines.{IsLoad}
 use Rattle.spg_app.specs.Ending.{Outlets}
-use Rattle.spg_app.specs.Summary.{summary}
+use Rattle.spg_streams.specs.Summary.{summary}
 use Rattle.spg_app.specs.Loads.{RanLoad, LoadedTo, EndsLoad, script_of, EndsGen, IsGen}
 use Rattle.spg_app.specs.Headline.{Streams, NoFault}
 use Rattle.spg_app.proofs.Complete.{done_or_memory}

@@ -31,7 +31,7 @@ use Rattle.spg_loads.proofs.Swept.{load_finds}
 use Rattle.spg_words.specs.declared.load.Load.{Load}
 use Rattle.spg_words.specs.Lines.{IsLoad}
 use Rattle.spg_app.specs.Ending.{Outlets}
-use Rattle.spg_app.specs.Summary.{find_line, find_lines, summary}
+use Rattle.spg_streams.specs.Summary.{find_line, find_lines, summary}
 use Rattle.spg_app.specs.Loads.{RanLoad, script_of, wanted_by, killed_count, lines_of, rows_summary, load_summary, GenRan}
 
 not_memory : (o : Outcome) → is_memory o ≡ false → o ≢ outcome.Memory

@@ -18,7 +18,7 @@ use Rattle.spg_io.specs.declared.sink.IoRefused.TheVariants as refused
 use Rattle.spg_histories.specs.Ending.{any_outcome, all_taken, write_failed}
 use Rattle.spg_histories.specs.Exact.{RunFits}
 use Rattle.spg_histories.specs.Answer.{Wrote}
-use Rattle.spg_app.specs.Io.{WroteSome}
+use Rattle.spg_streams.specs.Io.{WroteSome}
 use Rattle.spg_app.specs.Ending.{writing_of}
 
 -- from one record on

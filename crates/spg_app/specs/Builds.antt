@@ -15,7 +15,7 @@ use Rattle.spg_histories.specs.declared.status.Status.{Status}
 use Rattle.spg_histories.specs.declared.status.Status.TheVariants.{Done, Usage, BadScript, ReadFault, WriteFault, ImageFault, BadImage, Memory, Full}
 use Rattle.spg_app.specs.Classes.{class_at}
 use Rattle.spg_app.specs.Ending.{Outlets, LeftAlone}
-use Rattle.spg_app.specs.Io.{longest_script, ReadWhole, ReadMore}
+use Rattle.spg_streams.specs.Io.{longest_script, ReadWhole, ReadMore}
 
 -- ---- what the source gave
 

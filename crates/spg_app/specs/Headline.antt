@@ -23,7 +23,7 @@ use Rattle.spg_app.specs.Classes.{class_at, StateOf, state_of}
 use Rattle.spg_app.specs.Beginning.{IsImageRefusal, FailsAs}
 use Rattle.spg_app.specs.Checks.{IsChecked}
 use Rattle.spg_app.specs.Ending.{Outlets, LeftAlone, Unwritten, RanCommands}
-use Rattle.spg_app.specs.Io.{longest_script, ReadWhole, ReadMore}
+use Rattle.spg_streams.specs.Io.{longest_script, ReadWhole, ReadMore}
 use Rattle.spg_app.specs.Loads.{IsGen}
 use Rattle.spg_app.specs.Builds.{IsBuildOf}
 use Rattle.spg_app.specs.Standbys.{sunk, IsStandbyRun}

@@ -1,9 +1,7 @@
-pub mod Io
 pub mod Classes
 pub mod Beginning
 pub mod Ending
 pub mod Checks
-pub mod Summary
 pub mod Loads
 pub mod Builds
 pub mod Standbys

@@ -30,7 +30,7 @@ use Rattle.spg_words.specs.declared.load.Load.{Load}
 use Rattle.spg_words.specs.Numbers.{usual_pages}
 use Rattle.spg_app.specs.Beginning.{made_with}
 use Rattle.spg_app.specs.Ending.{Outlets, LeftAlone}
-use Rattle.spg_app.specs.Summary.{summary}
+use Rattle.spg_streams.specs.Summary.{summary}
 
 -- The commands of the script were done on a new state of the usual limit, and led to this one. The sink took the summary of the run, or a front of it where it failed or memory was wanting; the status is the first that applies
 pub record RanLoad {O Key Recon Cond : Type 0} (m : Meaning Key Recon Cond) (speech : Speech Key Cond) (code : ℕ) (script : Script) (out : Outlets) (status : Status) (seen : Seen O Key Recon Cond) : Type 0 where

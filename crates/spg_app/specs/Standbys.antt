@@ -18,7 +18,7 @@ use Rattle.spg_mirror.specs.Mirrored.{commands_tasks, Mirrored}
 use Rattle.spg_app.specs.declared.end_state.EndState.{EndState}
 use Rattle.spg_app.specs.Classes.{class_at, StateOf, state_of}
 use Rattle.spg_app.specs.Ending.{Outlets}
-use Rattle.spg_app.specs.Io.{longest_script, ReadWhole, ReadMore}
+use Rattle.spg_streams.specs.Io.{longest_script, ReadWhole, ReadMore}
 
 -- ---- what the source gave
 

@@ -1,17 +1,17 @@
 ghost use Rattle.std.specs.Prelude.{OnOk, OnErr};
 ghost use Rattle.std.specs.Io.KnownBytes.{Appends};
 ghost use Rattle.spg_io.specs.Causes.{HasCauseIfFailed};
-ghost use Rattle.spg_app.specs.Io.{WroteSome};
+ghost use Rattle.spg_streams.specs.Io.{WroteSome};
 ghost use Rattle.spg_app.specs.Ending.{outlets};
 ghost use Rattle.spg_app.specs.Checks.{counts_text, IsChecked};
 
 use crate::beginning::status_of;
 use crate::session::status_after;
-use crate::writing::write_line;
 use spg_histories::Status;
 use spg_image::{Verified, verify};
 use spg_io::{Images, IoRefused, Sink};
 use spg_report::Line;
+use spg_streams::write_line;
 use std::alloc::Global;
 
 /// Writes how many pages and entries an image has.

@@ -13,9 +13,6 @@ mod laws;
 mod program;
 mod session;
 mod standby;
-mod stream;
-mod summary;
-mod writing;
 
 pub use end_state::EndState;
 pub use farewell::{Farewell, last_words};

@@ -9,13 +9,12 @@ use crate::by_class::mirror_by_class;
 use crate::classes::Ended;
 use crate::end_state::EndState;
 use crate::session::status_after;
-use crate::stream::{ReadRefused, read_all};
-use crate::writing::write_text;
 use spg_histories::Status;
 use spg_io::{Sink, Source};
 use spg_mirror::perform_on;
 use spg_perform::Gate;
 use spg_script::{BadLine, ScriptRefused, Sequence, parse_sequence};
+use spg_streams::{ReadRefused, read_all, write_text};
 use spg_words::StandbyLine;
 use std::alloc::Global;
 

@@ -1,8 +1,8 @@
 use Rattle.std.proofs.Common.{◌++◌, ◌∷◌, [], ℕ, List, ap, ◌∙◌, subst, codes, decimal}
 use Rattle.std.proofs.lemmas.Result.{on_err_weaker}
-use Rattle.spg_app.specs.Io.{WroteSome}
+use Rattle.spg_streams.specs.Io.{WroteSome}
 use Rattle.spg_app.specs.Checks.{counts_text}
-use Rattle.spg_app.proofs.Streams.{WroteSome-none, OnErr-always}
+use Rattle.spg_streams.proofs.Streams.{WroteSome-none, OnErr-always}
 use Rattle.spg_app.proofs.check.write_counts.Goals as goal
 
 pub returns-in_err-named-clause-err : goal.returns-in_err-named-clause-err
